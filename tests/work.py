@@ -8,7 +8,7 @@ checkout. Rooms are made in TMPDIR, and are gone when the script ends, also by a
 
     RT      the command `rt`
     JOBS    how many processors to use; without it all that there is memory for
-    GATE    a folder in which `rt ci` has proved the same files, whose libraries rooms then take
+    GATE    a folder in which `rt ci` proves the same files meanwhile, with half of the memory
     DONE    a folder, which gets a file for each crate that is done with
 """
 
@@ -55,7 +55,7 @@ def memory_for():
     """Returns for how many checks there is memory; if that isn't known, for one a processor."""
     with contextlib.suppress(OSError, TypeError):
         free = int(re.search(r"MemAvailable:\s+(\d+)", Path("/proc/meminfo").read_text())[1])
-        return free // MEMORY
+        return free // (2 * MEMORY if GATE else MEMORY)
     return PROCESSORS
 
 
@@ -182,36 +182,43 @@ def own_texts(name):
     return [(TOP / "tests" / it).read_text() for it in (name, "work.py")]
 
 
-# ---- libraries that `rt ci` built
+# ---- libraries that `rt ci` builds
+
+GATE = Path(os.environ["GATE"]) if os.environ.get("GATE") else None
+# Where the libraries stand that aren't in the checkout, by the names of their crates.
+taken = {}
+
+
+def is_told(name):
+    """Returns whether ./test has told of a library that `rt ci` has built it, or that it has
+    ended."""
+    return any((Path(os.environ["DONE"]) / it).exists() for it in (f"{name}.library", "gate"))
+
+
+def take_library(name):
+    """Has rooms take a library that `rt ci` built, and returns whether they can.
+
+    `rt ci` leaves no stamp in it, by which `rt` knows from what it was built, since later others
+    may stand below it. Here these are the same, so it is given the stamp that `rt` gives."""
+    if not (Path(os.environ["DONE"]) / f"{name}.library").exists():
+        return False
+    with contextlib.suppress(Exception, SystemExit):
+        crate = module_of_kit().rtlib.Crate(str(Crate(GATE, name).folder), str(GATE), {})
+        (Crate(GATE, name).out / "rlib/stamp").write_text(crate.stamp())
+        if crate.is_built():
+            taken[name] = GATE
+            return True
+    say(f"{name}: the library that rt ci built can't be used, so it is proved once more")
+    return False
 
 
 @functools.lru_cache(maxsize=None)
-def gate():
-    """Returns the checkout in which `rt ci` has built the libraries, where `rt` takes them from
-    there, or None.
-
-    `rt ci` leaves no stamp in a library, by which `rt` knows from what it was built, since others
-    may stand below it later. They are the same here, so it is given the stamp that `rt` gives."""
-    if not os.environ.get("GATE"):
-        return None
-    top = Path(os.environ["GATE"])
-    with contextlib.suppress(Exception, SystemExit):
-        rt = module_of_kit()
-        for name in {used for uses in uses_of(top).values() for used in uses}:
-            crate = rt.rtlib.Crate(str(Crate(top, name).folder), str(top), {})
-            (Crate(top, name).out / "rlib/stamp").write_text(crate.stamp())
-            if not crate.is_built():
-                raise ValueError(name)
-        return top
-    say("the libraries that rt ci built can't be used, so they are proved once more")
-    return None
-
-
 def module_of_kit():
     """Returns the command `rt` as a module."""
     file = os.path.realpath(shutil.which(RT[-1]))
     loader = importlib.machinery.SourceFileLoader("rt_of_kit", file)
     made = importlib.util.module_from_spec(importlib.util.spec_from_loader("rt_of_kit", loader))
+    sys.modules["rt_of_kit"] = made
     loader.exec_module(made)
     return made
 
@@ -255,8 +262,7 @@ def copy_crate(crate, to, kept):
 
 @contextlib.contextmanager
 def room_of(top, name, kept):
-    """Gives the crate in a room of its own, over the libraries below it as they are built, there or
-    by `rt ci`."""
+    """Gives the crate in a room of its own, over the libraries below it as they are built."""
     below = below_of(top, name)
     with tempfile.TemporaryDirectory(prefix=f"{name}-") as made:
         room = Path(made)
@@ -264,7 +270,7 @@ def room_of(top, name, kept):
         (room / "crates.txt").write_text("".join(f"{it}\n" for it in uses))
         shutil.copy2(top / "HANDLES", room)
         for used in below:
-            copy_crate(Crate(gate() or top, used), room / "crates" / used, ["rlib"])
+            copy_crate(Crate(taken.get(used, top), used), room / "crates" / used, ["rlib"])
         copy_crate(Crate(top, name), room / "crates" / name, kept)
         yield Crate(room, name)
 
@@ -350,12 +356,13 @@ def end_on_signals():
 
 @dataclass
 class Task:
-    """What can run once others have ended. Its call gets what these returned, by key, and a number
-    of processors; weight is about how long it takes."""
+    """What can run once others have ended, and `is_ready` returns true. Its call gets what these
+    returned, by key, and a number of processors; weight is about how long it takes."""
 
     call: object
     waits: list = field(default_factory=list)
     weight: float = 1
+    is_ready: object = lambda: True
 
 
 def chains_of(tasks):
@@ -390,6 +397,7 @@ def run_all(tasks, number):
     with ThreadPoolExecutor(every) as pool:
         while left or now:
             ready = [key for key, it in left.items() if all(use in ended for use in it.waits)]
+            ready = [key for key in ready if left[key].is_ready()]
             ready.sort(key=lambda key: -chains[key])
             for place, key in enumerate(ready, 1):
                 free = every - sum(given for _, given, _ in now.values())
@@ -407,7 +415,10 @@ def run_all(tasks, number):
                 now[job] = key, given, used
             if stopped.is_set() and not now:
                 break
-            for it in wait(now, return_when=FIRST_COMPLETED).done:
+            if not now:
+                time.sleep(1)
+            # those that wait for no other task are looked at again
+            for it in wait(now, 1, FIRST_COMPLETED).done:
                 key, _, _ = now.pop(it)
                 ended[key] = it.result()
                 first = None if key == first else first
