@@ -248,9 +248,10 @@ def locked(folder):
 
 
 def copy_crate(crate, to, kept):
-    """Copies a crate without its edits, and what stands in its out/ under these names."""
+    """Copies a crate without its edits, and what stands in its out/ under these names. In GATE that
+    changes no more, and `rt ci` holds it locked until it ends."""
     shutil.copytree(crate.folder, to, ignore=shutil.ignore_patterns("out", "must-fail"))
-    with locked(crate.folder):
+    with locked(crate.folder) if crate.top != GATE else contextlib.nullcontext():
         for name in kept:
             file = crate.out / name
             if file.is_dir():
