@@ -190,8 +190,7 @@ taken = {}
 
 
 def is_told(name):
-    """Returns whether ./test has told of a library that `rt ci` has built it, or that it has
-    ended."""
+    """Returns whether `rt ci` has built a library, or has ended, as ./test tells it."""
     return any((Path(os.environ["DONE"]) / it).exists() for it in (f"{name}.library", "gate"))
 
 
@@ -248,9 +247,9 @@ def locked(folder):
 
 
 def copy_crate(crate, to, kept):
-    """Copies a crate without its edits, and what stands in its out/ under these names. In GATE that
-    changes no more, and `rt ci` holds it locked until it ends."""
+    """Copies a crate without its edits, and what stands in its out/ under these names."""
     shutil.copytree(crate.folder, to, ignore=shutil.ignore_patterns("out", "must-fail"))
+    # `rt ci` keeps its lock on a crate until it ends, but leaves a library as it has built it
     with locked(crate.folder) if crate.top != GATE else contextlib.nullcontext():
         for name in kept:
             file = crate.out / name
