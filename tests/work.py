@@ -357,12 +357,14 @@ def end_on_signals():
 @dataclass
 class Task:
     """What can run once others have ended, and `is_ready` returns true. Its call gets what these
-    returned, by key, and a number of processors; weight is about how long it takes."""
+    returned, by key, and a number of processors; weight is about how long it takes. Its commands
+    give way as `nice` says; without it those of an urgent task don't, and others a little."""
 
     call: object
     waits: list = field(default_factory=list)
     weight: float = 1
     is_ready: object = lambda: True
+    nice: object = None
 
 
 def chains_of(tasks):
@@ -380,7 +382,8 @@ def chains_of(tasks):
 
 def call(task, ended, given, is_urgent):
     """Runs a task, which gives way to urgent ones if it isn't."""
-    way.given = () if is_urgent else ("nice", "-n", "5")
+    nice = (0 if is_urgent else 5) if task.nice is None else task.nice
+    way.given = ("nice", "-n", str(nice)) if nice else ()
     return task.call(ended, given)
 
 
