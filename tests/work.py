@@ -454,7 +454,7 @@ def progress():
             for name, far in list(steps):
                 with contextlib.suppress(OSError):
                     parts.append(f"{name} {far()}".strip())
-            say(f"-- {elapsed()}  {', '.join(parts) or 'between two steps'}")
+            say(f"-- {elapsed()}  {', '.join(parts) or 'waits'}")
 
     thread = threading.Thread(target=tell, daemon=True)
     thread.start()
