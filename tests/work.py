@@ -393,19 +393,20 @@ def run_all(tasks, number):
     more are given away as there are, where there is memory for it.
 
     A task is urgent if its chain takes longer than all that is left would, shared out. The first of
-    these uses all processors, and each other two, if there is memory for it."""
+    these uses all processors, and each other two, if there is memory for it. One that gives way to
+    none (a `nice` of 0) doesn't wait for a processor either."""
     memory = memory_for()
     every = number + max(0, min(number // 2, memory - 2 * number))
     chains, left, ended, now, first = chains_of(tasks), dict(tasks), {}, {}, None
-    with ThreadPoolExecutor(every) as pool:
+    with ThreadPoolExecutor(2 * every) as pool:
         while left or now:
             ready = [key for key, it in left.items() if all(use in ended for use in it.waits)]
             ready = [key for key in ready if left[key].is_ready()]
             ready.sort(key=lambda key: -chains[key])
             for place, key in enumerate(ready, 1):
                 free = every - sum(given for _, given, _ in now.values())
-                if free < 1 or stopped.is_set():
-                    break
+                if free < 1 and left[key].nice != 0 or stopped.is_set():
+                    continue
                 is_urgent = chains[key] > sum(it.weight for it in left.values()) / number
                 others = len(ready) - place
                 given = max(1, min(free - others, number if is_urgent else 2))
