@@ -222,7 +222,7 @@ FAULTS = [
 # A test file that has an allocator of its own, and so is a program of its own.
 ALONE = "wiping"
 CARGO = """cargo test --offline --no-run --message-format=json-render-diagnostics --features std
-    -p bridgeacacia-sec1 --test all --test""".split() + [ALONE]
+    -p bridgeacacia-sec1 --test""".split()
 # What it prints is compared with what a second reader draws.
 EXAMPLE = "cargo build --offline --features std -p bridgeacacia-sec1 --example view".split()
 
@@ -260,13 +260,13 @@ def draws(folder):
 def run(sources):
     """Returns whether the tests of a copy pass, the quickest first."""
     folder = sources.parents[1]
-    programs = re.findall(r'"executable":"([^"]+)"', build(folder, CARGO))
 
-    def passes(*words):
-        commands = ([it, "--test-threads=1", *words] for it in programs)
-        return all(plant.passes(folder, it, 600)[0] for it in commands)
+    def passes(name, *words):
+        program = re.search(r'"executable":"([^"]+)"', build(folder, [*CARGO, name]))[1]
+        return plant.passes(folder, [program, "--test-threads=1", *words], 600)[0]
 
-    return passes(*FAST) and draws(folder) and all(passes(it) for it in SLOW)
+    quick = passes("all", *FAST) and passes(ALONE) and draws(folder)
+    return quick and all(passes("all", it) for it in SLOW)
 
 
 if __name__ == "__main__":
