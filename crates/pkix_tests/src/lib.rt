@@ -1,5 +1,5 @@
-//! Tests of `der_types`, `curves`, `pkix`, `der_view` and `examples` by their public calls, with
-//! values from outside.
+//! Tests of `der_types`, `curves`, `pkix` and `der_view` by their public calls, with values from
+//! outside.
 //!
 //! [`equality`] has what is proved of `==` and `clone`, and [`checks`] worked examples.
 //!
@@ -7,10 +7,6 @@
 //! `cfg(test)`, so that both are proved once too.
 #![tactic(auto)]
 
-#[cfg(test)]
-mod algorithm_test;
-#[cfg(test)]
-mod callers;
 #[cfg(test)]
 pub mod checks;
 #[cfg(test)]
@@ -36,8 +32,6 @@ mod values;
 #[cfg(test)]
 mod writing;
 
-#[cfg(test)]
-use examples::documents::algorithm;
 #[cfg(test)]
 use std::fmt::Debug;
 #[cfg(test)]

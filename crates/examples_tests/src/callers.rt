@@ -1,6 +1,5 @@
 //! Tests of the callers in `examples`: keys in containers that were made by OpenSSL, a hash value,
 //! and a point that is read again.
-use crate::assert_equal;
 use examples::callers::key_store::{KeyStore, find, find_by_public_key, keep};
 use examples::callers::open_kinds::{Even, even_bytes};
 use examples::callers::own_record::{DigestInfo, read_digest};
@@ -17,6 +16,7 @@ use sec1::point::Coordinates::Compressed;
 use sec1::point::EncodedPoint32;
 use sec1::{EcPrivateKey, EncodedPoint, Error};
 use std::alloc::Global;
+use std::fmt::Debug;
 use std::process::Abort;
 use std::test::Fail;
 
@@ -62,6 +62,12 @@ static OTHER_ALGORITHM: [u8; 48] = [
     0x0A, 0x95, 0x6B, 0x37, 0xDB, 0x05, 0xC8, 0xFD, 0x9C, 0x4F, 0x2A, 0xBD, 0x87, 0xB2, 0x58, 0xB5,
     0xC1, 0xA1, 0xE6, 0xE2, 0x92, 0x52, 0xA9, 0x64, 0x01, 0xDC, 0x7F, 0xF3, 0xAC, 0xA8, 0x84, 0x52,
 ];
+
+/// Fails the test unless the two are equal.
+// A call of this takes the prover a fraction of the time that `assert_eq!` takes in line.
+fn assert_equal<T: PartialEq + Debug>(rt: &impl Abort, found: &T, wanted: &T) {
+    assert_eq!(rt; *found, *wanted);
+}
 
 /// Writes the value at the front of the slice, and returns the bytes written.
 fn encoded<'r, T: EncodeValue + Tagged>(value: &T, room: &'r mut [u8]) -> Option<&'r [u8]> {
