@@ -128,6 +128,11 @@ def uses_of(top):
     }
 
 
+def is_used(top, name):
+    """Returns whether another crate uses this one."""
+    return any(name in used for used in uses_of(top).values())
+
+
 def below_of(top, name):
     """Returns the names of all crates that a crate stands on, the lowest first."""
     found, uses = [], uses_of(top)
@@ -393,8 +398,9 @@ def run_all(tasks, number):
     more are given away as there are, where there is memory for it.
 
     A task is urgent if its chain takes longer than all that is left would, shared out. The first of
-    these uses all processors, and each other two, if there is memory for it. One that gives way to
-    none (a `nice` of 0) doesn't wait for a processor either."""
+    these uses all processors, if there is memory for it, and each other one: a check in several
+    processes takes up to a third more of processor time. A task that gives way to none (a `nice` of
+    0) doesn't wait for a processor either."""
     memory = memory_for()
     every = number + max(0, min(number // 2, memory - 2 * number))
     chains, left, ended, now, first = chains_of(tasks), dict(tasks), {}, {}, None
@@ -403,27 +409,24 @@ def run_all(tasks, number):
             ready = [key for key, it in left.items() if all(use in ended for use in it.waits)]
             ready = [key for key in ready if left[key].is_ready()]
             ready.sort(key=lambda key: -chains[key])
-            for place, key in enumerate(ready, 1):
-                free = every - sum(given for _, given, _ in now.values())
+            for key in ready:
+                free = every - sum(used for _, used in now.values())
                 if free < 1 and left[key].nice != 0 or stopped.is_set():
                     continue
                 is_urgent = chains[key] > sum(it.weight for it in left.values()) / number
-                others = len(ready) - place
-                given = max(1, min(free - others, number if is_urgent else 2))
-                wanted = given
-                if is_urgent:
-                    wanted = max(given, 2 if first else number)
-                    first = first or key
-                used = max(1, min(wanted, memory - sum(it for _, _, it in now.values())))
+                used = 1
+                if is_urgent and not first:
+                    first = key
+                    used = max(1, min(number, memory - sum(it for _, it in now.values())))
                 job = pool.submit(call, left.pop(key), ended, used, is_urgent)
-                now[job] = key, given, used
+                now[job] = key, used
             if stopped.is_set() and not now:
                 break
             if not now:
                 time.sleep(1)
             # those that wait for no other task are looked at again
             for it in wait(now, 1, FIRST_COMPLETED).done:
-                key, _, _ = now.pop(it)
+                key, _ = now.pop(it)
                 ended[key] = it.result()
                 first = None if key == first else first
     return ended
@@ -488,7 +491,7 @@ TOOK = {
     "sec1_c": 500,
     "examples": 370,
     "sec1_tests": 380,
-    "pkix_tests": 360,
+    "pkix_tests": 290,
     "replay": 380,
 }
 
@@ -506,10 +509,11 @@ def last_lines(ran, number=15):
 
 
 def command_of(crate, given):
-    """Returns the command that proves a crate, and its environment. A program is only checked."""
+    """Returns the command that proves a crate, and its environment. One that no other uses is only
+    checked."""
     if (crate.folder / "build.sh").exists():
         return ["./build.sh"], {**os.environ, "JOBS": str(given), "SEC1_C_BUILT": ""}
-    verb = "check" if crate.is_program else "lib"
+    verb = "lib" if is_used(TOP, crate.name) else "check"
     return [*RT, verb, "--jobs", str(given)], None
 
 
