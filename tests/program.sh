@@ -118,6 +118,7 @@ fi
 ended 'a closed standard error' 2 nothing ''
 head -c 1048576 /dev/zero | tr '\0' ' ' >long
 run <long;                        ended '1,048,576 blanks' 1 refused-report ''
+run long <text;                   ended 'a file of 1,048,576 blanks' 1 refused-report ''
 printf ' ' >>long
 run <long;                        ended '1,048,577 blanks' 1 long-report ''
 run long <text;                   ended 'a long file' 1 long-report ''

@@ -1,18 +1,14 @@
 #!/usr/bin/env bash
-# Runs those built tests that refuse memory, reads and writes one by one, over an allocator that
-# refuses (tests/refuse.c), and prints how many requests each call makes; tests/calls/run has the
-# calls of sec1 and sec1_der that allocate. Its last line is 'N passed, M failed'.
+# Runs those built tests in which memory, reads and writes are refused one by one, over an allocator
+# that refuses (tests/refuse.c). tests/calls/run has the calls of sec1 and sec1_der that allocate, and
+# tests/program.sh sec1_inspect. Its last line is 'N passed, M failed'.
 set -u
 top=$(cd "$(dirname "$0")/.." && pwd)
 . "$top/tests/count.sh"
 room=$(mktemp -d)
 trap 'rm -rf "$room"' EXIT
 
-# The calls whose requests have to be refused, by crate, and those that have to make none.
-calls=(
-    'sec1_inspect run'
-    'sec1_inspect run_der'
-)
+# The calls that have to make no request.
 without=(
     'sec1 SecretDocument::write_der_to'
     'sec1 from_der, encoded_len, encode_to_slice'
@@ -43,13 +39,6 @@ for tested in sec1_tests sec1_inspect; do
     done
 done
 
-for call in "${calls[@]}"; do
-    if grep -q "^$call: [1-9][0-9]* of [1-9][0-9]* requests end it$" "$room/lines"; then
-        tell "$call" yes
-    else
-        tell "$call: its requests weren't refused" no
-    fi
-done
 grew='sec1 SecretDocument::read_der_from grows by 4,096 bytes'
 grep -qxF "$grew" "$room/lines" && tell "$grew" yes || tell "it isn't known that $grew" no
 for call in "${without[@]}"; do

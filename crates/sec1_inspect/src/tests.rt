@@ -1,118 +1,14 @@
-//! Runs with known results, and runs over readers and writers that fail.
-mod large;
-mod memory;
+//! Runs over readers and writers that fail. `tests/reports` has the reports on known inputs, and
+//! `tests/program.sh` the program as a user runs it, also with each request for memory refused.
 mod taken;
 
-use crate::report::LIMIT;
-use crate::{Fault, Form, run, run_der};
+use crate::{Fault, Form, inspect, run, run_der};
 use sec1::der::{StdReader, StdWriter};
 use std::alloc::Global;
 use std::fmt::Debug;
 use std::io;
 use std::process::Abort;
 use std::test::Fail;
-
-/// A key on P-256, in hexadecimal.
-static KEY: &str =
-    "3077020101042069624171561A63340DE0E7D869F2A05492558E1A04868B6A9F854A866788188DA00A06082A8648CE3D030107A144034200041CACFFB55F2F2CEF\
-     D89D89EB374B2681152452802DEEA09916068137D839CF7FC481A44492304D7EF66AC117BEFE83A8D08F155F2B52F9F618DD447029048E0F";
-
-/// The report on that key.
-static KEY_REPORT: &str = "private_key: 32 bytes\nparameters: 1.2.840.10045.3.1.7\n\
-     public_key: 041CACFFB55F2F2CEFD89D89EB374B2681152452802DEEA09916068137D839CF7FC481A44492304D7EF66AC117BEFE83A8D08F155F2B52F9F618DD447029048E0F\n\
-     point: uncompressed 32\n";
-
-/// Keys: the input and the lines.
-static KEYS: [(&str, &str); 11] = [
-    // neither a curve nor a public key
-    (
-        "30 05 02 01 01 04 00",
-        "private_key: 0 bytes\nparameters: none\npublic_key: none\npoint: none\n",
-    ),
-    // blanks between any two digits, letters of both cases
-    (
-        " 3\t0 0\r\n9 020101 04 04 aB\nCd 0 1 2 3\n",
-        "private_key: 4 bytes\nparameters: none\npublic_key: none\npoint: none\n",
-    ),
-    // a public key that is present and empty
-    (
-        "300A 020101 0400 A103 030100",
-        "private_key: 0 bytes\nparameters: none\npublic_key: empty\npoint: none\n",
-    ),
-    // a public key of one byte
-    (
-        "300B 020101 0400 A104 03020000",
-        "private_key: 0 bytes\nparameters: none\npublic_key: 00\npoint: identity\n",
-    ),
-    // a private key of one byte
-    (
-        "3006 020101 040107",
-        "private_key: 1 bytes\nparameters: none\npublic_key: none\npoint: none\n",
-    ),
-    // a second arc above 39
-    (
-        "300B 020101 0400 A004 06028837",
-        "private_key: 0 bytes\nparameters: 2.999\npublic_key: none\npoint: none\n",
-    ),
-    // a compressed point on a curve of 48 bytes
-    (
-        "303B 020101 0400 A134 0332 0003111111111111111111111111111111111111111111111111111111111111111111111111111111111111111111111111",
-        "private_key: 0 bytes\nparameters: none\n\
-         public_key: 03111111111111111111111111111111111111111111111111111111111111111111111111111111111111111111111111\n\
-         point: compressed odd 48\n",
-    ),
-    // a hybrid point: y is even
-    (
-        "304B 020101 0400 A144 0342 0006111111111111111111111111111111111111111111111111111111111111111122222222222222222222222222222222222\
-         22222222222222222222222222222",
-        "private_key: 0 bytes\nparameters: none\n\
-         public_key: 0611111111111111111111111111111111111111111111111111111111111111112222222222222222222222222222222222222222222222222222222222222222\n\
-         point: hybrid even 32\n",
-    ),
-    // no point: y isn't odd
-    (
-        "304B 020101 0400 A144 0342 0007111111111111111111111111111111111111111111111111111111111111111122222222222222222222222222222222222\
-         22222222222222222222222222222",
-        "private_key: 0 bytes\nparameters: none\n\
-         public_key: 0711111111111111111111111111111111111111111111111111111111111111112222222222222222222222222222222222222222222222222222222222222222\n\
-         point: none\n",
-    ),
-    // a compact point
-    (
-        "302B 020101 0400 A124 0322 00051111111111111111111111111111111111111111111111111111111111111111",
-        "private_key: 0 bytes\nparameters: none\npublic_key: 051111111111111111111111111111111111111111111111111111111111111111\npoint: compact 32\n",
-    ),
-    // a compressed point on a curve of 28 bytes
-    (
-        "3027 020101 0400 A120 031E 000211111111111111111111111111111111111111111111111111111111",
-        "private_key: 0 bytes\nparameters: none\npublic_key: 0211111111111111111111111111111111111111111111111111111111\npoint: compressed even 28\n",
-    ),
-];
-
-/// What is refused: the input and the lines.
-static REFUSALS: [(&str, &str); 6] = [
-    // an odd number of digits
-    ("300", "refused: not hexadecimal\ntree: no\n"),
-    // a letter that is no digit
-    ("30 0g", "refused: not hexadecimal\ntree: no\n"),
-    // a form feed is no blank
-    (
-        "30\x0C05020101 0400",
-        "refused: not hexadecimal\ntree: no\n",
-    ),
-    // no bytes
-    ("", "refused: not an EC private key in DER\ntree: no\n"),
-    // a length in the long form below 128
-    (
-        "30 81 05 02 01 01 04 00",
-        "refused: not an EC private key in DER\ntree: no\n",
-    ),
-    // a curve that occurs twice
-    (
-        "3011 020101 0400 A004 06022A03 A004 06022A03",
-        "refused: not an EC private key in DER\ntree: 7 elements\n",
-    ),
-];
 
 /// Fails the test unless the two are equal.
 // A call of this takes the prover a fraction of the time that `assert_eq!` takes in line.
@@ -145,60 +41,6 @@ fn outcome<R: io::Read + Drop, W: io::Write + Drop>(
         Form::Der => run_der(alloc, &mut reader, &mut writer),
     };
     (result, writer.into_inner())
-}
-
-/// Fails the test unless a run over the reader returns this status and writes these lines, and
-/// names the case.
-fn reports<C: Debug, R: io::Read + Drop>(
-    rt: &(impl Abort + AllocGlobal),
-    case: &C,
-    form: Form,
-    reader: R,
-    (status, lines): (u8, &str),
-) {
-    let (result, text) = outcome(rt.alloc(), form, reader, Vec::new(rt.alloc()));
-    assert_equal_for(rt, case, &result, &Ok(status));
-    assert_equal_for(rt, case, &text.as_slice(), &lines.as_bytes());
-}
-
-#[test]
-fn reports_on_a_key(rt: HostRuntime) -> Result<(), Fail> {
-    let der = hex::decode(rt.alloc(), KEY)?;
-    reports(&rt, &"text", Form::Text, KEY.as_bytes(), (0, KEY_REPORT));
-    reports(&rt, &"DER", Form::Der, der.as_slice(), (0, KEY_REPORT));
-    Ok(())
-}
-
-#[test]
-fn refuses_hexadecimal_as_der(rt: HostRuntime) {
-    let lines = "refused: not an EC private key in DER\ntree: no\n";
-    reports(&rt, &KEY, Form::Der, KEY.as_bytes(), (1, lines));
-}
-
-#[test]
-fn reports_on_keys(rt: HostRuntime) {
-    for &(input, lines) in KEYS.iter() {
-        reports(&rt, &input, Form::Text, input.as_bytes(), (0, lines));
-    }
-}
-
-#[test]
-fn reports_refusals(rt: HostRuntime) {
-    for &(input, lines) in REFUSALS.iter() {
-        reports(&rt, &input, Form::Text, input.as_bytes(), (1, lines));
-    }
-}
-
-#[test]
-fn refuses_long_inputs(rt: HostRuntime) -> Result<(), Fail> {
-    for (count, lines) in [
-        (LIMIT, "refused: not an EC private key in DER\ntree: no\n"),
-        (LIMIT + 1, "refused: input too long\ntree: no\n"),
-    ] {
-        let input = vec![in rt.alloc(); b' '; count]?;
-        reports(&rt, &count, Form::Text, input.as_slice(), (1, lines));
-    }
-    Ok(())
 }
 
 /// A reader that gives its bytes one by one and then fails.
@@ -293,6 +135,41 @@ fn reports_failed_writes_in_turn(rt: HostRuntime) -> Result<(), Fail> {
         }
     }
     let _ = println!(&rt; "run, run_der: each of their 67 writes fails");
+    Ok(())
+}
+
+/// A writer that takes all bytes, and fails when it is flushed.
+#[derive(Drop)]
+struct Unflushed;
+
+impl io::Write for Unflushed {
+    fn write(&mut self, buf: &[u8]) -> io::Result<usize> {
+        Ok(buf.len())
+    }
+
+    fn flush(&mut self) -> io::Result<()> {
+        Err(io::Error::from(io::ErrorKind::Other))
+    }
+}
+
+#[test]
+fn flushes_what_was_written(rt: HostRuntime) -> Result<(), Fail> {
+    let alloc = rt.alloc();
+    let der = hex::decode(alloc, EMPTY_KEY)?;
+    for (form, input) in [(Form::Text, EMPTY_KEY), (Form::Der, der.as_slice())] {
+        assert_equal(
+            &rt,
+            &inspect(alloc, form, input, Unflushed),
+            &Err(Fault::Output),
+        );
+        let mut room = [0u8; 67];
+        assert_equal(
+            &rt,
+            &inspect(alloc, form, input, room.as_mut_slice()),
+            &Ok(0),
+        );
+        assert_equal(&rt, &room.as_slice(), &EMPTY_KEY_REPORT);
+    }
     Ok(())
 }
 
