@@ -52,15 +52,6 @@ brainpoolP512t1 512 06092B240303020801010E
 SM2 256 06082A811CCF5501822D
 ";
 
-/// Returns the bytes that a text has in hexadecimal.
-fn bytes(alloc: Global, text: &str) -> Result<Vec<u8>, Fail> {
-    let mut bytes = Vec::new(alloc);
-    for pair in text.as_bytes().chunks(2) {
-        bytes.push(u8::from_str_radix(std::str::from_utf8(pair)?, 16)?)?;
-    }
-    Ok(bytes)
-}
-
 /// Returns `true` if the curve has this name, identifier and length of field elements in bytes.
 fn is_described(curve: Curve, name: &str, identifier: &ObjectIdentifier, field_len: usize) -> bool {
     curve.has_name(name)
@@ -74,7 +65,7 @@ fn is_described(curve: Curve, name: &str, identifier: &ObjectIdentifier, field_l
 fn described(alloc: Global, line: &str) -> Result<(usize, ObjectIdentifier), Fail> {
     let mut words = line.split(' ').skip(1);
     let field_len = words.next().unwrap_or("").parse::<usize>()?.div_ceil(8);
-    let identifier = bytes(alloc, words.next().unwrap_or(""))?;
+    let identifier = hex::decode(alloc, words.next().unwrap_or(""))?;
     Ok((field_len, from_der(&identifier)?))
 }
 

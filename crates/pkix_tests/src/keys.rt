@@ -2,7 +2,6 @@
 use crate::{assert_equal, assert_equal_for};
 use pkix::{PrivateKeyInfo, SubjectPublicKeyInfo};
 use sec1::{EncodedPoint, Error, Result};
-use sec1_der::read_der;
 
 /// A SubjectPublicKeyInfo.
 const PUBLIC_KEY: [u8; 91] = [
@@ -36,12 +35,12 @@ const NAMED: [u8; 48] = [
 
 /// Reads a public key.
 fn public_key(der: &[u8]) -> sec1_der::Result<SubjectPublicKeyInfo<'_>> {
-    read_der(der)
+    SubjectPublicKeyInfo::from_der(der)
 }
 
 /// Reads the container of a private key.
 fn container(der: &[u8]) -> sec1_der::Result<PrivateKeyInfo<'_>> {
-    read_der(der)
+    PrivateKeyInfo::from_der(der)
 }
 
 /// Returns the point of a public key, for field elements of N bytes.
