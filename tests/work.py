@@ -398,9 +398,10 @@ def run_all(tasks, number):
     more are given away as there are, where there is memory for it.
 
     A task is urgent if its chain takes longer than all that is left would, shared out. The first of
-    these uses all processors, if there is memory for it, and each other one: a check in several
-    processes takes up to a third more of processor time. A task that gives way to none (a `nice` of
-    0) doesn't wait for a processor either."""
+    these uses all processors but one for each other that is ready, two at least, if there is memory
+    for it; so does a task that is alone. Any other uses one: a check in several processes takes up
+    to a third more of processor time. A task that gives way to none (a `nice` of 0) doesn't wait
+    for a processor either."""
     memory = memory_for()
     every = number + max(0, min(number // 2, memory - 2 * number))
     chains, left, ended, now, first = chains_of(tasks), dict(tasks), {}, {}, None
@@ -413,11 +414,14 @@ def run_all(tasks, number):
                 free = every - sum(used for _, used in now.values())
                 if free < 1 and left[key].nice != 0 or stopped.is_set():
                     continue
-                is_urgent = chains[key] > sum(it.weight for it in left.values()) / number
-                used = 1
-                if is_urgent and not first:
+                share = sum(it.weight for it in left.values()) / number
+                is_urgent, used = chains[key] > share, 1
+                is_alone = ready == [key] and not now
+                if (is_urgent or is_alone) and not first:
                     first = key
-                    used = max(1, min(number, memory - sum(it for _, it in now.values())))
+                    others = sum(chains[it] > share for it in ready if it in left and it != key)
+                    room = memory - sum(used for _, used in now.values())
+                    used = max(1, min(number, max(2, number - others), room))
                 job = pool.submit(call, left.pop(key), ended, used, is_urgent)
                 now[job] = key, used
             if stopped.is_set() and not now:
