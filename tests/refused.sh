@@ -1,7 +1,7 @@
 #!/usr/bin/env bash
 # Runs those built tests in which memory, reads and writes are refused one by one, over an allocator
-# that refuses (tests/refuse.c). tests/calls/run has the calls of sec1 and sec1_der that allocate, and
-# tests/program.sh sec1_inspect. Its last line is 'N passed, M failed'.
+# that refuses (tests/refuse.c). tests/calls/run has the calls of sec1 and sec1_der that allocate,
+# and tests/program.sh has sec1_inspect. Its last line is 'N passed, M failed'.
 set -u
 top=$(cd "$(dirname "$0")/.." && pwd)
 . "$top/tests/count.sh"
