@@ -130,7 +130,23 @@ run zeros <text;                  ended 'a file of 3 MB' 1 long-report ''
 run <zeros;                       ended '3 MB on standard input' 1 long-report ''
 printf 'private_key: 1000000 bytes\nparameters: none\npublic_key: none\npoint: none\n' >large-report
 run large </dev/null;             ended 'a key of 1,000,000 bytes' 0 large-report ''
+# Prints a file in pieces of several sizes in turn, each a write of its own.
+pieces() {
+    python3 -c 'if True:
+        import os, sys, time
+        rest, turn = open(sys.argv[1], "rb").read(), 0
+        while rest:
+            size = (1, 4095, 4096, 7, 1000, 4097)[turn % 6]
+            os.write(1, rest[:size])
+            rest, turn = rest[size:], turn + 1
+            time.sleep(0.001)
+    ' "$1"
+}
+export -f pieces
 head -c 300000 /dev/zero | tr '\0' '\n' | cat - text >blanks
+feed 'pieces large'
+run pipe </dev/null; wait $!;     ended 'a key of 1,000,000 bytes in uneven pieces' 0 large-report ''
+(pieces blanks) | (run; exit $got); got=$?; ended '300,000 blanks and the digits in uneven pieces' 0 report ''
 run <blanks;                      ended '300,000 blanks before the digits' 0 report ''
 cat text | (run; exit $got); got=$?; ended 'a pipe' 0 report ''
 (head -c 99 text; sleep 0.2; tail -c +100 text) | (run; exit $got); got=$?
