@@ -152,4 +152,18 @@ pub document_says : SaysKinds document_fault
 document_says = any_says (λ _. no_fault) end_fault (λ _. none_says) end_says
 
 -- by these, a rule says its kinds
-pub ruleset kinds_said = (element_says, tree_says, document_says)
+pub ruleset kinds_said = (
+  element_says,
+  optional_says,
+  any_says,
+  end_says,
+  none_says,
+  test_says,
+  byte_says,
+  bits_says,
+  whole_says,
+  field_says,
+  identifier_says,
+  tree_says,
+  document_says,
+)

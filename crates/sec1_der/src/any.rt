@@ -19,9 +19,9 @@ pub struct AnyRef<'a> {
 }
 
 impl<'a> AnyRef<'a> {
-    ghost use Rattle.std.specs.Prelude.{◌≡◌, ◌<◌, ◌++◌, ℕ, List, Some, IfOk, IsOkAnd};
+    ghost use Rattle.std.specs.Prelude.{◌≡◌, ◌<◌, ◌++◌, [], ℕ, List, Some, IfOk, IsOkAnd};
     ghost use Rattle.std.specs.Prelude.{MatchResult};
-    ghost use Rattle.sec1_der.specs.Elements.{element, IsHeader};
+    ghost use Rattle.sec1_der.specs.Elements.{element, IsElement, IsHeader};
     ghost use Rattle.sec1_der.specs.Errors.{IsHeaderFault};
     ghost use Rattle.sec1_der.specs.Readers.{reader_over, HasRead, RefusesBy};
     ghost use Rattle.sec1_der.specs.Faults.{Fault, HasFault, any_fault, no_fault};
@@ -70,6 +70,13 @@ impl<'a> AnyRef<'a> {
             → bytes.now ≡ element tag content ++ rest
             → IsOkAnd result (λ split. (tag_of split.0 ≡ tag) × (value_of split.0 ≡ content)
             × (split.1.now ≡ rest)) }
+        // The same of bytes that are one element: nothing follows it.
+        ensures whole { (tag : ℕ) (content : List ℕ) → IsHeader tag (length content)
+            → bytes.now ≡ element tag content
+            → IsOkAnd result (λ split. (tag_of split.0 ≡ tag) × (value_of split.0 ≡ content)
+            × (split.1.now ≡ [])) }
+        ensures element { IsElement bytes.now → IsOkAnd result (λ split.
+            (bytes.now ≡ element (tag_of split.0) (value_of split.0)) × (split.1.now ≡ [])) }
         ensures kind { HasFault result (any_fault (λ _. no_fault) no_fault bytes.now) }
     {
         match element_at(bytes) {

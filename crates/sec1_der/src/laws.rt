@@ -1,19 +1,23 @@
 //! Laws for callers to cite: of trees, of the kinds by which elements are refused, and that a value
 //! is determined by its bytes. Each law is the contract of a function, which does nothing else.
 ghost use Rattle.std.specs.Option.{option_or};
-ghost use Rattle.std.specs.Prelude.{◌≡◌, ◌≢◌, ◌≤◌, ◌++◌, [], ℕ, List, length, Some, None};
-ghost use Rattle.sec1_der.specs.Elements.{element, header, max_length, IsHeader};
+ghost use Rattle.std.specs.Prelude.{◌≡◌, ◌≢◌, ◌↔◌, ◌≤◌, ◌++◌, [], ℕ, Bool, List, length, Some};
+ghost use Rattle.std.specs.Prelude.{None};
+ghost use Rattle.sec1_der.specs.Contents.{bit_string_fault, byte_fault, identifier_fault};
+ghost use Rattle.sec1_der.specs.Contents.{value_unless, whole_bits_fault, whole_bits_field_fault};
+ghost use Rattle.sec1_der.specs.Elements.{element, header, max_length, IsElement, IsHeader};
 ghost use Rattle.sec1_der.specs.Elements.{IsProperPrefix};
 ghost use Rattle.sec1_der.specs.Errors.{header_fault};
-ghost use Rattle.sec1_der.specs.Faults.{Fault, any_fault, element_fault, end_fault};
-ghost use Rattle.sec1_der.specs.Faults.{document_fault, tree_fault, IsFaultOf, SaysKinds};
+ghost use Rattle.sec1_der.specs.Faults.{Fault, any_fault, element_fault, end_fault, no_fault};
+ghost use Rattle.sec1_der.specs.Faults.{document_fault, optional_fault, tree_fault, IsFaultOf};
+ghost use Rattle.sec1_der.specs.Faults.{SaysKinds};
 ghost use Rattle.sec1_der.specs.declared.error.ErrorKind.{ErrorKind};
-ghost use Rattle.sec1_der.specs.Trees.{Tree, Forest, IsTree, AreTrees, bytes, joined};
+ghost use Rattle.sec1_der.specs.Trees.{Tree, Forest, IsTree, IsTreeOf, AreTrees, bytes, joined};
 ghost use Rattle.sec1_der.specs.Values.{octets_of, unused_bits_of, bit_bytes_of};
 ghost use Rattle.sec1_der.specs.declared.bit_string.BitStringRef.{BitStringRef};
 ghost use Rattle.sec1_der.specs.declared.octet_string.OctetStringRef.{OctetStringRef};
 
-use crate::{BitStringRef, ErrorKind, OctetStringRef, ValueContent};
+use crate::{BitStringRef, DecodeValue, ErrorKind, OctetStringRef, SliceReader, ValueContent};
 
 /// A tree is determined by its bytes, whatever follows them.
 #[tactic(auto, using(crate::proofs::TreeLemmas::tree_apart))]
@@ -32,6 +36,12 @@ pub fn forests_unique()
 #[tactic(auto, using(crate::proofs::TreeLemmas::tree_ends))]
 pub fn trees_prefix_free()
     ensures { (t u : Tree) (r : List ℕ) → IsTree t → IsTree u → bytes t ++ r ≡ bytes u → r ≡ [] }
+{}
+
+/// The bytes of a tree are one element.
+#[tactic(auto, using(crate::proofs::TreeLemmas::tree_is_element))]
+pub fn trees_are_elements()
+    ensures { (t : Tree) (input : List ℕ) → IsTreeOf t input → IsElement input }
 {}
 
 /// An element that ends too early is refused as Truncated, whatever rule its content has to meet
@@ -79,15 +89,29 @@ pub fn longer_elements()
     whole_elements();
 }
 
-/// Where a rule leaves no kind open, an error is of the kind that it says. The rules of trees and
-/// of
-/// documents are such; so are those of the values of this crate.
+/// Where a rule leaves no kind open, an error is of the kind that it says. Such are the rules of
+/// this crate's types, of trees and of documents, and that of an element, or of an optional one, if
+/// those of its content and of what follows it are.
 #[tactic(auto, using(crate::proofs::KindLaws::said_kind, crate::proofs::KindLaws::kinds_said))]
 pub fn said_kinds()
     ensures said { (rule : Fault) (bytes : List ℕ) (kind : ErrorKind) → SaysKinds rule
         → IsFaultOf (rule bytes) kind → rule bytes ≡ Some (Some kind) }
+    // elements, and what follows them
     ensures element { (tag : ℕ) (content rest : Fault) → SaysKinds content → SaysKinds rest
         → SaysKinds (element_fault tag content rest) }
+    ensures optional { (tag : ℕ) (content rest : Fault) → SaysKinds content → SaysKinds rest
+        → SaysKinds (optional_fault tag content rest) }
+    ensures any { (content : ℕ → Fault) (rest : Fault) → ((tag : ℕ) → SaysKinds (content tag))
+        → SaysKinds rest → SaysKinds (any_fault content rest) }
+    ensures end { SaysKinds end_fault }
+    // contents: any bytes, those that pass a test, and those of this crate's types
+    ensures none { SaysKinds no_fault }
+    ensures test { (test : List ℕ → Bool) → SaysKinds (λ bytes. value_unless (test bytes)) }
+    ensures version { (n : ℕ) → SaysKinds (byte_fault n) }
+    ensures bits { SaysKinds bit_string_fault }
+    ensures whole_bits { SaysKinds whole_bits_fault × SaysKinds whole_bits_field_fault }
+    ensures identifier { SaysKinds identifier_fault }
+    // whole inputs
     ensures tree { SaysKinds tree_fault }
     ensures document { SaysKinds document_fault }
 {}
@@ -100,6 +124,16 @@ pub fn bytes_without_header()
         → ((tag n : ℕ) (rest : List ℕ) → IsHeader tag n → bytes ≢ header tag n ++ rest)
         → any_fault inside after bytes ≡ Some (Some (header_fault bytes)) }
 {}
+
+/// Bytes are the content of a value of this type, which can be read, if and only if they meet the
+/// rule of the type.
+pub fn contents_meet_rule<'a, T: DecodeValue<'a> + Drop>(content: &'a [u8])
+    requires { length content.now ≤ max_length }
+    ensures { (T.fault content.now ≡ None)
+        ↔ ((value : T) × (T.content value ≡ Some content.now)) }
+{
+    let _value = T::decode_value(&mut SliceReader::new(content));
+}
 
 /// Two octet strings with the same content have the same bytes.
 pub fn one_octet_string()

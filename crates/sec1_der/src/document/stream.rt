@@ -17,14 +17,15 @@ use std::alloc::Global;
 use std::fs;
 use std::rt::Files;
 
-/// The number of bytes by which the vector of a document grows at most.
+/// The number of bytes of content for which memory is asked at once at most.
 const STEP: usize = 4096;
 
 impl SecretDocument {
     /// Reads the one element that is all of the remaining input. The header is read one byte at a
     /// time, the content at most 4,096 bytes at a time; then one more byte is asked for, to find
-    /// the end, and nothing after it. Whatever the header announces, memory grows by at most 4,096
-    /// bytes at once, and only when it is full.
+    /// the end, and nothing after it. Whatever the header announces, memory is first asked for the
+    /// header and at most 4,096 bytes, 4,102 in all; then it grows by at most 4,096 bytes at once,
+    /// and only when it is full.
     ///
     /// # Errors
     ///
@@ -151,8 +152,8 @@ fn read_header<R: Read>(reader: &mut R) -> Result<Header>
     }
 }
 
-/// Appends the next `announced` bytes of the input to the vector, which grows by at most 4,096
-/// bytes at once.
+/// Appends the next `announced` bytes of the input to the vector, which is given room for at most
+/// 4,096 bytes more at once.
 pub(crate) fn read_content<R: Read>(
     reader: &mut R,
     bytes: &mut Vec<u8>,
