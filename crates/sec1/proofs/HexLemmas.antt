@@ -28,6 +28,9 @@ use Rattle.sec1.specs.HexTexts.{IsHexOf}
 
 -- ---- the digits of a case
 
+-- A text has two digits for each byte.
+pub ruleset hex_length = (length-encode_with)
+
 -- The table of upper case holds the digits that formatting writes.
 upper_digits-at : (v : ℕ) → v < 16 → slice_index upper_digits v ≡ digit_glyph true v
 upper_digits-at v h = get_or-map-range_with_len (digit_glyph true) 0 16 v v 0 h (omega arith)

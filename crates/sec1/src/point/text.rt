@@ -2,10 +2,10 @@
 
 ghost use Rattle.std.specs.Fmt.{WritesStyledOnOk};
 ghost use Rattle.std.specs.Prelude.{◌≡◌, ◌↔◌, ◌*◌, ◌/◌, ◌<◌, ◌≤◌, ℕ, List, length, slice_index};
-ghost use Rattle.std.specs.Prelude.{Some, IsTrue, MatchOption, MatchResult, not, ◌&&◌};
+ghost use Rattle.std.specs.Prelude.{Some, IfOk, IsTrue, MatchOption, MatchResult, not, ◌&&◌};
 ghost use Rattle.std.specs.Char.{is_ascii_uppercase, is_ascii_lowercase};
 ghost use Rattle.std.specs.List.{list_any};
-ghost use Rattle.std.specs.String.{string_bytes};
+ghost use Rattle.std.specs.String.{string_bytes, string_len};
 ghost use Rattle.std.specs.Box.{boxed_slice_items};
 ghost use Rattle.hex.specs.Hex.{encode_upper, encode_lower, upper_digits, hex_digit_value};
 ghost use Rattle.hex.specs.Hex.{decode_sized, IsBytes};
@@ -43,10 +43,14 @@ impl<const N: usize, const L: usize> EncodedPoint<N, L> {
     /// # Errors
     ///
     /// [`Error::Memory`] if the allocation fails.
+    #[tactic(auto, using(crate::proofs::HexLemmas::hex_length))]
     pub fn to_lower_hex(&self, alloc: Global) -> Result<String>
-        ensures { MatchResult result
+        ensures text { MatchResult result
             (λ text. string_bytes text ≡ encode_lower (encoding N (point_of self.now)))
             (λ e. e ≡ Memory) }
+        // two digits for each byte
+        ensures len { IfOk result
+            (λ text. string_len text ≡ 2 * length (encoding N (point_of self.now))) }
     {
         hex::encode(alloc, self.as_bytes()).map_err(|_| Error::Memory)
     }
@@ -56,10 +60,14 @@ impl<const N: usize, const L: usize> EncodedPoint<N, L> {
     /// # Errors
     ///
     /// [`Error::Memory`] if the allocation fails.
+    #[tactic(auto, using(crate::proofs::HexLemmas::hex_length))]
     pub fn to_upper_hex(&self, alloc: Global) -> Result<String>
-        ensures { MatchResult result
+        ensures text { MatchResult result
             (λ text. string_bytes text ≡ encode_upper (encoding N (point_of self.now)))
             (λ e. e ≡ Memory) }
+        // two digits for each byte
+        ensures len { IfOk result
+            (λ text. string_len text ≡ 2 * length (encoding N (point_of self.now))) }
     {
         hex::encode_upper(alloc, self.as_bytes()).map_err(|_| Error::Memory)
     }
