@@ -43,3 +43,7 @@ optional_part_says tags part rest one two = record {
 pub any_element_says : (rest : Fault) → SaysKinds rest → SaysKinds (any_element_fault rest)
 unfolding any_element_fault
 any_element_says rest says = any_says (λ _. no_fault) rest (λ _. none_says) says
+
+-- by these, a rule says its kinds
+pub ruleset kinds_said =
+    (any_element_says, sequence_says, set_says, other_says, choice_says, optional_part_says)

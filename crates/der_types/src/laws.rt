@@ -1,15 +1,20 @@
-//! Laws of the contents, for callers to cite. Each law is the contract of a function, which does
-//! nothing else.
+//! Laws of the contents, and of the kinds by which they are refused, for callers to cite. Each law
+//! is the contract of a function, which does nothing else.
 ghost use Rattle.std.specs.Prelude.{◌≡◌, ◌⊎◌, ◌<◌, ◌≤◌, ℕ, Bool, true, List, [], ℤ};
 ghost use Rattle.std.specs.Int.Digits.{AllBelowBase};
 ghost use Rattle.std.specs.Str.{is_utf8};
 ghost use Rattle.sec1_der.specs.Identifiers.{arcs_of};
 ghost use Rattle.sec1_der.specs.Identifiers.{content_of};
 ghost use Rattle.sec1_der.specs.Elements.{number_of};
+ghost use Rattle.sec1_der.specs.Faults.{Fault, SaysKinds};
+ghost use Rattle.der_types.specs.AnyElements.{any_element_fault};
+ghost use Rattle.der_types.specs.Choices.{choice_fault, optional_part_fault};
 ghost use Rattle.der_types.specs.Contents.{boolean_content, is_boolean};
+ghost use Rattle.der_types.specs.Defaults.{other_fault};
 ghost use Rattle.der_types.specs.Integers.{is_integer, is_unsigned, signed_content, signed_number};
 ghost use Rattle.der_types.specs.Integers.{unsigned_content};
 ghost use Rattle.der_types.specs.ObjectIdentifiers.{AreArcsOfAnySize, is_object_identifier};
+ghost use Rattle.der_types.specs.Sequences.{sequence_fault, set_fault};
 ghost use Rattle.der_types.specs.Strings.{is_ia5, is_numeric_string, is_printable, is_visible};
 ghost use Rattle.der_types.specs.Times.{fraction_of, generalized_content, generalized_date_time};
 ghost use Rattle.der_types.specs.Times.{is_date_time, is_fraction, is_generalized_time};
@@ -103,4 +108,23 @@ pub fn generalized_times()
     ensures valid { (bytes : List ℕ) → is_generalized_time bytes ≡ true
         → (is_date_time (generalized_date_time bytes) ≡ true)
         × ((generalized_date_time bytes).year < 10000) }
+{}
+
+/// The rules of the types and parts of this crate leave no kind open, if those inside leave none.
+/// Other contents are those that pass a test, of which the law of `sec1_der` speaks.
+#[tactic(auto, using(crate::proofs::KindLaws::kinds_said))]
+pub fn said_kinds()
+    ensures any { (rest : Fault) → SaysKinds rest → SaysKinds (any_element_fault rest) }
+    ensures sequence { (tag : ℕ) (content : Fault) → SaysKinds content
+        → SaysKinds (sequence_fault tag content) }
+    ensures set { (tag : ℕ) (content : Fault) → SaysKinds content
+        → SaysKinds (set_fault tag content) }
+    ensures default { (default : List ℕ) (content : Fault) → SaysKinds content
+        → SaysKinds (other_fault default content) }
+    ensures choice { (tags : List ℕ) (first second : Fault → Fault) (rest : Fault)
+        → SaysKinds (first rest) → SaysKinds (second rest)
+        → SaysKinds (choice_fault tags first second rest) }
+    ensures optional { (tags : List ℕ) (part : Fault → Fault) (rest : Fault)
+        → SaysKinds (part rest) → SaysKinds rest
+        → SaysKinds (optional_part_fault tags part rest) }
 {}
