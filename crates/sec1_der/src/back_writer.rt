@@ -1,4 +1,5 @@
-ghost use Rattle.std.specs.Prelude.{◌≡◌, ◌≤◌, length};
+ghost use Rattle.std.specs.Prelude.{◌≡◌, ◌≤◌, ◌+◌, ◌++◌, length, take, drop};
+ghost use Rattle.sec1_der.specs.Elements.{max_length, header};
 
 use crate::copies::copy;
 use crate::header::LONG_FORM;
@@ -22,7 +23,6 @@ impl<'b> BackWriter<'b> {
     ghost use Rattle.std.specs.Prelude.{◌-◌, [], Some, None, nat_le, if◌then◌else◌};
     ghost use Rattle.sec1_der.specs.Writers.{back_state, Prepends, HasPrepended};
     ghost use Rattle.sec1_der.specs.Writers.{Writes};
-    ghost use Rattle.sec1_der.specs.Elements.{max_length, header};
 
     /// Creates a writer at the end of a slice.
     pub fn new(buffer: &'b mut [u8]) -> BackWriter<'b>
@@ -102,18 +102,26 @@ impl<'b> BackWriter<'b> {
         if n < LONG_FORM {
             return self.prepend(&[tag.byte(), n as u8]);
         }
-        self.prepend_long_header(tag, n);
+        self.start = prepend_long_header(self.buffer, self.start, tag, n);
     }
+}
 
-    /// The same for a length in the long form, out of line.
-    #[inline(never)]
-    fn prepend_long_header(&mut self, tag: Tag, n: usize)
-        requires within { n ≤ max_length }
-        requires room { length (header tag n) ≤ length (back_state self.old).room }
-        ensures { HasPrepended (Some (header tag n)) self.old self.new }
-    {
-        let length = Length::of_number(n as u32);
-        let (octets, count) = Header { tag, length }.octets();
-        self.prepend(&octets[..count]);
-    }
+/// Writes a header with a length in the long form in front of `end`, and returns where it begins.
+///
+/// Out of line, over the parts of a writer and not over the writer, which can then stay in
+/// registers.
+#[inline(never)]
+fn prepend_long_header(buffer: &mut [u8], end: usize, tag: Tag, n: usize) -> usize
+    requires within { n ≤ max_length }
+    requires range { end ≤ length buffer.old }
+    requires room { length (header tag n) ≤ end }
+    ensures start { result + length (header tag n) ≡ end }
+    ensures bytes { buffer.new
+        ≡ take result buffer.old ++ header tag n ++ drop end buffer.old }
+{
+    let length = Length::of_number(n as u32);
+    let (octets, count) = Header { tag, length }.octets();
+    let start = end - count;
+    copy(&octets[..count], &mut buffer[start..end]);
+    start
 }

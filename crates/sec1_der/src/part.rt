@@ -76,12 +76,14 @@ impl<P: Part, Q: Part> Part for (P, Q) {
 }
 
 impl<P: EncodePart, Q: EncodePart> EncodePart for (P, Q) {
+    #[inline(always)]
     fn part_len(&self) -> Result<Length> {
         let first = self.0.part_len()?;
         let second = self.1.part_len()?;
         Length::new(first.get() + second.get())
     }
 
+    #[inline(always)]
     fn prepend_part(&self, writer: &mut BackWriter) {
         self.1.prepend_part(writer);
         self.0.prepend_part(writer);
