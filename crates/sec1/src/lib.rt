@@ -26,6 +26,7 @@ pub mod point;
 mod private_key;
 mod traits;
 
+pub use borrowed_key::BorrowedKey;
 pub use error::{Error, Result};
 pub use parameters::EcParameters;
 pub use point::{EncodedPoint, EncodedPoint28, EncodedPoint32, EncodedPoint48, EncodedPoint66};

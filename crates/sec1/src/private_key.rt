@@ -10,7 +10,6 @@ ghost use Rattle.sec1.specs.ReadsKey.{ReadsKey};
 ghost use Rattle.sec1.specs.Errors.{IsAsn1, HasNoEncodingOr};
 
 use crate::borrowed_key::BorrowedKey;
-use crate::in_place::{ReadInPlace, read_in_place};
 use crate::{EcParameters, Error, Result};
 use sec1_der as der;
 use sec1_der::{
@@ -79,11 +78,9 @@ impl ValueContent for EcPrivateKey<'_> {
 
 impl<'a> DecodeValue<'a> for EcPrivateKey<'a> {
     fn decode_value(reader: &mut SliceReader<'a>) -> der::Result<Self> {
-        let content = reader.read_rest()?;
-        let mut key = EcPrivateKey::empty();
-        match key.read_content(content) {
-            Ok(()) => Ok(key),
-            Err(e) => Err(reader.fail(e.kind)),
+        match BorrowedKey::decode_value(reader) {
+            Ok(key) => Ok(key.into()),
+            Err(e) => Err(e),
         }
     }
 }
@@ -141,12 +138,27 @@ impl<'a> TryFrom<&'a [u8]> for EcPrivateKey<'a> {
     // Inlined, so that a refusal doesn't pass a whole key's place through memory.
     #[inline(always)]
     fn try_from(bytes: &'a [u8]) -> Result<EcPrivateKey<'a>> {
-        EcPrivateKey::content_injective();
-        der::laws::trees_unique();
-        der::laws::cut_elements();
-        let mut key = EcPrivateKey::empty();
-        read_in_place(&mut key, bytes)?;
-        Ok(key)
+        match BorrowedKey::try_from(bytes) {
+            Ok(key) => Ok(key.into()),
+            Err(e) => Err(e),
+        }
+    }
+}
+
+/// Copies the identifier of the curve. The private key and the public key stay borrowed.
+impl<'a> From<BorrowedKey<'a>> for EcPrivateKey<'a> {
+    ghost from_gives = { λ borrowed key. key ≡ borrowed };
+
+    fn from(key: BorrowedKey<'a>) -> EcPrivateKey<'a> {
+        let parameters = match &key.curve {
+            Some(curve) => Some(EcParameters::NamedCurve(curve.to_identifier())),
+            None => None,
+        };
+        EcPrivateKey {
+            private_key: key.private_key,
+            parameters,
+            public_key: key.public_key,
+        }
     }
 }
 
@@ -157,14 +169,13 @@ impl<'a> EcPrivateKey<'a> {
     ///
     /// [`Error::Asn1`] of Overlength if the content of an element would be longer than 268,435,455
     /// bytes.
-    #[tactic(auto, using(crate::proofs::KeyLemmas::key_none))]
     pub fn encoded_len(&self) -> Result<usize>
         ensures exact { MatchResult result
             (λ n. Exists (IsKeyOf self.now) (λ bytes. n ≡ length bytes))
             (λ e. IsAsn1 ErrorKind.Overlength e
             × ((bytes : List ℕ) → ¬ IsKeyOf self.now bytes)) }
     {
-        Ok(der::encoded_len(&self.borrow())?)
+        self.borrow().encoded_len()
     }
 
     /// Writes the key's DER encoding at the beginning of the slice, and returns the number of bytes
@@ -193,7 +204,7 @@ impl<'a> EcPrivateKey<'a> {
             (λ e. (buffer.new ≡ buffer.old) × HasNoEncodingOr (IsAsn1 ErrorKind.Buffer) self.now
             (λ bytes. length buffer.old < length bytes) e) }
     {
-        Ok(der::encode_to_slice(&self.borrow(), buffer)?)
+        self.borrow().encode_to_slice(buffer)
     }
 
     /// Returns the key's DER encoding.
@@ -280,38 +291,5 @@ impl<'a> EcPrivateKey<'a> {
             },
             public_key: self.public_key,
         }
-    }
-
-    /// Returns a key without bytes and optional fields: a place to read a key into.
-    fn empty() -> EcPrivateKey<'a>
-        ensures { (result.parameters ≡ None) × (result.public_key ≡ None) }
-    {
-        EcPrivateKey {
-            private_key: &[],
-            parameters: None,
-            public_key: None,
-        }
-    }
-}
-
-impl<'a> ReadInPlace<'a> for EcPrivateKey<'a> {
-    ghost is_empty = { λ key. (key.parameters ≡ None) × (key.public_key ≡ None) };
-
-    #[inline(never)]
-    fn read_content(&mut self, content: &'a [u8]) -> der::Result<()> {
-        let BorrowedKey {
-            private_key,
-            curve,
-            public_key,
-        } = BorrowedKey::decode_value(&mut SliceReader::new(content))?;
-        self.private_key = private_key;
-        // What is absent isn't stored.
-        if let Some(curve) = curve {
-            self.parameters = Some(EcParameters::NamedCurve(curve.to_identifier()));
-        }
-        if let Some(bytes) = public_key {
-            self.public_key = Some(bytes);
-        }
-        Ok(())
     }
 }

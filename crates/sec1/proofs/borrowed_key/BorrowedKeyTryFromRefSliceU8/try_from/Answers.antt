@@ -12,7 +12,7 @@ use Rattle.sec1_der.proofs.KindLaws.{said_kind}
 use Rattle.sec1.specs.KeyFaults.{key_fault}
 use Rattle.sec1.specs.Keys.{key_tree}
 use Rattle.sec1.proofs.KeyLemmas.{key_content, key_cut, key_found, key_says, key_written}
-use Rattle.sec1.proofs.private_key.EcPrivateKeyTryFromRefSliceU8.try_from.Goals as goal
+use Rattle.sec1.proofs.borrowed_key.BorrowedKeyTryFromRefSliceU8.try_from.Goals as goal
 
 -- A fault of reading stays an error of DER.
 asn1 : (kind : ErrorKind) (cause : DerError) → cause.kind ≡ kind → IsReadingFault kind

@@ -1,7 +1,0 @@
-use Rattle.sec1.proofs.KeyLemmas.{key_found_with}
-use Rattle.sec1.proofs.private_key.EcPrivateKey.encoded_len.Goals as goal
-
-pub returns : goal.returns
-returns c = record {
-  exact = key_found_with c.args.self.now _ (rw c.borrow.ensures at c.in_ok-encoded_len.ensures.2);
-}
