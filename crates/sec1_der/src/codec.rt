@@ -1,6 +1,6 @@
 //! Reading and writing values of any type, by their whole DER encoding.
 ghost use Rattle.std.specs.Prelude.{◌≡◌, ◌⊎◌, ◌<◌, ◌≤◌, ◌+◌, ◌++◌, ℕ, List, length, drop, ⊤};
-ghost use Rattle.std.specs.Prelude.{Option, Some, None, IsOk, IsOkAnd};
+ghost use Rattle.std.specs.Prelude.{Option, Some, None, IsOk, IsOkAnd, IsSome};
 ghost use Rattle.std.specs.Prelude.{IsSomeAnd, MatchOption, MatchResult, IsTrue};
 ghost use Rattle.sec1_der.specs.Elements.{max_length, element_of, is_tag};
 ghost use Rattle.sec1_der.specs.Readers.{ReadsElement};
@@ -12,7 +12,8 @@ ghost use Rattle.sec1_der.specs.Faults.{HasFault, IsFaultOf, element_fault, end_
 use crate::length::check_room;
 use crate::value::element_header;
 use crate::{
-    BackWriter, DecodeValue, EncodeValue, ErrorKind, Result, SliceReader, Tagged, UniqueContent,
+    BackWriter, DecodeValue, EncodeValue, ErrorKind, Header, Length, Result, SliceReader, Tagged,
+    UniqueContent,
 };
 use std::alloc::Global;
 
@@ -92,6 +93,21 @@ fn element_len<T: EncodeValue + Tagged>(value: &T) -> Option<usize>
         Ok(header) => Some(header.encoded_len() + header.length.get()),
         Err(_) => None,
     }
+}
+
+/// Returns the length in bytes of the DER encoding of a value that has one, such as a value that was
+/// read. What its reader examined isn't examined again.
+pub fn known_encoded_len<T: EncodeValue + Tagged>(value: &T) -> usize
+    requires { IsSome (element_of T.tag_byte (T.content value.now)) }
+    ensures { IsTrue (is_tag T.tag_byte) × (result ≤ max_length + 6)
+        × IsSomeAnd (element_of T.tag_byte (T.content value.now)) (λ bytes. result ≡ length bytes) }
+{
+    let length = Length::of_number(value.known_value_len() as u32);
+    let header = Header {
+        tag: T::fixed_tag(),
+        length,
+    };
+    header.encoded_len() + length.get()
 }
 
 /// Writes the value's DER encoding at the beginning of the slice, and returns the number of bytes

@@ -4,9 +4,11 @@ ghost use Rattle.sec1_der.specs.Contents.{whole_bits_field_fault};
 ghost use Rattle.sec1_der.specs.Elements.{element_of};
 ghost use Rattle.sec1_der.specs.Faults.{element_fault, end_fault};
 
+use crate::length::check_room;
 use crate::{
     BackWriter, BitStringRef, DecodeValue, EncodeValue, ErrorKind, Length, Record, Result,
     SliceReader, Tag, Tagged, UniqueContent, ValueContent, WholeBits, component_len,
+    known_encoded_len,
 };
 use std::marker::{Model, PhantomData};
 
@@ -77,9 +79,14 @@ impl<K, A: EncodeValue + Tagged> EncodeValue for Explicit<K, A> {
         component_len(&self.value)
     }
 
+    fn known_value_len(&self) -> usize {
+        known_encoded_len(&self.value)
+    }
+
     fn encode_back(&self, writer: &mut BackWriter) -> Result<()> {
-        self.value_len()?;
-        writer.element(&self.value)
+        check_room(self.value_len()?.get(), writer.remaining())?;
+        writer.prepend_element(&self.value);
+        Ok(())
     }
 
     fn prepend_value(&self, writer: &mut BackWriter) {

@@ -53,7 +53,7 @@ pub mod laws;
 pub use any::AnyRef;
 pub use back_writer::BackWriter;
 pub use bit_string::BitStringRef;
-pub use codec::{encode_to_slice, encoded_len, from_der, read_der, to_der};
+pub use codec::{encode_to_slice, encoded_len, from_der, known_encoded_len, read_der, to_der};
 pub use component_values::{Octets, SmallInteger, WholeBits};
 pub use context::{
     Context0, Context1, Context2, Context3, Primitive0, Primitive1, Primitive2, Primitive3,

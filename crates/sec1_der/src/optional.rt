@@ -8,7 +8,7 @@ ghost use Rattle.sec1_der.specs.Faults.{optional_fault};
 
 use crate::{
     BackWriter, DecodePart, DecodeValue, EncodePart, EncodeValue, Length, Part, Result,
-    SliceReader, Tagged, UniqueContent, UniquePart, ValueContent, component_len,
+    SliceReader, Tagged, UniqueContent, UniquePart, ValueContent, component_len, known_encoded_len,
 };
 use std::marker::Model;
 
@@ -41,6 +41,13 @@ impl<A: EncodeValue + Tagged> EncodePart for Optional<A> {
         match &self.0 {
             Some(value) => component_len(value),
             None => Length::new(0),
+        }
+    }
+
+    fn known_part_len(&self) -> usize {
+        match &self.0 {
+            Some(value) => known_encoded_len(value),
+            None => 0,
         }
     }
 

@@ -1,5 +1,6 @@
 //! The parts of a SEQUENCE (X.690 section 8.9), and two parts in a row.
 ghost use Rattle.std.specs.Prelude.{◌≡◌, ◌≤◌, ℕ, List, length, Option, Some, false};
+ghost use Rattle.std.specs.Prelude.{IsSome, IsSomeAnd};
 ghost use Rattle.sec1_der.specs.Writers.{HasRoom, HasPrepended};
 ghost use Rattle.sec1_der.specs.Elements.{max_length, within_limit};
 ghost use Rattle.sec1_der.specs.Writers.{Measures};
@@ -34,6 +35,21 @@ pub trait EncodePart: Part {
     /// Overlength if the part has no encoding, or one that is longer than 268,435,455 bytes.
     fn part_len(&self) -> Result<Length>
         ensures { Measures (within_limit (Self.bytes self.now)) result };
+
+    /// Returns the length in bytes of a part that has an encoding of at most 268,435,455 bytes, such
+    /// as one that was read.
+    ///
+    /// A type whose [`part_len`](EncodePart::part_len) examines the value, or one that contains
+    /// other parts, overrides this, so that what was examined isn't examined again.
+    fn known_part_len(&self) -> usize
+        requires { IsSome (within_limit (Self.bytes self.now)) }
+        ensures { IsSomeAnd (within_limit (Self.bytes self.now)) (λ bytes. result ≡ length bytes) }
+    {
+        match self.part_len() {
+            Ok(length) => length.get(),
+            Err(_) => unreachable!(),
+        }
+    }
 
     /// Prepends the part, for which there is room, to what was written.
     fn prepend_part(&self, writer: &mut BackWriter)
@@ -81,6 +97,10 @@ impl<P: EncodePart, Q: EncodePart> EncodePart for (P, Q) {
         let first = self.0.part_len()?;
         let second = self.1.part_len()?;
         Length::new(first.get() + second.get())
+    }
+
+    fn known_part_len(&self) -> usize {
+        self.0.known_part_len() + self.1.known_part_len()
     }
 
     #[inline(always)]

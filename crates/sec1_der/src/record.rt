@@ -96,6 +96,10 @@ where
         self.to_parts().part_len()
     }
 
+    fn known_value_len(&self) -> usize {
+        self.to_parts().known_part_len()
+    }
+
     fn encode_back(&self, writer: &mut BackWriter) -> Result<()> {
         let parts = self.to_parts();
         check_room(parts.part_len()?.get(), writer.remaining())?;

@@ -9,7 +9,7 @@ ghost use Rattle.sec1_der.specs.Faults.{element_fault};
 
 use crate::{
     BackWriter, DecodePart, DecodeValue, EncodePart, EncodeValue, Length, Part, Result,
-    SliceReader, Tagged, UniqueContent, UniquePart, ValueContent, encoded_len,
+    SliceReader, Tagged, UniqueContent, UniquePart, ValueContent, encoded_len, known_encoded_len,
 };
 use std::marker::Model;
 
@@ -38,6 +38,10 @@ impl<A: ValueContent + Tagged> Part for Required<A> {
 impl<A: EncodeValue + Tagged> EncodePart for Required<A> {
     fn part_len(&self) -> Result<Length> {
         component_len(&self.0)
+    }
+
+    fn known_part_len(&self) -> usize {
+        known_encoded_len(&self.0)
     }
 
     fn prepend_part(&self, writer: &mut BackWriter) {

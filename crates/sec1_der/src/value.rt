@@ -1,6 +1,6 @@
 //! The traits of DER values: with them the generic calls read and write a type.
 ghost use Rattle.std.specs.Prelude.{◌≡◌, ◌≤◌, ℕ, List, length, Option, Some, None, IsSomeAnd};
-ghost use Rattle.std.specs.Prelude.{MatchResult, IsTrue};
+ghost use Rattle.std.specs.Prelude.{MatchResult, IsSome, IsTrue};
 ghost use Rattle.sec1_der.specs.Writers.{back_state, HasRoom, Prepends, HasPrepended};
 ghost use Rattle.sec1_der.specs.Elements.{max_length, within_limit, is_tag};
 ghost use Rattle.sec1_der.specs.Writers.{Measures};
@@ -62,6 +62,22 @@ pub trait EncodeValue: ValueContent {
     /// Overlength if there is no content, or if it is longer than 268,435,455 bytes.
     fn value_len(&self) -> Result<Length>
         ensures { Measures (within_limit (Self.content self.now)) result };
+
+    /// Returns the length in bytes of a content that is there and has at most 268,435,455 bytes,
+    /// such as that of a value that was read.
+    ///
+    /// A type whose [`value_len`](EncodeValue::value_len) examines the value, or one that contains
+    /// other values, overrides this, so that what was examined isn't examined again.
+    fn known_value_len(&self) -> usize
+        requires { IsSome (within_limit (Self.content self.now)) }
+        ensures { IsSomeAnd (within_limit (Self.content self.now))
+            (λ content. result ≡ length content) }
+    {
+        match self.value_len() {
+            Ok(length) => length.get(),
+            Err(_) => unreachable!(),
+        }
+    }
 
     /// Appends the content.
     ///
