@@ -15,7 +15,7 @@ use crate::span::Span;
 use crate::status::{OK, error_number, kind_number};
 use given::key_given;
 use places::places;
-use sec1::EcPrivateKey;
+use sec1::BorrowedKey;
 use sec1::der::ErrorKind;
 
 /// The places of a private key's parts in its bytes.
@@ -58,7 +58,7 @@ pub extern "C" fn sec1_key_read(bytes: &[u8], parts: &mut KeyParts) -> u32
     ensures long { (key : Key) (whole : List ℕ) → IsKeyOf key whole
         → IsProperPrefix whole bytes.now → result ≡ kind_number ErrorKind.TrailingData }
 {
-    match EcPrivateKey::try_from(bytes) {
+    match BorrowedKey::try_from(bytes) {
         Ok(key) => {
             *parts = places(bytes, &key);
             OK
@@ -100,7 +100,7 @@ pub extern "C" fn sec1_key_len(
 
 /// Stores the length in bytes of the key's DER encoding. Returns the number of Overlength if it has
 /// none.
-fn store_len(key: &EcPrivateKey, len: &mut usize) -> u32
+fn store_len(key: &BorrowedKey, len: &mut usize) -> u32
     ensures number { (bytes : List ℕ) → IsKeyOf key.now bytes → result ≡ 0 }
     ensures len { (bytes : List ℕ) → IsKeyOf key.now bytes → len.new ≡ length bytes }
     ensures overlength { ((bytes : List ℕ) → ¬ IsKeyOf key.now bytes)
@@ -147,7 +147,7 @@ pub extern "C" fn sec1_key_write(
 
 /// Writes the key's DER encoding at the beginning of `out`, and stores its length. Returns the
 /// number of Buffer if `out` is too short, and that of Overlength if the key has no encoding.
-fn write_key(key: &EcPrivateKey, out: &mut [u8], len: &mut usize) -> u32
+fn write_key(key: &BorrowedKey, out: &mut [u8], len: &mut usize) -> u32
     ensures key { (bytes : List ℕ) → IsKeyOf key.now bytes
         → Writes bytes out.old out.new result len.new }
     ensures overlength { ((bytes : List ℕ) → ¬ IsKeyOf key.now bytes)

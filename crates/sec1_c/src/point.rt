@@ -17,7 +17,7 @@ mod made;
 
 use crate::span::Span;
 use crate::status::{OK, error_number, field_length_number};
-use encoded::{compress, encoding_len, order_number, places, status_of, to_hybrid};
+use encoded::{compress, encoding_len, order_number, places, status_of, status_of_both, to_hybrid};
 use sec1::Error;
 
 /// The tag of a point, and the places of its coordinates in its encoding.
@@ -175,7 +175,6 @@ pub extern "C" fn sec1_point_to_hybrid(
 ///
 /// Returns the numbers of `sec1_point_check` for either point, and leaves `order` unchanged.
 #[unsafe(no_mangle)]
-#[tactic(auto, using(crate::proofs::PointLemmas::encodings))]
 pub extern "C" fn sec1_point_compare(
     first: &[u8],
     second: &[u8],
@@ -194,13 +193,10 @@ pub extern "C" fn sec1_point_compare(
     ensures other_field { ¬ IsFieldLength field_len → result ≡ field_length_number }
     ensures unchanged { result ≢ 0 → order.new ≡ order.old }
 {
-    let status = status_of(first, field_len);
+    let status = status_of_both(first, second, field_len);
     if status != OK {
         return status;
     }
-    let status = status_of(second, field_len);
-    if status == OK {
-        *order = order_number(first, second);
-    }
-    status
+    *order = order_number(first, second);
+    OK
 }

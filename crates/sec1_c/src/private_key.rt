@@ -23,8 +23,8 @@ use crate::container::{self, PrivateKeyInfoParts};
 use crate::key::{self, KeyParts};
 use crate::status::{OK, curve_number, error_number, kind_number, other_curve_number};
 use curves::Curve;
+use sec1::BorrowedKey;
 use sec1::der::{ErrorKind, SliceReader, Tag};
-use sec1::{EcParameters, EcPrivateKey};
 
 /// Reads an EC private key, which is all of `bytes`, by itself or in its container, and stores the
 /// places of its parts. In a container the curve is that of the algorithm, and one of the table;
@@ -126,7 +126,7 @@ fn read_contained(bytes: &[u8], parts: &mut KeyParts) -> u32
         return curve_number();
     };
     let inside = container.private_key.bytes;
-    let key = match EcPrivateKey::try_from(inside) {
+    let key = match BorrowedKey::try_from(inside) {
         Ok(key) => key,
         Err(error) => return error_number(&error),
     };
@@ -139,18 +139,18 @@ fn read_contained(bytes: &[u8], parts: &mut KeyParts) -> u32
 }
 
 /// Returns `true` if the key names this curve or none.
-fn names_curve(key: &EcPrivateKey, curve: Curve) -> bool
+fn names_curve(key: &BorrowedKey, curve: Curve) -> bool
     ensures { IsTrue result ↔ NamesCurve curve key.now }
 {
-    match &key.parameters {
-        Some(EcParameters::NamedCurve(named)) => Curve::from_identifier(named) == Some(curve),
+    match &key.curve {
+        Some(named) => named.to_identifier() == curve.identifier(),
         None => true,
     }
 }
 
 /// Returns the places of the parts of the key that was read from the bytes inside a container,
 /// whose parts have these places.
-fn places_in(outer: &PrivateKeyInfoParts, inside: &[u8], key: &EcPrivateKey) -> KeyParts
+fn places_in(outer: &PrivateKeyInfoParts, inside: &[u8], key: &BorrowedKey) -> KeyParts
     requires is_key { IsKeyOf key.now inside.now }
     requires room { outer.now.key.offset + length inside.now < 2 ^ 64 }
     ensures { result ≡ places_after outer.now (key_places key.now inside.now) }

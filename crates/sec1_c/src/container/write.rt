@@ -17,7 +17,7 @@ use crate::key::given::key_given;
 use crate::status::curve_number;
 use curves::Curve;
 use pkix::AlgorithmIdentifier;
-use sec1::EcPrivateKey;
+use sec1::BorrowedKey;
 use sec1::der::ErrorKind;
 use sec1::laws::tree_is_element;
 use sec1_der::{Containing, Distinct, Record, Required, SmallInteger};
@@ -71,7 +71,7 @@ pub extern "C" fn sec1_private_key_info_write(
 fn write_container(
     curve: Curve,
     element: &[u8],
-    key: EcPrivateKey,
+    key: BorrowedKey,
     out: &mut [u8],
     len: &mut usize,
 ) -> u32
@@ -94,7 +94,7 @@ fn write_container(
 #[derive(Drop)]
 struct KeyContainer<'a> {
     algorithm: AlgorithmIdentifier<'a>,
-    key: EcPrivateKey<'a>,
+    key: BorrowedKey<'a>,
 }
 
 impl<'a> Record for KeyContainer<'a> {
@@ -102,7 +102,7 @@ impl<'a> Record for KeyContainer<'a> {
         Required<SmallInteger<0>>,
         (
             AlgorithmIdentifier<'a>,
-            Required<Containing<EcPrivateKey<'a>>>,
+            Required<Containing<BorrowedKey<'a>>>,
         ),
     );
 
@@ -122,7 +122,7 @@ impl<'a> Record for KeyContainer<'a> {
             Required(SmallInteger),
             (
                 self.algorithm.reborrow(),
-                Required(Containing::new(reborrow(&self.key))),
+                Required(Containing::new(self.key.reborrow())),
             ),
         )
     }
@@ -132,15 +132,4 @@ impl<'a> Record for KeyContainer<'a> {
 
 impl Distinct for KeyContainer<'_> {
     ghost distinct = { refl };
-}
-
-/// Returns the key again. It borrows what this one borrows.
-fn reborrow<'a>(key: &EcPrivateKey<'a>) -> EcPrivateKey<'a>
-    ensures { result ≡ key.now }
-{
-    EcPrivateKey {
-        private_key: key.private_key,
-        parameters: key.parameters,
-        public_key: key.public_key,
-    }
 }

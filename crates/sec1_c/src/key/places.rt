@@ -1,83 +1,85 @@
 //! The places of a key's parts: each is found from the end of the bytes, by the lengths of the
 //! fields after it.
-ghost use Rattle.std.specs.Prelude.{◌≡◌, ◌≤◌, ◌∷◌, length, IfSome};
+ghost use Rattle.std.specs.Prelude.{◌≡◌, ◌≤◌, ◌∷◌, length, Option, List, ℕ, IfSome};
 ghost use Rattle.std.specs.Option.{option_map};
 ghost use Rattle.sec1.specs.Der.{element, max_length};
 ghost use Rattle.sec1.specs.Keys.{IsKeyOf};
-ghost use Rattle.sec1.specs.Parameters.{curve_of};
-ghost use Rattle.sec1_der.specs.Identifiers.{IsIdentifier, content_of};
 ghost use Rattle.sec1_c.specs.KeyPlaces.{content_len, key_places, parameters_bytes};
 ghost use Rattle.sec1_c.specs.KeyPlaces.{public_key_bytes};
+ghost use Rattle.sec1_c.specs.Places.{span_before};
 
 use super::KeyParts;
 use crate::span::Span;
-use sec1::der::{Context0, Explicit, ExplicitBits};
-use sec1::{EcParameters, EcPrivateKey, der};
+use sec1::der::{ExplicitBits, IdentifierRef};
+use sec1::{BorrowedKey, der};
+
+/// An optional field: the place of its part, and its length in bytes.
+#[derive(Clone, Copy)]
+struct Field {
+    part: Span,
+    len: usize,
+}
 
 /// Returns the places of the key's parts in its bytes.
 #[inline(always)]
-pub fn places(bytes: &[u8], key: &EcPrivateKey) -> KeyParts
+pub fn places(bytes: &[u8], key: &BorrowedKey) -> KeyParts
     requires { IsKeyOf key.now bytes.now }
     ensures { result ≡ key_places key.now bytes.now }
 {
-    let parameters_end = bytes.len() - public_key_field_len(key.public_key);
-    let private_key_end = parameters_end - parameters_field_len(&key.parameters);
+    let end = bytes.len();
+    let public_key = public_key_field(end, key.public_key);
+    let end = end - public_key.len;
+    let curve = curve_field(end, &key.curve);
+    let end = end - curve.len;
     KeyParts {
-        private_key: Span::before(private_key_end, Some(key.private_key.len())),
-        curve: Span::before(parameters_end, curve_len(&key.parameters)),
-        public_key: Span::before(bytes.len(), bytes_len(key.public_key)),
+        private_key: Span::before(end, Some(key.private_key.len())),
+        curve: curve.part,
+        public_key: public_key.part,
     }
 }
 
-/// Returns the length in bytes of the content of the curve's identifier.
-fn curve_len(parameters: &Option<EcParameters>) -> Option<usize>
-    ensures { result ≡ option_map content_len (option_map curve_of parameters.now) }
-{
-    match parameters {
-        None => None,
-        Some(EcParameters::NamedCurve(curve)) => Some(curve.as_bytes().len()),
-    }
-}
-
-/// Returns the number of bytes.
-fn bytes_len(bytes: Option<&[u8]>) -> Option<usize>
-    ensures { result
-        ≡ option_map (λ bytes. length bytes) (option_map (λ bytes. bytes.now) bytes.entry) }
-{
-    match bytes {
-        None => None,
-        Some(bytes) => Some(bytes.len()),
-    }
-}
-
-/// Returns the length in bytes of the field `[0]`.
+/// Returns the field `[0]` that ends at `end`. Its two headers have two bytes each.
 #[tactic(auto, using(crate::proofs::FieldLemmas::parameters_counted))]
-fn parameters_field_len(parameters: &Option<EcParameters>) -> usize
-    requires { IfSome (option_map curve_of parameters.now)
-        (λ arcs. IsIdentifier arcs (content_of arcs)) }
-    ensures { result ≡ length (parameters_bytes (option_map curve_of parameters.now)) }
+fn curve_field(end: usize, curve: &Option<IdentifierRef>) -> Field
+    requires { length (parameters_bytes curve.now) ≤ end }
+    ensures part { result.part ≡ span_before end (option_map content_len curve.now) }
+    ensures len { result.len ≡ length (parameters_bytes curve.now) }
 {
-    let Some(curve) = parameters else {
-        return 0;
-    };
-    match der::encoded_len(&Explicit::<Context0, EcParameters>::new(*curve)) {
-        Ok(len) => len,
-        Err(_) => unreachable!(),
+    match curve {
+        Some(curve) => {
+            let len = curve.as_bytes().len();
+            Field {
+                part: Span::before(end, Some(len)),
+                len: len + 4,
+            }
+        }
+        None => Field {
+            part: Span::before(end, None),
+            len: 0,
+        },
     }
 }
 
-/// Returns the length in bytes of the field `[1]`.
-fn public_key_field_len(public_key: Option<&[u8]>) -> usize
-    requires { IfSome (option_map (λ bytes. bytes.now) public_key) (λ bytes.
+/// Returns the field `[1]` that ends at `end`.
+fn public_key_field(end: usize, public_key: Option<&[u8]>) -> Field
+    requires fits { IfSome (option_map (λ bytes. bytes.now) public_key) (λ bytes.
         length (element 0x03 (0 ∷ bytes)) ≤ max_length) }
-    ensures { result
+    requires room { IfSome (option_map (λ bytes. bytes.now) public_key) (λ bytes.
+        length bytes ≤ end) }
+    ensures part { result.part ≡ span_before end
+        (option_map (λ bytes. length bytes) (option_map (λ bytes. bytes.now) public_key.entry)) }
+    ensures len { result.len
         ≡ length (public_key_bytes (option_map (λ bytes. bytes.now) public_key.entry)) }
 {
     let Some(bytes) = public_key else {
-        return 0;
+        return Field {
+            part: Span::before(end, None),
+            len: 0,
+        };
     };
+    let part = Span::before(end, Some(bytes.len()));
     match der::encoded_len(&ExplicitBits { bytes }) {
-        Ok(len) => len,
+        Ok(len) => Field { part, len },
         Err(_) => unreachable!(),
     }
 }

@@ -5,7 +5,7 @@ ghost use Rattle.std.specs.Cmp.Lexicographic.{slice_cmp};
 ghost use Rattle.std.specs.Ordering.{nat_cmp};
 ghost use Rattle.sec1.specs.Points.{Point, IsEncoding, compressed_point, encoding, hybrid_point};
 ghost use Rattle.sec1.specs.Points.{tag_byte};
-ghost use Rattle.sec1_c.specs.FieldLengths.{Encodes, IsFieldLength};
+ghost use Rattle.sec1_c.specs.FieldLengths.{Encodes, EncodesBoth, IsFieldLength};
 ghost use Rattle.sec1_c.specs.Outputs.{Writes};
 ghost use Rattle.sec1_c.specs.PointOrders.{order_of};
 ghost use Rattle.sec1_c.specs.PointPlaces.{point_places};
@@ -35,6 +35,24 @@ pub fn status_of(bytes: &[u8], field_len: usize) -> u32
         return error_number(&Error::PointEncoding);
     }
     OK
+}
+
+/// Returns 0 if both are the encodings of points; otherwise the number that says why the first isn't
+/// one, or else the second.
+#[tactic(auto, using(crate::proofs::PointLemmas::encoded))]
+pub fn status_of_both(first: &[u8], second: &[u8], field_len: usize) -> u32
+    ensures points { (p q : Point) → IsFieldLength field_len
+        → EncodesBoth field_len p q first.now second.now → result ≡ 0 }
+    ensures first { IsFieldLength field_len → ¬ IsEncoding field_len first.now
+        → result ≡ error_number Error.PointEncoding }
+    ensures second { IsFieldLength field_len → ¬ IsEncoding field_len second.now
+        → result ≡ error_number Error.PointEncoding }
+    ensures other_field { ¬ IsFieldLength field_len → result ≡ field_length_number }
+{
+    match status_of(first, field_len) {
+        OK => status_of(second, field_len),
+        status => status,
+    }
 }
 
 /// Returns `true` if the bytes are the encoding of a point for field elements of n bytes.

@@ -23,7 +23,7 @@ use crate::status::{OK, kind_number, other_curve_number};
 use curves::Curve;
 use der_view::faults;
 use pkix::OneAsymmetricKey;
-use sec1::EcPrivateKey;
+use sec1::BorrowedKey;
 
 /// Returns what `sec1_private_key_read` returns, and stores the offset of the fault. Of bytes that
 /// aren't a key by itself or a container, and of a key in one, it is that of the first fault from
@@ -118,7 +118,7 @@ fn tell_key(bytes: &[u8], container: &OneAsymmetricKey, curve: Curve, offset: &m
 {
     let start = container::places(bytes, container, curve).key.offset;
     let inside = container.private_key.bytes;
-    if let Ok(key) = EcPrivateKey::try_from(inside) {
+    if let Ok(key) = BorrowedKey::try_from(inside) {
         if names_curve(&key, curve) {
             return OK;
         }
