@@ -1,6 +1,7 @@
 //! Functions and types as programs have them, each with the contract that the program needs.
 
 // Keys, certificates and points.
+pub mod borrowed_keys;
 pub mod certificates;
 pub mod key_store;
 pub mod key_streams;

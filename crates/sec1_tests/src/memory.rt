@@ -7,7 +7,7 @@
 //! once.
 use crate::helpers::{assert_equal, assert_equal_for, document, kind_of};
 use sec1::point::EncodedPoint;
-use sec1::{EcPrivateKey, Error};
+use sec1::{BorrowedKey, EcPrivateKey, Error};
 use sec1_der::{
     ErrorKind, OctetStringRef, SecretDocument, StdReader, StdWriter, check_tree, encode_to_slice,
     encoded_len, from_der,
@@ -83,11 +83,27 @@ fn is_read_and_written(bytes: &[u8]) -> bool {
         && check_tree(bytes) == Ok(7)
 }
 
+/// Returns `true` if the bytes are a key on P-256 that is written as they are, without a copy of
+/// its identifier.
+fn is_borrowed_and_written(bytes: &[u8]) -> bool {
+    let Ok(key) = BorrowedKey::try_from(bytes) else {
+        return false;
+    };
+    let Some(curve) = &key.curve else {
+        return false;
+    };
+    let mut room = [0u8; 121];
+    curve.as_bytes() == &bytes[43..51]
+        && key.encoded_len() == Ok(121)
+        && key.encode_to_slice(&mut room) == Ok(121)
+        && room.as_slice() == bytes
+}
+
 #[test]
 fn takes_no_memory_for_keys(rt: HostRuntime) {
     let alloc = rt.alloc();
     let is_refusing = refuse(alloc, 1);
-    let is_right = is_read_and_written(KEY);
+    let is_right = is_read_and_written(KEY) && is_borrowed_and_written(KEY);
     let calls = "try_from, encoded_len, encode_to_slice, check_tree";
     assert_made_none(&rt, alloc, calls, is_refusing, is_right);
 }
