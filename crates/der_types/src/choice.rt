@@ -78,6 +78,13 @@ impl<P: EncodePart, Q: EncodePart> EncodePart for Choice<P, Q> {
         }
     }
 
+    fn known_part_len(&self) -> usize {
+        match self {
+            Choice::First(part) => part.known_part_len(),
+            Choice::Second(part) => part.known_part_len(),
+        }
+    }
+
     fn prepend_part(&self, writer: &mut BackWriter) {
         match self {
             Choice::First(part) => part.prepend_part(writer),

@@ -9,6 +9,7 @@ ghost use Rattle.der_types.specs.Defaults.{other_fault};
 use sec1_der::{
     BackWriter, DecodePart, DecodeValue, EncodePart, EncodeValue, ErrorKind, Length, Optional,
     Part, Result, SliceReader, Tag, Tagged, UniqueContent, UniquePart, ValueContent, encoded_len,
+    known_encoded_len,
 };
 use std::marker::Model;
 
@@ -65,6 +66,14 @@ impl<A: HasDefault + EncodeValue + Tagged> EncodePart for Defaulted<A> {
             return Length::new(0);
         }
         Length::new(encoded_len(&self.0)?)
+    }
+
+    fn known_part_len(&self) -> usize {
+        A::content_injective();
+        if self.0.is_default() {
+            return 0;
+        }
+        known_encoded_len(&self.0)
     }
 
     fn prepend_part(&self, writer: &mut BackWriter) {

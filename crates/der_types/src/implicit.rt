@@ -74,6 +74,10 @@ impl<K, A: EncodeValue> EncodeValue for Implicit<K, A> {
         self.value.value_len()
     }
 
+    fn known_value_len(&self) -> usize {
+        self.value.known_value_len()
+    }
+
     fn encode_back(&self, writer: &mut BackWriter) -> Result<()> {
         self.value.encode_back(writer)
     }

@@ -1,15 +1,27 @@
 //! A value that is given by its content: a tag, and a test of contents.
-ghost use Rattle.std.specs.Prelude.{◌≡◌, ℕ, List, Some, IfOk};
+ghost use Rattle.std.specs.Prelude.{◌≡◌, ℕ, List, Bool, Some, IfOk};
 ghost use Rattle.der_types.specs.Contents.{content_if, new_fault};
 ghost use Rattle.sec1_der.specs.Contents.{value_unless};
 ghost use Rattle.sec1_der.specs.Faults.{HasFault};
 
-use crate::Kind;
 use sec1_der::{
     BackWriter, DecodeValue, EncodeValue, ErrorKind, Length, Result, SliceReader, Tag, Tagged,
     UniqueContent, ValueContent,
 };
 use std::marker::{Model, PhantomData};
+
+/// A kind of values that are given by their contents: which bytes are a content. It is [`Tagged`]
+/// too.
+// `Tagged` isn't a supertrait: the bound of a struct must be met by only one impl, and each
+// `Record` is `Tagged`.
+pub trait Kind {
+    /// The test of contents.
+    ghost passes: { List ℕ → Bool };
+
+    /// Returns `true` if the bytes are the content of a value.
+    fn test(bytes: &[u8]) -> bool
+        ensures { result ≡ passes bytes.now };
+}
 
 /// A value that borrows its content, which passes the test of `K`. A contract sees the content.
 #[derive(Drop)]
@@ -111,6 +123,10 @@ impl<K: Kind> EncodeValue for Leaf<'_, K> {
             return Err(ErrorKind::Overlength.into());
         }
         Length::new(self.bytes.len())
+    }
+
+    fn known_value_len(&self) -> usize {
+        self.bytes.len()
     }
 
     fn encode_back(&self, writer: &mut BackWriter) -> Result<()> {

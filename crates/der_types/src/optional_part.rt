@@ -40,6 +40,13 @@ impl<P: EncodePart + Alternative> EncodePart for OptionalPart<P> {
         }
     }
 
+    fn known_part_len(&self) -> usize {
+        match &self.0 {
+            Some(part) => part.known_part_len(),
+            None => 0,
+        }
+    }
+
     fn prepend_part(&self, writer: &mut BackWriter) {
         if let Some(part) = &self.0 {
             part.prepend_part(writer);

@@ -1,10 +1,10 @@
 //! SEQUENCE OF (X.690 section 8.10).
 ghost use Rattle.std.specs.Prelude.{◌≡◌, ◌<◌, ◌++◌, ◌∷◌, ℕ, List, [], length, Some, None, false};
 ghost use Rattle.std.specs.Prelude.{Ok, IsOk, IsSome, IfSome, IfNone, IsSomeAnd};
-ghost use Rattle.std.specs.Prelude.{MatchResult};
+ghost use Rattle.std.specs.Prelude.{MatchResult, ◌↔◌};
 ghost use Rattle.sec1_der.specs.Elements.{element_of};
 ghost use Rattle.sec1_der.specs.Errors.{IsReadingFault};
-ghost use Rattle.sec1_der.specs.Faults.{HasFault};
+ghost use Rattle.sec1_der.specs.Faults.{HasFault, element_fault, no_fault};
 ghost use Rattle.der_types.specs.Sequences.{joined, sequence_fault, sequence_of};
 
 use sec1_der::{
@@ -133,17 +133,25 @@ impl<'a, T> Elements<'a, T> {
         }
     }
 
-    /// Returns the next value, or `None` if none is left. It never fails, since the elements were
-    /// checked.
+    /// Returns the next value, or `None` if none is left.
+    ///
+    /// The elements of a [`SequenceOf`] and of a [`SetOf`](crate::SetOf) have been checked, so that
+    /// `None` means that all of them were returned. A contract sees only their bytes: if it doesn't
+    /// know of these that they are elements of `T`, then `None` may also mean that they begin with
+    /// no such element.
     pub fn next(&mut self) -> Option<T>
     where
         T: DecodeValue<'a> + Tagged,
-        requires { sequence_fault T.tag_byte T.fault self.old ≡ None }
         ensures found { IfSome result
             (λ value. IsSomeAnd (element_of T.tag_byte (T.content value)) (λ bytes.
             self.old ≡ bytes ++ self.new)) }
-        ensures end { IfNone result ((self.old ≡ []) × (self.new ≡ [])) }
-        ensures checked { sequence_fault T.tag_byte T.fault self.new ≡ None }
+        // There is a next value if and only if the bytes begin with an element of `T`.
+        ensures exact { IsSome result
+            ↔ (element_fault T.tag_byte T.fault no_fault self.old ≡ None) }
+        ensures end { IfNone result ((self.new ≡ [])
+            × (sequence_fault T.tag_byte T.fault self.old ≡ None → self.old ≡ [])) }
+        ensures checked { sequence_fault T.tag_byte T.fault self.old ≡ None
+            → sequence_fault T.tag_byte T.fault self.new ≡ None }
         ensures shorter { IsSome result → length self.new < length self.old }
         // The same for a list of values: what is returned comes before those that are left, and is
         // the first of the list.
@@ -158,7 +166,13 @@ impl<'a, T> Elements<'a, T> {
         if self.reader.remaining_len() == 0 {
             return None;
         }
-        self.reader.decode::<T>().ok()
+        match self.reader.decode::<T>() {
+            Ok(value) => Some(value),
+            Err(_) => {
+                self.reader = SliceReader::new(&[]);
+                None
+            }
+        }
     }
 }
 
@@ -194,6 +208,10 @@ impl<'a, T: DecodeValue<'a> + Tagged + Drop> EncodeValue for SequenceOf<'a, T> {
             Ok(()) => Length::new(self.bytes.len()),
             Err(_) => Err(ErrorKind::Overlength.into()),
         }
+    }
+
+    fn known_value_len(&self) -> usize {
+        self.bytes.len()
     }
 
     fn encode_back(&self, writer: &mut BackWriter) -> Result<()> {

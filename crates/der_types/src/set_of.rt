@@ -134,6 +134,10 @@ impl<'a, T: DecodeValue<'a> + Tagged + Drop> EncodeValue for SetOf<'a, T> {
         }
     }
 
+    fn known_value_len(&self) -> usize {
+        self.bytes.len()
+    }
+
     fn encode_back(&self, writer: &mut BackWriter) -> Result<()> {
         self.value_len()?;
         writer.write(self.bytes)
