@@ -89,8 +89,8 @@ run broken </dev/null;            ended 'a link to no file' 2 nothing "$failed_i
 run circle </dev/null;            ended 'a link to itself' 2 nothing "$failed_input"
 run nothing </dev/null;           ended 'an empty file' 1 refused-report ''
 mkfifo pipe
-# Opens the pipe for what the command writes, and waits at most 10 seconds for the program to open it.
-feed() { timeout 10 bash -c "($1) >pipe" & }
+# Opens the pipe for what the command writes, and waits for the program to open it.
+feed() { timeout 3600 bash -c "($1) >pipe" & }
 feed 'cat key'
 run pipe </dev/null; wait $!;     ended 'a pipe with a name' 0 report ''
 feed 'head -c 60 key; sleep 0.2; tail -c +61 key'

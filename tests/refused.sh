@@ -30,7 +30,7 @@ for tested in sec1_tests sec1_inspect; do
         continue
     fi
     for name in $("$tests" --list | sed -n 's/^\(.*\(memory::\|in_turn\).*\): test$/\1/p'); do
-        if (cd "$room" && TMPDIR=$room LD_PRELOAD=$room/refuse.so timeout 60 "$tests" "$name" >wrote 2>error); then
+        if (cd "$room" && TMPDIR=$room LD_PRELOAD=$room/refuse.so timeout 3600 "$tests" "$name" >wrote 2>error); then
             tell "$crate, $name" yes
         else
             tell "$crate, $name: $(head -c 300 "$room/error")" no

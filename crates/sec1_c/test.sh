@@ -22,7 +22,7 @@ check() { # NAME COMMAND..: passes where the command does
 add() { # NAME COMMAND..: adds what the command counts in its last line
     local name=$1 last status
     shift
-    timeout 150 "$@" > "$work/output" 2>&1
+    timeout 3600 "$@" > "$work/output" 2>&1
     status=$?
     cat "$work/output"
     last=$(tail -n 1 "$work/output")

@@ -144,7 +144,7 @@ def is_key(data):
 def run_blocks(program, asked, given):
     """Returns what the program prints of inputs, each of which is a block of PEM."""
     blocks = (b"-----BEGIN KEY-----\n%b\n-----END KEY-----\n" % base64.b64encode(data) for data in given)
-    ended = subprocess.run([program, *asked], input=b"".join(blocks), capture_output=True, timeout=600)
+    ended = subprocess.run([program, *asked], input=b"".join(blocks), capture_output=True, timeout=3600)
     return ended.stdout, ended.stderr, ended.returncode
 
 
@@ -154,7 +154,7 @@ def run_files(program, asked, given):
         names = [str(number) for number in range(len(given))]
         for name, data in zip(names, given):
             pathlib.Path(room, name).write_bytes(data)
-        ended = subprocess.run([program, *asked, *names], cwd=room, capture_output=True, timeout=600)
+        ended = subprocess.run([program, *asked, *names], cwd=room, capture_output=True, timeout=3600)
     return ended.stdout, ended.stderr, ended.returncode
 
 

@@ -16,7 +16,7 @@ THEIRS = re.compile(r"^ *(\d+):d=(\d+) +hl= *(\d+) l= *(\d+) (cons|prim):", re.M
 def of(program, data, everything=False):
     """Returns the rows of an input in DER, and the number of its bytes; none of a text."""
     asked = [program, "--json", *(["--all"] if everything else [])]
-    ended = subprocess.run(asked, input=data, capture_output=True, timeout=60)
+    ended = subprocess.run(asked, input=data, capture_output=True, timeout=3600)
     front, *rows, _ = [json.loads(line) for line in ended.stdout.splitlines()]
     return (rows, front["bytes"]) if front["form"] == "der" else ([], None)
 

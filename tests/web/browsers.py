@@ -19,7 +19,7 @@ TEXT = "document.querySelector('textarea')"
 # Hosts that a browser asks by itself: for updates, lists and times.
 OWN = ("mozilla.org", "mozilla.com", "mozilla.net", "firefox.com", "google.com", "gvt1.com",
        "googleapis.com", "google-analytics.com", "digicert.com", "mozgcp.net")
-PATIENCE = 60
+PATIENCE = 600
 
 
 class Failed(Exception):
