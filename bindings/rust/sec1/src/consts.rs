@@ -11,7 +11,7 @@
 
 mod array;
 
-pub use array::Array;
+pub use array::{Array, TryFromIteratorError};
 
 use core::array::TryFromSliceError;
 
@@ -89,6 +89,37 @@ pub trait ArraySize:
     /// assert!(U2::borrowed(&[1, 2, 3]).is_err());
     /// ```
     fn borrowed<T: Copy>(slice: &[T]) -> Result<&Self::ArrayType<T>, TryFromSliceError>;
+
+    /// Returns the array of what the function returns for each element.
+    ///
+    /// # Examples
+    ///
+    /// ```
+    /// use sec1::consts::{ArraySize, U2};
+    ///
+    /// assert_eq!(U2::mapped([1, 2], |number| number * 2), [2, 4]);
+    /// ```
+    fn mapped<T: Copy, U: Copy>(
+        array: Self::ArrayType<T>,
+        change: impl FnMut(T) -> U,
+    ) -> Self::ArrayType<U>;
+
+    /// Borrows a slice of this size as an array that can be changed.
+    ///
+    /// # Errors
+    ///
+    /// An error if the slice has another size.
+    ///
+    /// # Examples
+    ///
+    /// ```
+    /// use sec1::consts::{ArraySize, U2};
+    ///
+    /// assert_eq!(U2::borrowed_mut(&mut [1, 2]).ok(), Some(&mut [1, 2]));
+    /// assert!(U2::borrowed_mut(&mut [1, 2, 3]).is_err());
+    /// ```
+    fn borrowed_mut<T: Copy>(slice: &mut [T])
+    -> Result<&mut Self::ArrayType<T>, TryFromSliceError>;
 }
 
 macro_rules! sizes {
@@ -110,6 +141,21 @@ macro_rules! sizes {
 
             #[inline]
             fn borrowed<T: Copy>(slice: &[T]) -> Result<&[T; $size], TryFromSliceError> {
+                slice.try_into()
+            }
+
+            #[inline]
+            fn mapped<T: Copy, U: Copy>(
+                array: [T; $size],
+                change: impl FnMut(T) -> U,
+            ) -> [U; $size] {
+                array.map(change)
+            }
+
+            #[inline]
+            fn borrowed_mut<T: Copy>(
+                slice: &mut [T],
+            ) -> Result<&mut [T; $size], TryFromSliceError> {
                 slice.try_into()
             }
         }

@@ -8,6 +8,8 @@ mod document;
 mod element;
 mod error;
 mod header;
+pub mod oid;
+mod optional;
 mod reader;
 mod value;
 mod writer;
@@ -20,6 +22,7 @@ pub use error::{Error, ErrorKind};
 #[cfg(feature = "alloc")]
 pub(crate) use header::content_len_of;
 pub use header::{Header, Tag};
+pub use optional::Choice;
 pub use reader::{Reader, SliceReader};
 pub use value::{DecodeValue, EncodeValue, FixedTag, Sequence, Tagged};
 pub use writer::{SliceWriter, Writer};
@@ -27,7 +30,7 @@ pub use writer::{SliceWriter, Writer};
 #[cfg(feature = "alloc")]
 use alloc::vec::Vec;
 use core::fmt;
-use core::ops::Add;
+use core::ops::{Add, Sub};
 
 /// A `Result` with the error of this module.
 ///
@@ -68,6 +71,61 @@ impl Length {
     /// The greatest length of a content, 268,435,455.
     pub const MAX: Length = Length(0x0FFF_FFFF);
 
+    /// Returns the length of this number of bytes.
+    ///
+    /// # Examples
+    ///
+    /// ```
+    /// use sec1::der::Length;
+    ///
+    /// const POINT: Length = Length::new(65);
+    /// assert_eq!(POINT.to_string(), "65");
+    /// ```
+    pub const fn new(len: u32) -> Length {
+        Length(len)
+    }
+
+    /// Returns `true` if there are no bytes.
+    ///
+    /// # Examples
+    ///
+    /// ```
+    /// use sec1::der::Length;
+    ///
+    /// assert!(Length::ZERO.is_zero() && !Length::ONE.is_zero());
+    /// ```
+    pub const fn is_zero(self) -> bool {
+        self.0 == 0
+    }
+
+    /// Returns the sum, or 4,294,967,295 if it is greater.
+    ///
+    /// # Examples
+    ///
+    /// ```
+    /// use sec1::der::Length;
+    ///
+    /// assert_eq!(Length::new(2).saturating_add(Length::ONE), Length::new(3));
+    /// assert_eq!(Length::new(u32::MAX).saturating_add(Length::ONE), Length::new(u32::MAX));
+    /// ```
+    pub const fn saturating_add(self, other: Length) -> Length {
+        Length(self.0.saturating_add(other.0))
+    }
+
+    /// Returns the difference, or 0 if the other length is greater.
+    ///
+    /// # Examples
+    ///
+    /// ```
+    /// use sec1::der::Length;
+    ///
+    /// assert_eq!(Length::new(2).saturating_sub(Length::ONE), Length::ONE);
+    /// assert_eq!(Length::ONE.saturating_sub(Length::new(2)), Length::ZERO);
+    /// ```
+    pub const fn saturating_sub(self, other: Length) -> Length {
+        Length(self.0.saturating_sub(other.0))
+    }
+
     /// Returns the sum.
     #[inline]
     pub(crate) fn plus(self, other: Length) -> Result<Length> {
@@ -106,6 +164,43 @@ impl Add<Length> for Result<Length> {
 
     fn add(self, other: Length) -> Result<Length> {
         self?.plus(other)
+    }
+}
+
+/// The difference, or an error of [`ErrorKind::Overlength`] if the other length is greater.
+///
+/// # Examples
+///
+/// ```
+/// use sec1::der::Length;
+///
+/// assert_eq!(Length::new(3) - Length::ONE, Ok(Length::new(2)));
+/// assert!((Length::ZERO - Length::ONE).is_err());
+/// ```
+impl Sub for Length {
+    type Output = Result<Length>;
+
+    fn sub(self, other: Length) -> Result<Length> {
+        let difference = self.0.checked_sub(other.0).map(Length);
+        difference.ok_or(Error::of_kind(ErrorKind::Overlength))
+    }
+}
+
+impl From<u8> for Length {
+    fn from(len: u8) -> Length {
+        Length(len.into())
+    }
+}
+
+impl From<u16> for Length {
+    fn from(len: u16) -> Length {
+        Length(len.into())
+    }
+}
+
+impl From<u32> for Length {
+    fn from(len: u32) -> Length {
+        Length(len)
     }
 }
 
@@ -220,7 +315,7 @@ impl<'a, T: DecodeValue<'a> + FixedTag + 'a> Decode<'a> for T {
 ///
 /// let key = EcPrivateKey { private_key: &[9], parameters: None, public_key: None };
 /// let der = [0x30, 6, 2, 1, 1, 4, 1, 9];
-/// assert_eq!(key.encoded_len()?, Length::try_from(8)?);
+/// assert_eq!(key.encoded_len()?, Length::new(8));
 /// assert_eq!(key.encode_to_slice(&mut [0; 10])?, der);
 /// assert!(key.encode_to_slice(&mut [0; 7]).is_err());
 /// # Ok::<(), sec1::der::Error>(())

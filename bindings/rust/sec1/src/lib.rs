@@ -22,6 +22,7 @@ pub mod consts;
 pub mod der;
 pub mod point;
 pub mod subtle;
+pub mod zeroize;
 
 mod certificate;
 mod curve;

@@ -453,6 +453,16 @@ pub(crate) fn array<T: Copy, Size: ArraySize>(array: &Size::ArrayType<T>) -> &Ar
     unsafe { &*array.cast() }
 }
 
+/// Borrows Rust's own array as an `Array` that can be changed.
+#[inline]
+pub(crate) fn array_mut<T: Copy, Size: ArraySize>(
+    array: &mut Size::ArrayType<T>,
+) -> &mut Array<T, Size> {
+    let array: *mut Size::ArrayType<T> = array;
+    // SAFETY: an `Array` is laid out as its one field, and the borrow is as long.
+    unsafe { &mut *array.cast() }
+}
+
 /// Borrows the content of an octet string as one.
 #[inline]
 pub(crate) fn octet_string(content: &[u8]) -> &OctetStringRef {

@@ -124,9 +124,9 @@ fn agrees_on_headers() {
         assert_eq!(writer.finish().unwrap(), &any[..any.len() - len]);
         assert_eq!(octets.header(), Ok(header));
     }
-    let most = Length::try_from(268_435_455).unwrap();
+    let most = Length::new(268_435_455);
     assert_eq!((most, Header::new(Tag::Sequence, most).is_ok()), (Length::MAX, true));
-    assert!(Header::new(Tag::Sequence, Length::try_from(268_435_456).unwrap()).is_err());
+    assert!(Header::new(Tag::Sequence, Length::new(268_435_456)).is_err());
 }
 
 /// Returns the kind and the offset of the first fault of a key.

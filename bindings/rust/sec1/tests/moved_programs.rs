@@ -1,4 +1,4 @@
-//! Fourteen small programs as they are written for the crate `sec1` 0.8.1, over this crate: what
+//! Eighteen small programs as they are written for the crate `sec1` 0.8.1, over this crate: what
 //! they import from `der`, `subtle` and `hybrid_array` is in `sec1`, and nothing else is changed.
 //! Two more don't compile, by the README's table: one matches the kinds of errors of `der`, one
 //! writes PEM.
@@ -472,5 +472,215 @@ mod wraps_errors {
         assert!(error.to_string().starts_with("bad key: SEC1 ASN.1 error: "));
         assert!(matches!(error, Fault::Key(sec1::Error::Asn1(e)) if e.position().is_some()));
         assert!(error.source().is_some());
+    }
+}
+
+/// The secret key of a crate of curves, which knows its curve by a trait.
+mod knows_its_curve {
+    use sec1::der::asn1::ObjectIdentifier;
+    use sec1::der::oid::AssociatedOid;
+    use sec1::der::{self, DecodeValue, FixedTag, Header, Reader, Tag};
+    use sec1::{EcPrivateKey, Error};
+
+    struct NistP256;
+
+    impl AssociatedOid for NistP256 {
+        const OID: ObjectIdentifier = ObjectIdentifier::new_unwrap("1.2.840.10045.3.1.7");
+    }
+
+    struct NistP384;
+
+    impl AssociatedOid for NistP384 {
+        const OID: ObjectIdentifier = ObjectIdentifier::new_unwrap("1.3.132.0.34");
+    }
+
+    fn scalar<C: AssociatedOid>(der: &[u8]) -> sec1::Result<[u8; 32]> {
+        let key = EcPrivateKey::try_from(der)?;
+        match key.parameters.and_then(sec1::EcParameters::named_curve) {
+            Some(oid) if oid != C::OID => Err(Error::Crypto),
+            _ => {
+                let invalid = |_| der::Error::from(Tag::Sequence.value_error()).into();
+                key.private_key.try_into().map_err(invalid)
+            }
+        }
+    }
+
+    /// A version, as the original reads it.
+    #[derive(Debug, PartialEq)]
+    struct Version(u8);
+
+    impl FixedTag for Version {
+        const TAG: Tag = Tag::Integer;
+    }
+
+    impl<'a> DecodeValue<'a> for Version {
+        type Error = der::Error;
+
+        fn decode_value<R: Reader<'a>>(reader: &mut R, header: Header) -> der::Result<Self> {
+            match u8::decode_value(reader, header)? {
+                1 => Ok(Version(1)),
+                _ => Err(reader.error(Tag::Integer.value_error())),
+            }
+        }
+    }
+
+    #[test]
+    fn runs() {
+        let p256 = super::support::p256();
+        assert_eq!(scalar::<NistP256>(&p256).unwrap(), p256[7..39]);
+        assert_eq!(scalar::<NistP384>(&p256).unwrap_err(), Error::Crypto);
+        let short = scalar::<NistP256>(&[0x30, 6, 2, 1, 1, 4, 1, 9]).unwrap_err();
+        assert!(matches!(short, Error::Asn1(e) if e.kind() == der::ErrorKind::Value));
+        use sec1::der::Decode;
+        assert_eq!(Version::from_der(&[2, 1, 1]).unwrap(), Version(1));
+        assert_eq!(Version::from_der(&[2, 1, 2]).unwrap_err().position().map(u32::from), Some(3));
+    }
+}
+
+/// The choice of one of two roots, as a decompression makes it, and of a point.
+mod chooses {
+    use sec1::EncodedPoint;
+    use sec1::consts::U32;
+    use sec1::subtle::{Choice, ConditionallySelectable, ConstantTimeEq};
+
+    #[derive(Clone, Copy, Debug, PartialEq)]
+    struct Element(u8);
+
+    impl ConditionallySelectable for Element {
+        fn conditional_select(a: &Self, b: &Self, choice: Choice) -> Self {
+            Element(if choice.into() { b.0 } else { a.0 })
+        }
+    }
+
+    impl Element {
+        fn is_odd(self) -> Choice {
+            Choice::from(self.0 & 1)
+        }
+    }
+
+    /// Returns the root with this lowest bit, if there is a root.
+    fn root(root: Element, other: Element, is_root: Choice, y_is_odd: Choice) -> Option<Element> {
+        let mut y = other;
+        y.conditional_assign(&root, root.is_odd().ct_eq(&y_is_odd));
+        let found = is_root & !(y.is_odd() ^ y_is_odd);
+        bool::from(found).then_some(y)
+    }
+
+    #[test]
+    fn runs() {
+        let (even, odd) = (Element(6), Element(11));
+        for (first, second) in [(even, odd), (odd, even)] {
+            assert_eq!(root(first, second, 1.into(), 1.into()), Some(odd));
+            assert_eq!(root(first, second, 1.into(), 0.into()), Some(even));
+            assert_eq!(root(first, second, 0.into(), 0.into()), None);
+        }
+        let (mut a, mut b) = (EncodedPoint::<U32>::identity(), EncodedPoint::identity());
+        b.conditional_assign(&EncodedPoint::from_bytes([2; 33]).unwrap(), true.into());
+        EncodedPoint::conditional_swap(
+            &mut a,
+            &mut b,
+            (Choice::from(1) | Choice::from(0)) & 1.into(),
+        );
+        assert_eq!((a.as_bytes().len(), b.as_bytes().len()), (33, 1));
+    }
+}
+
+/// A store of keys for TLS, which hands out copies.
+mod stores_keys {
+    use sec1::der::SecretDocument;
+    use sec1::zeroize::Zeroizing;
+    use std::collections::BTreeMap;
+
+    #[derive(Default)]
+    struct Store(BTreeMap<String, SecretDocument>);
+
+    impl Store {
+        fn bytes(&self, name: &str) -> Option<Zeroizing<Vec<u8>>> {
+            self.0.get(name).map(SecretDocument::to_bytes)
+        }
+    }
+
+    #[test]
+    fn runs() {
+        let p256 = super::support::p256();
+        let mut store = Store::default();
+        store.0.insert("host".into(), SecretDocument::try_from(&p256[..]).unwrap());
+        assert_eq!(*store.bytes("host").unwrap(), p256);
+        assert!(store.bytes("other").is_none());
+    }
+}
+
+/// A container of private keys (RFC 5958), with attributes that may be absent.
+mod reads_containers {
+    use sec1::EcPrivateKey;
+    use sec1::der::asn1::{AnyRef, ObjectIdentifier, OctetStringRef};
+    use sec1::der::{self, Decode, DecodeValue, Header, Reader, Tag};
+    use sec1::der::{Encode, EncodeValue, Length, Sequence, Writer};
+
+    struct Algorithm<'a> {
+        oid: ObjectIdentifier,
+        parameters: Option<AnyRef<'a>>,
+    }
+
+    impl<'a> DecodeValue<'a> for Algorithm<'a> {
+        type Error = der::Error;
+
+        fn decode_value<R: Reader<'a>>(reader: &mut R, _: Header) -> der::Result<Self> {
+            let oid = reader.decode()?;
+            let parameters = if reader.is_finished() { None } else { Some(reader.decode()?) };
+            Ok(Algorithm { oid, parameters })
+        }
+    }
+
+    impl EncodeValue for Algorithm<'_> {
+        fn value_len(&self) -> der::Result<Length> {
+            self.oid.encoded_len()? + self.parameters.encoded_len()?
+        }
+
+        fn encode_value(&self, writer: &mut impl Writer) -> der::Result<()> {
+            self.oid.encode(writer)?;
+            self.parameters.encode(writer)
+        }
+    }
+
+    impl<'a> Sequence<'a> for Algorithm<'a> {}
+
+    /// Returns the identifier of the curve, and the key, and whether a label follows.
+    fn read(der: &[u8]) -> der::Result<(ObjectIdentifier, Vec<u8>, bool)> {
+        let mut reader = der::SliceReader::new(der)?;
+        let found = reader.sequence(|reader| {
+            if u8::decode(reader)? > 1 {
+                return Err(reader.error(Tag::Integer.value_error()));
+            }
+            let algorithm = Algorithm::decode(reader)?;
+            if algorithm.oid != sec1::ALGORITHM_OID {
+                return Err(reader.error(Tag::ObjectIdentifier.value_error()));
+            }
+            let curve = algorithm.parameters.ok_or(Tag::Null.unexpected_error(None))?;
+            let key: &OctetStringRef = reader.decode()?;
+            let private_key = EcPrivateKey::from_der(key.as_bytes())?.private_key.to_vec();
+            let label = reader.decode::<Option<ObjectIdentifier>>()?.is_some();
+            Ok((curve.decode_as()?, private_key, label))
+        })?;
+        reader.finish()?;
+        Ok(found)
+    }
+
+    #[test]
+    fn runs() {
+        // version, ecPublicKey with P-256, a key of one byte; the lengths are counted by hand
+        let start = "301F020100301306072A8648CE3D020106082A8648CE3D0301070405";
+        let key = "3003020101";
+        assert!(read(&super::support::bytes(&format!("{start}{key}"))).is_err());
+        let text = "3022020100301306072A8648CE3D020106082A8648CE3D030107040830060201010401 09";
+        let der = super::support::bytes(&text.replace(' ', ""));
+        let p256 = ObjectIdentifier::new("1.2.840.10045.3.1.7").unwrap();
+        assert_eq!(read(&der), Ok((p256, vec![9], false)));
+        let labelled = [&[0x30, 0x25], &der[2..], &[6, 1, 0x2A]].concat();
+        assert_eq!(read(&labelled), Ok((p256, vec![9], true)));
+        let version = [&der[..4], &[2], &der[5..]].concat();
+        assert_eq!(read(&version).unwrap_err().kind(), der::ErrorKind::Value);
+        let other = [&der[..9], &[5, 0], &der[11..]].concat();
+        assert!(read(&other).is_err());
     }
 }

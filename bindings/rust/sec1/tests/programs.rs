@@ -148,6 +148,56 @@ fn files_are_replaced_and_hold_one_element() {
     std::fs::remove_file(&path).unwrap();
 }
 
+/// A file is read as its header announces, so that one without end is refused at once, and each kind
+/// is that of the bytes as a whole.
+#[test]
+fn files_are_read_as_their_headers_announce() {
+    use der::{ErrorKind, SecretDocument};
+    let path = std::env::temp_dir().join(format!("sec1-head-{}.der", std::process::id()));
+    let element = |header: &[u8], len: usize| [header, &vec![7; len]].concat();
+    let whole = [
+        element(&[4, 0], 0),
+        element(&[4, 127], 127),
+        element(&[4, 0x81, 128], 128),
+        element(&[4, 0x82, 1, 0], 256),
+        element(&[4, 0x83, 1, 0, 0], 0x1_0000),
+        element(&[4, 0x84, 1, 0, 0, 0], 0x100_0000),
+    ];
+    let headers: [&[u8]; 12] = [
+        &[],
+        &[4],
+        &[4, 0x80],
+        &[4, 0x81],
+        &[4, 0x81, 1, 7],
+        &[4, 0x82, 0, 200],
+        &[4, 0x84, 0x0F, 0xFF, 0xFF, 0xFF],
+        &[4, 0x84, 0x10, 0, 0, 0],
+        &[4, 0x85, 1, 0, 0, 0, 0],
+        &[0x1F, 1, 7],
+        &[4, 0xFF],
+        &[0, 0],
+    ];
+    // Not of the last, which is long.
+    let cut = whole[..5].iter().map(|it| it.split_last().unwrap().1.to_vec());
+    let longer = whole[..5].iter().map(|it| [it, &[0; 3][..]].concat());
+    for bytes in whole.iter().cloned().chain(cut).chain(longer).chain(headers.map(<[u8]>::to_vec)) {
+        std::fs::write(&path, &bytes).unwrap();
+        let read = SecretDocument::read_der_file(&path).map(|it| it.as_bytes().to_vec());
+        let wanted = SecretDocument::try_from(bytes).map(|it| it.as_bytes().to_vec());
+        assert!(read == wanted, "{:?} {:?}", read.err(), wanted.err());
+    }
+    // A terabyte that takes no room on the disk: only its first bytes are read.
+    std::fs::write(&path, &whole[1]).unwrap();
+    let file = std::fs::OpenOptions::new().write(true).open(&path).unwrap();
+    if file.set_len(1 << 40).is_ok() {
+        let error = SecretDocument::read_der_file(&path).unwrap_err();
+        assert_eq!(error.kind(), ErrorKind::TrailingData);
+    }
+    std::fs::remove_file(&path).unwrap();
+    #[cfg(unix)]
+    assert!(SecretDocument::read_der_file("/dev/zero").is_err());
+}
+
 /// The system takes a part of a document where a file may not grow as long as it, and refuses the
 /// rest: the shell lets the files of the test below have 512 or 1,024 bytes.
 #[test]

@@ -3,12 +3,14 @@
 #![cfg(feature = "std")]
 #![allow(clippy::unwrap_used, clippy::indexing_slicing, clippy::arithmetic_side_effects)]
 
-use sec1::der::asn1::{AnyRef, ObjectIdentifier};
+use sec1::consts::{U2, U32};
+use sec1::der::asn1::{AnyRef, BitStringRef, ObjectIdentifier};
 use sec1::der::{
-    Decode, DecodeValue, Element, Encode, EncodeValue, ErrorKind, FixedTag, Header, Length, Reader,
-    Result, Sequence, SliceReader, SliceWriter, Tag, Tagged, Writer,
+    Choice, Decode, DecodeValue, Element, Encode, EncodeValue, ErrorKind, FixedTag, Header, Length,
+    Reader, Result, Sequence, SliceReader, SliceWriter, Tag, Tagged, Writer,
 };
-use sec1::{ALGORITHM_OID, Curve, EcParameters, EcPrivateKey};
+use sec1::subtle::{self, ConstantTimeEq};
+use sec1::{ALGORITHM_OID, Array, Curve, EcParameters, EcPrivateKey};
 
 mod support;
 
@@ -294,4 +296,279 @@ fn a_program_has_its_own_sequence() {
     let mut kept = Kept(vec![]);
     read.encode_value(&mut kept).unwrap();
     assert_eq!(AnyRef::new(Algorithm::TAG, &kept.0).unwrap().to_der(), Ok(element.clone()));
+}
+
+/// Numbers, and their elements by X.690 section 8.3.
+const NUMBERS: [(u64, &[u8]); 12] = [
+    (0, &[2, 1, 0]),
+    (1, &[2, 1, 1]),
+    (0x7F, &[2, 1, 0x7F]),
+    (0x80, &[2, 2, 0, 0x80]),
+    (0xFF, &[2, 2, 0, 0xFF]),
+    (0x100, &[2, 2, 1, 0]),
+    (0x8000, &[2, 3, 0, 0x80, 0]),
+    (0xFFFF, &[2, 3, 0, 0xFF, 0xFF]),
+    (0x1_0000, &[2, 3, 1, 0, 0]),
+    (0xFFFF_FFFF, &[2, 5, 0, 0xFF, 0xFF, 0xFF, 0xFF]),
+    (0x1_0000_0000, &[2, 5, 1, 0, 0, 0, 0]),
+    (u64::MAX, &[2, 9, 0, 0xFF, 0xFF, 0xFF, 0xFF, 0xFF, 0xFF, 0xFF, 0xFF]),
+];
+
+/// Reads and writes a number as a type, whose numbers are below the limit.
+fn number<T>(number: u64, element: &[u8])
+where
+    T: Copy + std::fmt::Debug + PartialEq + TryFrom<u64> + Encode + EncodeValue,
+    T: for<'a> DecodeValue<'a, Error = sec1::der::Error> + FixedTag,
+{
+    match T::try_from(number) {
+        Ok(value) => {
+            assert_eq!(T::from_der(element), Ok(value));
+            writes(&value, element, &element[2..]);
+        }
+        Err(_) => assert_eq!(T::from_der(element).unwrap_err().kind(), ErrorKind::Value),
+    }
+}
+
+#[test]
+fn numbers_are_read_and_written() {
+    for (value, element) in NUMBERS {
+        number::<u8>(value, element);
+        number::<u16>(value, element);
+        number::<u32>(value, element);
+        number::<u64>(value, element);
+    }
+    let refused: [&[u8]; 7] = [
+        &[2, 0],
+        &[2, 1, 0x80],
+        &[2, 1, 0xFF],
+        &[2, 2, 0, 0x7F],
+        &[2, 2, 0, 0],
+        &[2, 9, 1, 0, 0, 0, 0, 0, 0, 0, 0],
+        &[2, 10, 0, 0xFF, 0, 0, 0, 0, 0, 0, 0, 0],
+    ];
+    for element in refused {
+        assert_eq!(u64::from_der(element).unwrap_err().kind(), ErrorKind::Value, "{element:?}");
+    }
+    assert_eq!(u8::from_der(&[4, 1, 1]).unwrap_err().kind(), ErrorKind::Tag);
+    assert_eq!(u8::from_der(&[2, 1, 1, 0]).unwrap_err().kind(), ErrorKind::TrailingData);
+}
+
+#[test]
+fn values_may_be_absent() {
+    type MayBe = Option<ObjectIdentifier>;
+    assert_eq!(MayBe::from_der(&[]), Ok(None));
+    assert_eq!(MayBe::from_der(&[6, 1, 0x2A]), Ok(ObjectIdentifier::from_bytes(&[0x2A]).ok()));
+    assert_eq!(MayBe::from_der(&[6, 1, 0x80]).unwrap_err().kind(), ErrorKind::Value);
+    assert_eq!(MayBe::from_der(&[5, 0]).unwrap_err().kind(), ErrorKind::TrailingData);
+    assert_eq!(MayBe::from_der(&[0x1F, 0]).unwrap_err().kind(), ErrorKind::Tag);
+    let mut reader = SliceReader::new(&[5, 0, 6, 1, 0x2A]).unwrap();
+    assert_eq!(reader.decode::<MayBe>(), Ok(None));
+    assert_eq!(reader.position(), Length::ZERO);
+    assert_eq!(reader.tlv_bytes(), Ok(&[5, 0][..]));
+    assert!(reader.decode::<MayBe>().unwrap().is_some());
+    assert_eq!(reader.decode::<MayBe>(), Ok(None));
+    assert!(ObjectIdentifier::can_decode(Tag::ObjectIdentifier));
+    assert_eq!(Some(ALGORITHM_OID).to_der(), ALGORITHM_OID.to_der());
+    assert_eq!(None::<ObjectIdentifier>.to_der(), Ok(vec![]));
+}
+
+#[test]
+fn parts_are_read_by_functions() {
+    let bytes = [0x30, 3, 2, 1, 7, 5, 0];
+    let mut reader = SliceReader::new(&bytes).unwrap();
+    assert_eq!((reader.peek_byte(), reader.peek_tag()), (Some(0x30), Ok(Tag::Sequence)));
+    let error = reader.sequence(|reader| reader.read_byte()).unwrap_err();
+    assert_eq!((error.kind(), reader.position()), (ErrorKind::TrailingData, Length::ZERO));
+    assert_eq!(error.position(), Some(Length::new(3)));
+    let end = reader.sequence(|reader| {
+        reader.decode::<u8>()?;
+        reader.read_byte()
+    });
+    assert_eq!(end.unwrap_err().kind(), ErrorKind::Truncated);
+    assert_eq!(reader.sequence(|reader| reader.decode::<u8>()), Ok(7));
+    assert_eq!(reader.position(), Length::new(5));
+    let error = reader.sequence(|reader| reader.decode::<u8>()).unwrap_err();
+    assert_eq!((error.kind(), error.position()), (ErrorKind::Tag, Some(Length::new(5))));
+    assert_eq!(reader.read_nested(Length::ONE, |reader| reader.read_byte()), Ok(5));
+    assert!(reader.read_nested(Length::new(2), |reader| reader.read_byte()).is_err());
+    assert_eq!(reader.read_into(&mut [9; 1]), Ok(&mut [0][..]).map(|it| &*it));
+    assert_eq!((reader.peek_byte(), reader.read_byte().is_err()), (None, true));
+    assert_eq!(reader.peek_tag().unwrap_err().position(), Some(Length::new(7)));
+    assert_eq!(reader.error(ErrorKind::Value).position(), Some(Length::new(7)));
+}
+
+#[test]
+fn contents_are_read_as_types() {
+    let any = AnyRef::new(Tag::Integer, &[7]).unwrap();
+    assert_eq!((any.decode_as::<u8>(), any.decode_as::<u64>()), (Ok(7), Ok(7)));
+    assert_eq!(any.decode_as::<ObjectIdentifier>().unwrap_err().kind(), ErrorKind::Tag);
+    let long = AnyRef::new(Tag::Integer, &[0, 0]).unwrap();
+    assert_eq!(long.decode_as::<u8>().unwrap_err().kind(), ErrorKind::Value);
+    let bits = AnyRef::new(Tag::BitString, &[0, 4, 5]).unwrap();
+    assert_eq!(bits.decode_as::<BitStringRef<'_>>().unwrap().as_bytes(), Some(&[4, 5][..]));
+}
+
+#[test]
+fn identifiers_are_made_of_arcs() {
+    let texts =
+        ["0.0", "0.39", "1.39", "2.0", "2.40", "2.999", "1.2.840.10045.3.1.7", "2.1.4294967295"];
+    for text in texts {
+        let arcs = text.split('.').map(|arc| arc.parse().unwrap());
+        assert_eq!(ObjectIdentifier::from_arcs(arcs), ObjectIdentifier::new(text), "{text}");
+    }
+    let refused: [&[u32]; 6] = [&[], &[1], &[0, 40], &[1, 40], &[3, 1], &[2, 0xFFFF_FFFF]];
+    for arcs in refused {
+        let found = ObjectIdentifier::from_arcs(arcs.iter().copied());
+        assert_eq!(found.unwrap_err().kind(), ErrorKind::Value, "{arcs:?}");
+    }
+    // 38 more subidentifiers of a byte fill the 39 bytes.
+    assert!(ObjectIdentifier::from_arcs([1, 2].into_iter().chain([3; 38])).is_ok());
+    assert!(ObjectIdentifier::from_arcs([1, 2].into_iter().chain([3; 39])).is_err());
+}
+
+#[test]
+fn tags_have_names_and_classes() {
+    let names = [
+        (0x01, "BOOLEAN"),
+        (0x02, "INTEGER"),
+        (0x03, "BIT STRING"),
+        (0x05, "NULL"),
+        (0x06, "OBJECT IDENTIFIER"),
+        (0x0A, "ENUMERATED"),
+        (0x0C, "UTF8String"),
+        (0x13, "PrintableString"),
+        (0x16, "IA5String"),
+        (0x17, "UTCTime"),
+        (0x18, "GeneralizedTime"),
+        (0x1E, "BMPString"),
+        (0x30, "SEQUENCE"),
+        (0x31, "SET"),
+        (0x41, "APPLICATION [1] (primitive)"),
+        (0x80, "CONTEXT-SPECIFIC [0] (primitive)"),
+        (0xBE, "CONTEXT-SPECIFIC [30] (constructed)"),
+        (0xE2, "PRIVATE [2] (constructed)"),
+    ];
+    for (byte, name) in names {
+        let tag = Tag::try_from(byte).unwrap();
+        assert_eq!(tag.to_string(), name);
+        let classes =
+            [tag.is_universal(), tag.is_application(), tag.is_context_specific(), tag.is_private()];
+        let class = usize::from(byte >> 6);
+        assert_eq!(classes, [class == 0, class == 1, class == 2, class == 3], "{name}");
+        assert_eq!(tag.is_constructed(), byte & 0x20 != 0, "{name}");
+    }
+    assert_eq!(Tag::Null.assert_eq(Tag::Null), Ok(Tag::Null));
+    assert_eq!(Tag::Null.assert_eq(Tag::Set).unwrap_err().kind(), ErrorKind::Tag);
+    assert_eq!(Tag::Null.length_error(), ErrorKind::Length);
+    assert_eq!(Tag::Null.value_error(), ErrorKind::Value);
+}
+
+#[test]
+fn lengths_are_computed() {
+    let (two, three) = (Length::new(2), Length::from(3_u8));
+    assert_eq!((three - two, two + Length::ONE), (Ok(Length::ONE), Ok(three)));
+    assert_eq!((two - three).unwrap_err().kind(), ErrorKind::Overlength);
+    assert_eq!((two.saturating_sub(three), three.saturating_sub(two)), (Length::ZERO, Length::ONE));
+    assert_eq!(Length::from(0xFFFF_u16).saturating_add(Length::ONE), Length::from(0x1_0000_u32));
+    assert_eq!(Length::new(u32::MAX).saturating_add(two), Length::new(u32::MAX));
+    assert_eq!([Length::ZERO, two].map(Length::is_zero), [true, false]);
+}
+
+#[test]
+fn bit_strings_have_lengths() {
+    let bits = BitStringRef::new(3, &[1, 8]).unwrap();
+    assert_eq!((bits.bit_len(), bits.byte_len()), (13, Ok(Length::new(2))));
+    assert!(bits.has_unused_bits() && !bits.is_empty());
+    let none = BitStringRef::from_bytes(&[]).unwrap();
+    assert_eq!((none.bit_len(), none.has_unused_bits(), none.is_empty()), (0, false, true));
+}
+
+#[test]
+fn choices_are_combined() {
+    let [no, yes] = [0, 1].map(subtle::Choice::from);
+    for (a, b) in [(no, no), (no, yes), (yes, no), (yes, yes)] {
+        let (x, y) = (bool::from(a), bool::from(b));
+        assert_eq!([a & b, a | b, a ^ b].map(bool::from), [x & y, x | y, x ^ y]);
+        assert_eq!([!a, a.ct_eq(&b), a.ct_ne(&b)].map(bool::from), [!x, x == y, x != y]);
+        let [mut and, mut or, mut xor] = [a; 3];
+        and &= b;
+        or |= b;
+        xor ^= b;
+        assert_eq!([and, or, xor].map(bool::from), [x & y, x | y, x ^ y]);
+    }
+}
+
+#[test]
+fn arrays_are_made_and_printed() {
+    let array = Array::<u8, U2>::from([7, 0xAB]);
+    assert_eq!(format!("{array:x} {array:X}"), "07ab 07AB");
+    assert_eq!(array.map(|byte| u16::from(byte) * 2), [14, 0x156]);
+    assert_eq!(Array::<u8, U2>::try_from_iter([7, 0xAB]), Ok(array));
+    for len in [0, 1, 3] {
+        assert!(Array::<u8, U2>::try_from_iter(std::iter::repeat_n(7, len)).is_err());
+    }
+    let mut bytes = [1; 32];
+    let borrowed: &mut Array<u8, U32> = (&mut bytes[..]).try_into().unwrap();
+    borrowed[31] = 9;
+    assert_eq!((bytes[30], bytes[31]), (1, 9));
+    assert!(<&mut Array<u8, U32>>::try_from(&mut bytes[1..]).is_err());
+}
+
+/// Compares values that all differ, each with each, and with its clone.
+fn all_differ<T: Clone + PartialEq>(values: &[T]) {
+    for (i, value) in values.iter().enumerate() {
+        assert!(*value == value.clone());
+        for (j, other) in values.iter().enumerate() {
+            assert_eq!(value == other, i == j, "{i}, {j}");
+            assert_eq!(value.clone() == *other, i == j, "{i}, {j}");
+        }
+    }
+}
+
+#[test]
+fn values_that_differ_in_one_part_differ() {
+    let [curve, other] = ["P-256", "P-384"].map(|name| Curve::new(name).unwrap());
+    // The field is as long, or the name as long.
+    let curves = ["P-256", "secp256k1", "brainpoolP256r1", "P-384", "P-521"];
+    all_differ(&curves.map(|name| Curve::new(name).unwrap()));
+    let identifiers = [curve.identifier(), other.identifier(), ALGORITHM_OID];
+    all_differ(&identifiers);
+    all_differ(&identifiers.map(EcParameters::from));
+    let kinds = [ErrorKind::Tag, ErrorKind::Value, ErrorKind::Length];
+    all_differ(&kinds);
+    let [tag, value] = [ErrorKind::Tag, ErrorKind::Value];
+    let errors = [tag.into(), tag.at(Length::ZERO), tag.at(Length::ONE), value.at(Length::ONE)];
+    all_differ::<sec1::der::Error>(&errors);
+    let [a, b] = [tag.at(Length::ZERO), tag.at(Length::ONE)].map(sec1::Error::Asn1);
+    all_differ(&[a, b, sec1::Error::Crypto, sec1::Error::PointEncoding, sec1::Error::Version]);
+    all_differ(&[Tag::Integer, Tag::Set, Tag::Sequence]);
+    all_differ(&[Length::ZERO, Length::ONE, Length::MAX]);
+    let header = |tag, len| Header::new(tag, Length::new(len)).unwrap();
+    all_differ(&[header(Tag::Set, 1), header(Tag::Set, 2), header(Tag::Sequence, 1)]);
+    let any = |tag, bytes| AnyRef::new(tag, bytes).unwrap();
+    all_differ(&[any(Tag::Set, &[1]), any(Tag::Set, &[2]), any(Tag::Sequence, &[1])]);
+    let element = |bytes| Element::read(bytes).unwrap().0;
+    all_differ(&[element(&[4, 1, 1]), element(&[4, 1, 2]), element(&[5, 1, 1])]);
+    let bits = |unused, bytes| BitStringRef::new(unused, bytes).unwrap();
+    all_differ(&[bits(0, &[8]), bits(1, &[8]), bits(0, &[0]), bits(0, &[8, 8])]);
+    let pictures = [&[2, 1, 1], &[2, 1, 2], &[5, 1, 1]];
+    all_differ(&pictures.map(|bytes| sec1::draw(bytes, true)));
+}
+
+#[test]
+fn clones_of_keys_have_all_parts() {
+    let parameters = Some(ALGORITHM_OID.into());
+    let key = EcPrivateKey { private_key: &[9], parameters, public_key: Some(&[2, 8]) };
+    let EcPrivateKey { private_key, parameters, public_key } = key.clone();
+    assert_eq!((private_key, public_key), (key.private_key, key.public_key));
+    assert_eq!(parameters, key.parameters);
+}
+
+#[test]
+fn identifiers_are_ordered_by_their_contents() {
+    // The longer one is less.
+    let [long, short] =
+        [&[0x2A, 3, 4][..], &[0x2B]].map(|it| ObjectIdentifier::from_bytes(it).unwrap());
+    assert!(long < short && short > long && long.cmp(&long).is_eq());
+    assert!(ObjectIdentifier::from_bytes(&[0x2A]).unwrap() < long);
 }

@@ -63,7 +63,19 @@ fn secrets_are_wiped() {
         assert!(SecretDocument::try_from(bytes).is_err());
     };
     assert_eq!(freed(refused), 0);
+    // One that is read from a file, whole, too long or cut.
+    let path = std::env::temp_dir().join(format!("sec1-wiped-{}.der", std::process::id()));
+    let read = |bytes: &[u8]| {
+        std::fs::write(&path, bytes).unwrap();
+        freed(|| drop(SecretDocument::read_der_file(&path)))
+    };
+    let whole = document.as_bytes();
+    assert_eq!(read(whole), 0);
+    assert_eq!(read(&[whole, &[0; 9]].concat()), 0);
+    assert_eq!(read(whole.split_last().unwrap().1), 0);
+    std::fs::remove_file(&path).unwrap();
     // Copies have memory of their own.
+    assert_eq!(freed(|| drop(document.to_bytes())), 0);
     let copy = document.clone();
     // In hexadecimal, so that it is decoded.
     let digits: String = document.as_bytes().iter().map(|byte| format!("{byte:02X}")).collect();

@@ -54,6 +54,47 @@ impl<T: Copy, Size: ArraySize> Array<T, Size> {
         Array(Size::made_by(element))
     }
 
+    /// Returns the array of what an iterator returns.
+    ///
+    /// # Errors
+    ///
+    /// An error if it returns more elements or fewer than the array has.
+    ///
+    /// # Examples
+    ///
+    /// ```
+    /// use sec1::{Array, consts::U2};
+    ///
+    /// assert_eq!(Array::<u8, U2>::try_from_iter(7..9), Ok([7, 8].into()));
+    /// assert!(Array::<u8, U2>::try_from_iter(7..10).is_err());
+    /// assert!(Array::<u8, U2>::try_from_iter(7..8).is_err());
+    /// ```
+    pub fn try_from_iter(iter: impl IntoIterator<Item = T>) -> Result<Self, TryFromIteratorError> {
+        let mut iter = iter.into_iter();
+        let first = iter.next().ok_or(TryFromIteratorError)?;
+        let mut array = Self::from_fn(|_| first);
+        for place in array.iter_mut().skip(1) {
+            *place = iter.next().ok_or(TryFromIteratorError)?;
+        }
+        match iter.next() {
+            None => Ok(array),
+            Some(_) => Err(TryFromIteratorError),
+        }
+    }
+
+    /// Returns the array of what the function returns for each element.
+    ///
+    /// # Examples
+    ///
+    /// ```
+    /// use sec1::{Array, consts::U2};
+    ///
+    /// assert_eq!(Array::<u8, U2>::from([7, 8]).map(u32::from), [7, 8]);
+    /// ```
+    pub fn map<U: Copy>(self, change: impl FnMut(T) -> U) -> Array<U, Size> {
+        Array(Size::mapped(self.0, change))
+    }
+
     /// Borrows the elements.
     ///
     /// # Examples
@@ -199,6 +240,15 @@ impl<T: Copy, Size: ArraySize> TryFrom<&[T]> for Array<T, Size> {
     }
 }
 
+impl<'a, T: Copy, Size: ArraySize> TryFrom<&'a mut [T]> for &'a mut Array<T, Size> {
+    type Error = TryFromSliceError;
+
+    #[inline]
+    fn try_from(slice: &'a mut [T]) -> Result<Self, TryFromSliceError> {
+        Size::borrowed_mut(slice).map(raw::array_mut)
+    }
+}
+
 impl<T: Copy + Default, Size: ArraySize> Default for Array<T, Size> {
     #[inline]
     fn default() -> Self {
@@ -209,6 +259,20 @@ impl<T: Copy + Default, Size: ArraySize> Default for Array<T, Size> {
 impl<T: Copy + fmt::Debug, Size: ArraySize> fmt::Debug for Array<T, Size> {
     fn fmt(&self, f: &mut fmt::Formatter<'_>) -> fmt::Result {
         f.debug_tuple("Array").field(&self.as_slice()).finish()
+    }
+}
+
+/// Two digits a byte.
+impl<Size: ArraySize> fmt::LowerHex for Array<u8, Size> {
+    fn fmt(&self, f: &mut fmt::Formatter<'_>) -> fmt::Result {
+        self.iter().try_for_each(|byte| write!(f, "{byte:02x}"))
+    }
+}
+
+/// Two digits a byte.
+impl<Size: ArraySize> fmt::UpperHex for Array<u8, Size> {
+    fn fmt(&self, f: &mut fmt::Formatter<'_>) -> fmt::Result {
+        self.iter().try_for_each(|byte| write!(f, "{byte:02X}"))
     }
 }
 
@@ -289,5 +353,26 @@ impl<'a, T: Copy, Size: ArraySize> IntoIterator for &'a mut Array<T, Size> {
     #[inline]
     fn into_iter(self) -> slice::IterMut<'a, T> {
         self.iter_mut()
+    }
+}
+
+/// An iterator had another number of elements than the array.
+///
+/// # Examples
+///
+/// ```
+/// use sec1::{Array, consts::U2};
+///
+/// let error = Array::<u8, U2>::try_from_iter([7]).unwrap_err();
+/// assert_eq!(error.to_string(), "the number of elements isn't the size of the array");
+/// ```
+#[derive(Clone, Copy, Debug, Eq, PartialEq)]
+pub struct TryFromIteratorError;
+
+impl core::error::Error for TryFromIteratorError {}
+
+impl fmt::Display for TryFromIteratorError {
+    fn fmt(&self, f: &mut fmt::Formatter<'_>) -> fmt::Result {
+        f.write_str("the number of elements isn't the size of the array")
     }
 }

@@ -1,7 +1,9 @@
-//! Object identifiers (X.690 section 8.19), octet strings, bit strings, and elements with any tag.
+//! Object identifiers (X.690 section 8.19), octet strings, bit strings, numbers, and elements with
+//! any tag.
 
 mod any;
 mod arcs;
+mod integer;
 mod strings;
 
 pub use any::AnyRef;
@@ -83,6 +85,27 @@ impl ObjectIdentifier {
             Some((content, len)) => ObjectIdentifier { content, len },
             None => panic!("not the text of an object identifier"),
         }
+    }
+
+    /// Returns the identifier with these arcs.
+    ///
+    /// # Errors
+    ///
+    /// [`ErrorKind::Value`] if no identifier has them, or its content has more than 39 bytes.
+    ///
+    /// # Examples
+    ///
+    /// ```
+    /// use sec1::ALGORITHM_OID;
+    /// use sec1::der::asn1::ObjectIdentifier;
+    ///
+    /// assert_eq!(ObjectIdentifier::from_arcs([1, 2, 840, 10045, 2, 1]), Ok(ALGORITHM_OID));
+    /// assert!(ObjectIdentifier::from_arcs([1, 40]).is_err());
+    /// ```
+    pub fn from_arcs(arcs: impl IntoIterator<Item = Arc>) -> Result<Self> {
+        let content = arcs::content_of_arcs(arcs.into_iter());
+        let (content, len) = content.ok_or(Error::of_kind(ErrorKind::Value))?;
+        Ok(ObjectIdentifier { content, len })
     }
 
     /// Returns the identifier with this content.

@@ -2,10 +2,15 @@
 
 use super::{Decode, Encode, Error, ErrorKind, Length, Result};
 use crate::raw;
+use crate::zeroize::{Zeroize, Zeroizing};
 use alloc::vec::Vec;
 use core::fmt;
 #[cfg(feature = "std")]
-use std::{fs, io::Write, path::Path};
+use std::{
+    fs,
+    io::{Read, Write},
+    path::Path,
+};
 
 /// The bytes of one element. They are overwritten with zeros when the document is dropped.
 ///
@@ -43,6 +48,22 @@ impl SecretDocument {
     /// ```
     pub fn as_bytes(&self) -> &[u8] {
         &self.bytes
+    }
+
+    /// Returns a copy of the bytes, which is overwritten with zeros when it is dropped. The process
+    /// ends if there is no memory for it.
+    ///
+    /// # Examples
+    ///
+    /// ```
+    /// use sec1::der::SecretDocument;
+    ///
+    /// let document = SecretDocument::try_from(&[0x30, 6, 2, 1, 1, 4, 1, 9][..])?;
+    /// assert_eq!(*document.to_bytes(), document.as_bytes());
+    /// # Ok::<(), sec1::der::Error>(())
+    /// ```
+    pub fn to_bytes(&self) -> Zeroizing<Vec<u8>> {
+        Zeroizing::new(self.bytes.clone())
     }
 
     /// Returns the number of bytes.
@@ -115,12 +136,13 @@ impl SecretDocument {
         T::from_der(self.as_bytes())
     }
 
-    /// Reads a document from a file.
+    /// Reads a document from a file. The header is read first, and at most one byte more than it
+    /// announces.
     ///
     /// # Errors
     ///
-    /// [`ErrorKind::Io`] if the file can't be read, and those of `try_from` if it isn't one
-    /// element.
+    /// [`ErrorKind::Io`] if the file can't be read, [`ErrorKind::Memory`] if there is no memory,
+    /// and those of `try_from` if it isn't one element.
     ///
     /// # Examples
     ///
@@ -136,7 +158,26 @@ impl SecretDocument {
     /// ```
     #[cfg(feature = "std")]
     pub fn read_der_file(path: impl AsRef<Path>) -> Result<Self> {
-        Self::try_from(fs::read(path)?)
+        let mut file = fs::File::open(path)?;
+        let mut document = SecretDocument { bytes: Vec::new(), len: Length::ZERO };
+        document.fill(&mut file, LONGEST_HEADER)?;
+        let more = announced(&document.bytes).saturating_sub(document.bytes.len());
+        document.fill(&mut file, more.saturating_add(1))?;
+        document.len = raw::document_len(&document.bytes).map_err(Error::of)?.try_into()?;
+        Ok(document)
+    }
+
+    /// Appends at most so many bytes of a file. A vector that is left for a longer one is wiped.
+    #[cfg(feature = "std")]
+    fn fill(&mut self, file: &mut fs::File, len: usize) -> Result<()> {
+        let mut longer = Vec::new();
+        let room = self.bytes.len().saturating_add(len);
+        longer.try_reserve_exact(room).map_err(|_| Error::of_kind(ErrorKind::Memory))?;
+        longer.extend_from_slice(&self.bytes);
+        self.bytes.zeroize();
+        self.bytes = longer;
+        file.take(len.try_into().unwrap_or(u64::MAX)).read_to_end(&mut self.bytes)?;
+        Ok(())
     }
 
     /// Writes the document to a file. A new file can be read and written only by its owner; an
@@ -198,15 +239,36 @@ impl AsRef<[u8]> for SecretDocument {
 
 impl Drop for SecretDocument {
     fn drop(&mut self) {
-        // The vector may have held more bytes before than it does now.
-        let capacity = self.bytes.capacity();
-        self.bytes.resize(capacity, 0);
-        raw::wipe(&mut self.bytes);
+        self.bytes.zeroize();
     }
 }
 
 impl fmt::Debug for SecretDocument {
     fn fmt(&self, f: &mut fmt::Formatter<'_>) -> fmt::Result {
         f.debug_struct("SecretDocument").finish_non_exhaustive()
+    }
+}
+
+/// The length of the longest header that the library reads, in bytes.
+#[cfg(feature = "std")]
+const LONGEST_HEADER: usize = 6;
+
+/// Returns the length of the element that begins with these bytes, as its header announces it
+/// (X.690 section 8.1.3), or 0 if the library refuses the header.
+#[cfg(feature = "std")]
+fn announced(bytes: &[u8]) -> usize {
+    let (octets, len) = match bytes {
+        [_, len @ ..0x80, ..] => (0, usize::from(*len)),
+        [_, first, rest @ ..] => {
+            let octets = usize::from(first & 0x7F);
+            let number =
+                |octets: &[u8]| octets.iter().fold(0, |n, byte| n << 8 | usize::from(*byte));
+            (octets, rest.get(..octets).filter(|_| octets <= 4).map_or(0, number))
+        }
+        _ => return 0,
+    };
+    match len <= 0x0FFF_FFFF {
+        true => len.saturating_add(octets).saturating_add(2),
+        false => 0,
     }
 }

@@ -163,6 +163,21 @@ impl fmt::Display for Error {
     }
 }
 
+impl ErrorKind {
+    /// Returns the error of this kind, at this offset in the bytes.
+    ///
+    /// # Examples
+    ///
+    /// ```
+    /// use sec1::der::{ErrorKind, Length};
+    ///
+    /// assert_eq!(ErrorKind::Value.at(Length::ONE).position(), Some(Length::ONE));
+    /// ```
+    pub const fn at(self, position: Length) -> Error {
+        Error::new(self, position)
+    }
+}
+
 impl fmt::Display for ErrorKind {
     fn fmt(&self, f: &mut fmt::Formatter<'_>) -> fmt::Result {
         if let Some((number, _)) = STATUSES.iter().find(|(_, kind)| kind == self) {

@@ -2,6 +2,7 @@
 
 use super::{Error, ErrorKind, Length, Reader, Result, Writer};
 use crate::raw;
+use core::fmt;
 
 /// The tag of an element (X.690 section 8.1.2), which is one byte.
 ///
@@ -19,23 +20,212 @@ use crate::raw;
 #[derive(Clone, Copy, Debug, Eq, Hash, Ord, PartialEq, PartialOrd)]
 pub struct Tag(u8);
 
-// The names of the crate `der`, where tags are an enum.
-#[allow(non_upper_case_globals)]
 impl Tag {
-    /// INTEGER.
-    pub const Integer: Tag = Tag(0x02);
-    /// BIT STRING.
-    pub const BitString: Tag = Tag(0x03);
-    /// OCTET STRING.
-    pub const OctetString: Tag = Tag(0x04);
-    /// OBJECT IDENTIFIER.
-    pub const ObjectIdentifier: Tag = Tag(0x06);
-    /// SEQUENCE.
-    pub const Sequence: Tag = Tag(0x30);
-
     /// Returns the tag of an element that the library has accepted.
     pub(super) const fn accepted(byte: u8) -> Tag {
         Tag(byte)
+    }
+
+    /// Returns `true` if the content consists of elements (X.690 section 8.1.2.5).
+    ///
+    /// # Examples
+    ///
+    /// ```
+    /// use sec1::der::Tag;
+    ///
+    /// assert!(Tag::Sequence.is_constructed() && !Tag::Integer.is_constructed());
+    /// ```
+    pub const fn is_constructed(self) -> bool {
+        self.0 & 0x20 != 0
+    }
+
+    /// Returns `true` if the class is universal (X.690 section 8.1.2.2).
+    ///
+    /// # Examples
+    ///
+    /// ```
+    /// use sec1::der::Tag;
+    ///
+    /// assert!(Tag::Set.is_universal());
+    /// ```
+    pub const fn is_universal(self) -> bool {
+        self.0 >> 6 == 0
+    }
+
+    /// Returns `true` if the class is application.
+    ///
+    /// # Examples
+    ///
+    /// ```
+    /// use sec1::der::Tag;
+    ///
+    /// assert!(Tag::try_from(0x41)?.is_application());
+    /// # Ok::<(), sec1::der::Error>(())
+    /// ```
+    pub const fn is_application(self) -> bool {
+        self.0 >> 6 == 1
+    }
+
+    /// Returns `true` if the class is context-specific.
+    ///
+    /// # Examples
+    ///
+    /// ```
+    /// use sec1::der::Tag;
+    ///
+    /// assert!(Tag::try_from(0xA0)?.is_context_specific());
+    /// # Ok::<(), sec1::der::Error>(())
+    /// ```
+    pub const fn is_context_specific(self) -> bool {
+        self.0 >> 6 == 2
+    }
+
+    /// Returns `true` if the class is private.
+    ///
+    /// # Examples
+    ///
+    /// ```
+    /// use sec1::der::Tag;
+    ///
+    /// assert!(Tag::try_from(0xC1)?.is_private());
+    /// # Ok::<(), sec1::der::Error>(())
+    /// ```
+    pub const fn is_private(self) -> bool {
+        self.0 >> 6 == 3
+    }
+
+    /// Returns the tag if it is this one.
+    ///
+    /// # Errors
+    ///
+    /// [`ErrorKind::Tag`] if it is another one.
+    ///
+    /// # Examples
+    ///
+    /// ```
+    /// use sec1::der::Tag;
+    ///
+    /// assert!(Tag::Null.assert_eq(Tag::Null).is_ok());
+    /// assert!(Tag::Null.assert_eq(Tag::Set).is_err());
+    /// ```
+    pub fn assert_eq(self, expected: Tag) -> Result<Tag> {
+        match self == expected {
+            true => Ok(self),
+            false => Err(self.unexpected_error(Some(expected)).into()),
+        }
+    }
+
+    /// Returns the kind of error of a tag that isn't the expected one.
+    ///
+    /// # Examples
+    ///
+    /// ```
+    /// use sec1::der::{ErrorKind, Tag};
+    ///
+    /// assert_eq!(Tag::Null.unexpected_error(None), ErrorKind::Tag);
+    /// ```
+    pub const fn unexpected_error(self, _expected: Option<Tag>) -> ErrorKind {
+        ErrorKind::Tag
+    }
+
+    /// Returns the kind of error of a length that isn't valid for this tag.
+    ///
+    /// # Examples
+    ///
+    /// ```
+    /// use sec1::der::{ErrorKind, Tag};
+    ///
+    /// assert_eq!(Tag::Null.length_error(), ErrorKind::Length);
+    /// ```
+    pub const fn length_error(self) -> ErrorKind {
+        ErrorKind::Length
+    }
+
+    /// Returns the kind of error of a content that isn't valid for this tag.
+    ///
+    /// # Examples
+    ///
+    /// ```
+    /// use sec1::der::{Reader, SliceReader, Tag};
+    ///
+    /// let error = SliceReader::new(&[2, 1, 0])?.error(Tag::Integer.value_error());
+    /// assert_eq!(error.to_string(), "content not valid for its tag at DER byte 0");
+    /// # Ok::<(), sec1::der::Error>(())
+    /// ```
+    pub const fn value_error(self) -> ErrorKind {
+        ErrorKind::Value
+    }
+}
+
+macro_rules! universal_tags {
+    ($($name:ident $byte:literal $text:literal)*) => {
+        // The names of the crate `der`, where tags are an enum.
+        #[allow(non_upper_case_globals)]
+        impl Tag {
+            $(
+                #[doc = concat!($text, ".")]
+                pub const $name: Tag = Tag($byte);
+            )*
+
+            /// Returns the name of the type with this tag, if it is universal and has one.
+            fn name(self) -> Option<&'static str> {
+                match self.0 {
+                    $($byte => Some($text),)*
+                    _ => None,
+                }
+            }
+        }
+    };
+}
+
+universal_tags! {
+    Boolean 0x01 "BOOLEAN"
+    Integer 0x02 "INTEGER"
+    BitString 0x03 "BIT STRING"
+    OctetString 0x04 "OCTET STRING"
+    Null 0x05 "NULL"
+    ObjectIdentifier 0x06 "OBJECT IDENTIFIER"
+    Real 0x09 "REAL"
+    Enumerated 0x0A "ENUMERATED"
+    Utf8String 0x0C "UTF8String"
+    NumericString 0x12 "NumericString"
+    PrintableString 0x13 "PrintableString"
+    TeletexString 0x14 "TeletexString"
+    VideotexString 0x15 "VideotexString"
+    Ia5String 0x16 "IA5String"
+    UtcTime 0x17 "UTCTime"
+    GeneralizedTime 0x18 "GeneralizedTime"
+    VisibleString 0x1A "VisibleString"
+    GeneralString 0x1B "GeneralString"
+    BmpString 0x1E "BMPString"
+    Sequence 0x30 "SEQUENCE"
+    Set 0x31 "SET"
+}
+
+/// The name of a universal type, or the class and the number.
+///
+/// # Examples
+///
+/// ```
+/// use sec1::der::Tag;
+///
+/// assert_eq!(Tag::OctetString.to_string(), "OCTET STRING");
+/// assert_eq!(Tag::try_from(0xA1)?.to_string(), "CONTEXT-SPECIFIC [1] (constructed)");
+/// # Ok::<(), sec1::der::Error>(())
+/// ```
+impl fmt::Display for Tag {
+    fn fmt(&self, f: &mut fmt::Formatter<'_>) -> fmt::Result {
+        if let Some(name) = self.name() {
+            return f.write_str(name);
+        }
+        let class = match self.0 >> 6 {
+            0 => "UNIVERSAL",
+            1 => "APPLICATION",
+            2 => "CONTEXT-SPECIFIC",
+            _ => "PRIVATE",
+        };
+        let form = if self.is_constructed() { "constructed" } else { "primitive" };
+        write!(f, "{class} [{}] ({form})", self.0 & 0x1F)
     }
 }
 
@@ -91,7 +281,7 @@ impl Header {
     ///
     /// let header = Header::new(Tag::OctetString, Length::ONE)?;
     /// assert_eq!((header.tag(), header.length()), (Tag::OctetString, Length::ONE));
-    /// assert!(Header::new(Tag::OctetString, Length::try_from(1 << 28)?).is_err());
+    /// assert!(Header::new(Tag::OctetString, Length::new(1 << 28)).is_err());
     /// # Ok::<(), sec1::der::Error>(())
     /// ```
     pub fn new(tag: Tag, length: Length) -> Result<Header> {

@@ -1,14 +1,21 @@
 //! Readers over slices.
 
-use super::{Decode, Error, ErrorKind, Length, Result};
+use super::{Decode, Error, ErrorKind, Header, Length, Result, Tag};
 
 mod sealed {
+    use super::{Length, Result};
+
     /// What this crate needs of a reader.
-    pub trait Input<'r> {
+    pub trait Input<'r>: Sized {
         /// Borrows all of the bytes, including those that were read.
         fn input(&self) -> &'r [u8];
+
+        /// Returns a reader at the same position, whose bytes end after so many more.
+        fn to_content(&self, len: Length) -> Result<Self>;
     }
 }
+
+pub(super) use sealed::Input;
 
 /// A position in some bytes. Only [`SliceReader`] implements it.
 ///
@@ -26,7 +33,7 @@ mod sealed {
 /// assert_eq!((identifier.to_string().as_str(), key.private_key), ("1.2", &[9][..]));
 /// # Ok::<(), sec1::der::Error>(())
 /// ```
-pub trait Reader<'r>: Clone + sealed::Input<'r> {
+pub trait Reader<'r>: Clone + Input<'r> {
     /// Returns the number of all bytes.
     ///
     /// # Examples
@@ -76,7 +83,7 @@ pub trait Reader<'r>: Clone + sealed::Input<'r> {
     /// # Ok::<(), sec1::der::Error>(())
     /// ```
     fn is_finished(&self) -> bool {
-        self.remaining_len() == Length::default()
+        self.remaining_len().is_zero()
     }
 
     /// Reads and borrows this number of bytes.
@@ -96,6 +103,176 @@ pub trait Reader<'r>: Clone + sealed::Input<'r> {
     /// # Ok::<(), sec1::der::Error>(())
     /// ```
     fn read_slice(&mut self, len: Length) -> Result<&'r [u8]>;
+
+    /// Returns the error of this kind at the position of the reader.
+    ///
+    /// # Examples
+    ///
+    /// ```
+    /// use sec1::der::{ErrorKind, Reader, SliceReader};
+    ///
+    /// let mut reader = SliceReader::new(&[5, 0])?;
+    /// reader.read_byte()?;
+    /// let error = reader.error(ErrorKind::Value);
+    /// assert_eq!(error.position().map(u32::from), Some(1));
+    /// # Ok::<(), sec1::der::Error>(())
+    /// ```
+    fn error(&mut self, kind: ErrorKind) -> Error {
+        kind.at(self.position())
+    }
+
+    /// Returns the next byte, if there is one, and doesn't read it.
+    ///
+    /// # Examples
+    ///
+    /// ```
+    /// use sec1::der::{Reader, SliceReader};
+    ///
+    /// assert_eq!(SliceReader::new(&[5, 0])?.peek_byte(), Some(5));
+    /// assert_eq!(SliceReader::new(&[])?.peek_byte(), None);
+    /// # Ok::<(), sec1::der::Error>(())
+    /// ```
+    fn peek_byte(&self) -> Option<u8> {
+        self.clone().read_byte().ok()
+    }
+
+    /// Returns the tag of the next element, and doesn't read it.
+    ///
+    /// # Errors
+    ///
+    /// [`ErrorKind::Truncated`] if no bytes are left, and [`ErrorKind::Tag`] if no element has this
+    /// tag.
+    ///
+    /// # Examples
+    ///
+    /// ```
+    /// use sec1::der::{Reader, SliceReader, Tag};
+    ///
+    /// assert_eq!(SliceReader::new(&[5, 0])?.peek_tag(), Ok(Tag::Null));
+    /// # Ok::<(), sec1::der::Error>(())
+    /// ```
+    fn peek_tag(&self) -> Result<Tag> {
+        self.peek_byte().ok_or(ErrorKind::Truncated.at(self.position()))?.try_into()
+    }
+
+    /// Reads one byte.
+    ///
+    /// # Errors
+    ///
+    /// [`ErrorKind::Truncated`] if there is none.
+    ///
+    /// # Examples
+    ///
+    /// ```
+    /// use sec1::der::{Reader, SliceReader};
+    ///
+    /// assert_eq!(SliceReader::new(&[5, 0])?.read_byte(), Ok(5));
+    /// # Ok::<(), sec1::der::Error>(())
+    /// ```
+    fn read_byte(&mut self) -> Result<u8> {
+        let byte = self.read_slice(Length::ONE)?;
+        byte.first().copied().ok_or(Error::of_kind(ErrorKind::Failed))
+    }
+
+    /// Fills a slice with the next bytes, and returns it.
+    ///
+    /// # Errors
+    ///
+    /// Those of [`read_slice`](Self::read_slice).
+    ///
+    /// # Examples
+    ///
+    /// ```
+    /// use sec1::der::{Reader, SliceReader};
+    ///
+    /// assert_eq!(SliceReader::new(&[5, 0, 7])?.read_into(&mut [0; 2])?, [5, 0]);
+    /// # Ok::<(), sec1::der::Error>(())
+    /// ```
+    fn read_into<'o>(&mut self, buf: &'o mut [u8]) -> Result<&'o [u8]> {
+        buf.copy_from_slice(self.read_slice(buf.len().try_into()?)?);
+        Ok(buf)
+    }
+
+    /// Reads and borrows the next element, with its header.
+    ///
+    /// # Errors
+    ///
+    /// Those of [`Header::decode`]. On an error the reader is unchanged.
+    ///
+    /// # Examples
+    ///
+    /// ```
+    /// use sec1::der::{Reader, SliceReader};
+    ///
+    /// assert_eq!(SliceReader::new(&[4, 1, 9, 5, 0])?.tlv_bytes()?, [4, 1, 9]);
+    /// # Ok::<(), sec1::der::Error>(())
+    /// ```
+    fn tlv_bytes(&mut self) -> Result<&'r [u8]> {
+        let mut ahead = self.clone();
+        let header = Header::decode(&mut ahead)?;
+        let bytes = header.element(&mut ahead)?;
+        *self = ahead;
+        Ok(bytes)
+    }
+
+    /// Reads this number of bytes by a function, whose reader ends after them.
+    ///
+    /// # Errors
+    ///
+    /// [`ErrorKind::Truncated`] if there are fewer, those of the function, and
+    /// [`ErrorKind::TrailingData`] if it leaves some of them. On an error the reader is unchanged.
+    ///
+    /// # Examples
+    ///
+    /// ```
+    /// use sec1::der::{Error, Length, Reader, SliceReader};
+    ///
+    /// let mut reader = SliceReader::new(&[5, 0, 7])?;
+    /// assert_eq!(reader.read_nested(Length::ONE, |reader| reader.read_byte())?, 5);
+    /// assert!(reader.read_nested(Length::new(2), |reader| reader.read_byte()).is_err());
+    /// # Ok::<(), Error>(())
+    /// ```
+    fn read_nested<T, F, E>(&mut self, len: Length, f: F) -> Result<T, E>
+    where
+        F: FnOnce(&mut Self) -> Result<T, E>,
+        E: From<Error>,
+    {
+        let mut content = self.to_content(len)?;
+        let value = f(&mut content)?;
+        content.finish()?;
+        self.read_slice(len)?;
+        Ok(value)
+    }
+
+    /// Reads the content of the next element, a SEQUENCE, by a function.
+    ///
+    /// # Errors
+    ///
+    /// Those of [`Header::decode`] and of [`read_nested`](Self::read_nested), and
+    /// [`ErrorKind::Tag`] if the element isn't a SEQUENCE. On an error the reader is unchanged.
+    ///
+    /// # Examples
+    ///
+    /// ```
+    /// use sec1::der::{Error, Reader, SliceReader, asn1::ObjectIdentifier};
+    ///
+    /// let mut reader = SliceReader::new(&[0x30, 3, 6, 1, 0x2A])?;
+    /// let identifier = reader.sequence(|reader| reader.decode::<ObjectIdentifier>())?;
+    /// assert_eq!(identifier.to_string(), "1.2");
+    /// # Ok::<(), Error>(())
+    /// ```
+    fn sequence<F, T, E>(&mut self, f: F) -> Result<T, E>
+    where
+        F: FnOnce(&mut Self) -> Result<T, E>,
+        E: From<Error>,
+    {
+        let mut ahead = self.clone();
+        let header = Header::decode(&mut ahead)?;
+        header.tag().assert_eq(Tag::Sequence).map_err(|_| self.error(ErrorKind::Tag))?;
+        let value = ahead.read_nested(header.length(), f)?;
+        *self = ahead;
+        Ok(value)
+    }
 
     /// Reads a value from the next element.
     ///
@@ -178,20 +355,19 @@ impl<'r> SliceReader<'r> {
     pub fn new(input: &'r [u8]) -> Result<Self> {
         Ok(SliceReader { input, len: input.len().try_into()?, position: Length::default() })
     }
+}
 
-    /// Returns a reader at the same position, whose bytes end after so many more.
-    pub(super) fn to_content(&self, len: Length) -> Result<Self> {
+impl<'r> Input<'r> for SliceReader<'r> {
+    #[inline]
+    fn input(&self) -> &'r [u8] {
+        self.input
+    }
+
+    fn to_content(&self, len: Length) -> Result<Self> {
         let end = self.position.plus(len)?;
         let input = self.input.get(..usize::try_from(end)?);
         let input = input.ok_or(Error::of_kind(ErrorKind::Truncated))?;
         Ok(SliceReader { input, len: end, position: self.position })
-    }
-}
-
-impl<'r> sealed::Input<'r> for SliceReader<'r> {
-    #[inline]
-    fn input(&self) -> &'r [u8] {
-        self.input
     }
 }
 
@@ -205,14 +381,14 @@ impl<'r> Reader<'r> for SliceReader<'r> {
     }
 
     fn remaining_len(&self) -> Length {
-        Length(self.len.0.saturating_sub(self.position.0))
+        self.len.saturating_sub(self.position)
     }
 
     fn read_slice(&mut self, len: Length) -> Result<&'r [u8]> {
         let (start, count) = (usize::try_from(self.position)?, usize::try_from(len)?);
         let next = self.input.get(start..).and_then(|rest| rest.get(..count));
         let bytes = next.ok_or(Error::of_kind(ErrorKind::Truncated))?;
-        self.position = Length(self.position.0.saturating_add(len.0));
+        self.position = self.position.saturating_add(len);
         Ok(bytes)
     }
 }

@@ -1,5 +1,6 @@
 //! The contents of elements.
 
+use super::reader::Input;
 use super::{
     Error, ErrorKind, Header, Length, Reader, Result, SliceReader, SliceWriter, Tag, Writer,
 };

@@ -1,8 +1,8 @@
 //! Elements with any tag.
 
 use super::super::{
-    Decode, DecodeValue, Element, EncodeValue, Error, ErrorKind, FixedTag, Header, Length, Reader,
-    Result, Tag, Tagged, Writer,
+    Choice, Decode, DecodeValue, Element, EncodeValue, Error, ErrorKind, FixedTag, Header, Length,
+    Reader, Result, SliceReader, Tag, Tagged, Writer,
 };
 use super::ObjectIdentifier;
 use crate::{EcParameters, raw};
@@ -73,6 +73,39 @@ impl<'a> AnyRef<'a> {
     /// ```
     pub fn value(self) -> &'a [u8] {
         self.value
+    }
+
+    /// Reads a value from the content.
+    ///
+    /// A private key isn't read so, since its own header has to stand before its content: use
+    /// [`Decode::from_der`] on the bytes of the element.
+    ///
+    /// # Errors
+    ///
+    /// [`ErrorKind::Tag`] if elements of the type have another tag, those of
+    /// [`DecodeValue::decode_value`], and [`ErrorKind::TrailingData`] if it leaves bytes.
+    ///
+    /// # Examples
+    ///
+    /// ```
+    /// use sec1::der::{Tag, asn1::{AnyRef, ObjectIdentifier}};
+    ///
+    /// let any = AnyRef::new(Tag::ObjectIdentifier, &[0x2A])?;
+    /// assert_eq!(any.decode_as::<ObjectIdentifier>()?.to_string(), "1.2");
+    /// # Ok::<(), sec1::der::Error>(())
+    /// ```
+    pub fn decode_as<T>(self) -> Result<T, <T as DecodeValue<'a>>::Error>
+    where
+        T: Choice<'a> + DecodeValue<'a>,
+    {
+        if !T::can_decode(self.tag) {
+            return Err(Error::of_kind(ErrorKind::Tag).into());
+        }
+        let mut reader = SliceReader::new(self.value)?;
+        let header = Header::new(self.tag, self.value.len().try_into()?)?;
+        let value = T::decode_value(&mut reader, header)?;
+        reader.finish()?;
+        Ok(value)
     }
 }
 

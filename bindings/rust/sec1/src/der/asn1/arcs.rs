@@ -82,11 +82,7 @@ type Content = ([u8; CONTENT_MAX], u8);
 pub(super) const fn content_of(text: &[u8]) -> Option<Content> {
     let Some((first, Some(text))) = next_arc(text) else { return None };
     let Some((second, mut rest)) = next_arc(text) else { return None };
-    if first > 2 || (first < 2 && second > 39) {
-        return None;
-    }
-    let Some(number) = second.checked_add(first.wrapping_mul(40)) else { return None };
-    let Some(mut content) = push(([0; CONTENT_MAX], 0), number) else { return None };
+    let Some(mut content) = begin(first, second) else { return None };
     while let Some(text) = rest {
         let Some((arc, after)) = next_arc(text) else { return None };
         match push(content, arc) {
@@ -96,6 +92,23 @@ pub(super) const fn content_of(text: &[u8]) -> Option<Content> {
         rest = after;
     }
     Some(content)
+}
+
+/// Returns the content of the identifier with these arcs, if it is one's that the library accepts.
+pub(super) fn content_of_arcs(mut arcs: impl Iterator<Item = Arc>) -> Option<Content> {
+    let content = begin(arcs.next()?, arcs.next()?)?;
+    arcs.try_fold(content, push)
+}
+
+/// Returns the content of the first two arcs, which are one subidentifier (X.690 section 8.19.4).
+const fn begin(first: Arc, second: Arc) -> Option<Content> {
+    if first > 2 || (first < 2 && second > 39) {
+        return None;
+    }
+    match second.checked_add(first.wrapping_mul(40)) {
+        Some(number) => push(([0; CONTENT_MAX], 0), number),
+        None => None,
+    }
 }
 
 /// Returns the number at the beginning of a text, and the text after its full stop if it has one.

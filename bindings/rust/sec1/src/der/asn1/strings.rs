@@ -197,6 +197,62 @@ impl<'a> BitStringRef<'a> {
         self.unused_bits
     }
 
+    /// Returns `true` if bits of the last byte aren't there.
+    ///
+    /// # Examples
+    ///
+    /// ```
+    /// use sec1::der::asn1::BitStringRef;
+    ///
+    /// assert!(BitStringRef::new(1, &[2])?.has_unused_bits());
+    /// # Ok::<(), sec1::der::Error>(())
+    /// ```
+    pub fn has_unused_bits(&self) -> bool {
+        self.unused_bits != 0
+    }
+
+    /// Returns the number of bits.
+    ///
+    /// # Examples
+    ///
+    /// ```
+    /// use sec1::der::asn1::BitStringRef;
+    ///
+    /// assert_eq!(BitStringRef::new(1, &[9, 2])?.bit_len(), 15);
+    /// # Ok::<(), sec1::der::Error>(())
+    /// ```
+    pub fn bit_len(&self) -> usize {
+        self.bytes.len().saturating_mul(8).saturating_sub(self.unused_bits.into())
+    }
+
+    /// Returns the number of bytes.
+    ///
+    /// # Examples
+    ///
+    /// ```
+    /// use sec1::der::asn1::BitStringRef;
+    ///
+    /// assert_eq!(BitStringRef::new(1, &[9, 2])?.byte_len().map(u32::from), Ok(2));
+    /// # Ok::<(), sec1::der::Error>(())
+    /// ```
+    pub fn byte_len(&self) -> Result<Length> {
+        self.bytes.len().try_into()
+    }
+
+    /// Returns `true` if there are no bytes.
+    ///
+    /// # Examples
+    ///
+    /// ```
+    /// use sec1::der::asn1::BitStringRef;
+    ///
+    /// assert!(BitStringRef::from_bytes(&[])?.is_empty());
+    /// # Ok::<(), sec1::der::Error>(())
+    /// ```
+    pub fn is_empty(&self) -> bool {
+        self.bytes.is_empty()
+    }
+
     /// Borrows the bytes, if all of their bits are there.
     ///
     /// # Examples
