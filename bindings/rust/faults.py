@@ -265,6 +265,19 @@ FAULTS = [
     ("private_key.rs", "#[derive(Clone)]", "impl Clone for EcPrivateKey<'_> {\n    fn clone(&self) -> Self {\n        EcPrivateKey { private_key: self.private_key, parameters: None, public_key: self.public_key }\n    }\n}\n"),
     ("picture.rs", "#[derive(Clone, Debug, Eq, PartialEq)]", "impl PartialEq for Picture {\n    fn eq(&self, other: &Self) -> bool {\n        self.text.len() == other.text.len()\n    }\n}\n#[derive(Clone, Debug)]"),
     ("curve.rs", "#[derive(Clone, Copy, Eq, Hash, PartialEq)]", "impl PartialEq for Curve {\n    fn eq(&self, other: &Self) -> bool {\n        self.field_len() == other.field_len()\n    }\n}\n#[derive(Clone, Copy)]"),
+    ("written.rs", "buf.get(..len).ok_or(", "buf.get(1..len).ok_or("),
+    ("written.rs", "Err((status, _)) => return Err(error_of(status)),", "Err((_, len)) => len,"),
+    ("public_key.rs", "parts.public_key).map_err", "parts.curve).map_err"),
+    ("public_key.rs", "true => Error::PointEncoding,\n        false => error", "true => error.into(),\n        false => error"),
+    ("public_key.rs", "field_len() == Size::USIZE", "field_len() <= Size::USIZE"),
+    ("signature.rs", "raw::part(bytes, parts.s)", "raw::part(bytes, parts.r)"),
+    ("signature.rs", "Error::at(status, at)", "{ let _ = at; Error::of(status) }"),
+    ("signature.rs", "while let [0, rest @ ..] = bytes", "if let [0, rest @ ..] = bytes"),
+    ("signature.rs", " && number(self.s) == number(other.s)", ""),
+    ("private_key.rs", "raw::container_check(bytes).map_err(|(status, offset)| der::Error::at(status, offset))?;", ""),
+    ("raw.rs", "sec1_public_key_fault_at(bytes.as_ptr()", "sec1_signature_fault_at(bytes.as_ptr()"),
+    ("raw.rs", "sec1_private_key_info_fault_at(bytes.as_ptr()", "sec1_private_key_fault_at(bytes.as_ptr()"),
+    ("raw.rs", "s.as_ptr(),\n            s.len(),", "r.as_ptr(),\n            r.len(),"),
 ]
 
 

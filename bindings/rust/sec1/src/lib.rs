@@ -31,9 +31,12 @@ mod parameters;
 #[cfg(feature = "alloc")]
 mod picture;
 mod private_key;
+mod public_key;
 #[allow(unsafe_code)]
 mod raw;
+mod signature;
 mod traits;
+mod written;
 
 pub use crate::certificate::certificate_public_key;
 pub use crate::consts::Array;
@@ -44,6 +47,8 @@ pub use crate::parameters::EcParameters;
 pub use crate::picture::{Picture, draw};
 pub use crate::point::EncodedPoint;
 pub use crate::private_key::EcPrivateKey;
+pub use crate::public_key::EcPublicKey;
+pub use crate::signature::Signature;
 pub use crate::traits::DecodeEcPrivateKey;
 #[cfg(feature = "alloc")]
 pub use crate::traits::EncodeEcPrivateKey;

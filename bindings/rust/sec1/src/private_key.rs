@@ -9,7 +9,7 @@ use crate::der::{Element, EncodeValue, Sequence, Writer, content_len_of};
 #[cfg(not(feature = "alloc"))]
 use crate::der::{Encode, FixedTag, Tag};
 use crate::raw::{self, Fields, KeyParts, Status};
-use crate::{EcParameters, Error, Result};
+use crate::{EcParameters, Error, Result, written};
 use core::fmt;
 
 /// A private key (RFC 5915 section 3), whose parts are borrowed. Its `Debug` leaves the private key
@@ -147,6 +147,81 @@ impl<'a> EcPrivateKey<'a> {
     /// ```
     pub fn from_der_or_pkcs8(bytes: &'a [u8]) -> der::Result<Self> {
         Self::of_parts(bytes, raw::private_key_read(bytes))
+    }
+
+    /// Reads a key in its container of version 0 or 1 (PKCS #8, RFC 5958 section 2), whose curve it
+    /// has then.
+    ///
+    /// # Errors
+    ///
+    /// Those of [`from_der_or_pkcs8`](Self::from_der_or_pkcs8) for a container.
+    ///
+    /// # Examples
+    ///
+    /// ```
+    /// use sec1::EcPrivateKey;
+    ///
+    /// let container = b"\x30\x22\x02\x01\x00\x30\x13\x06\x07\x2A\x86\x48\xCE\x3D\x02\x01\
+    ///     \x06\x08\x2A\x86\x48\xCE\x3D\x03\x01\x07\x04\x08\x30\x06\x02\x01\x01\x04\x01\x09";
+    /// assert_eq!(EcPrivateKey::from_pkcs8_der(container)?.private_key, [9]);
+    /// assert!(EcPrivateKey::from_pkcs8_der(&[0x30, 6, 2, 1, 1, 4, 1, 9]).is_err());
+    /// # Ok::<(), sec1::der::Error>(())
+    /// ```
+    pub fn from_pkcs8_der(bytes: &'a [u8]) -> der::Result<Self> {
+        raw::container_check(bytes).map_err(|(status, offset)| der::Error::at(status, offset))?;
+        Self::from_der_or_pkcs8(bytes)
+    }
+
+    /// Writes the container at the beginning of a slice, and returns what was written: a
+    /// PrivateKeyInfo of version 0, without attributes. The key in it doesn't name the curve again.
+    ///
+    /// # Errors
+    ///
+    /// [`ErrorKind::Curve`] if no curve of the table has the identifier, or there is none;
+    /// [`ErrorKind::Overlength`] if the key is too long to be encoded; [`ErrorKind::Buffer`] if the
+    /// slice is too short.
+    ///
+    /// # Examples
+    ///
+    /// ```
+    /// use sec1::{Curve, EcPrivateKey};
+    ///
+    /// let parameters = Some(Curve::new("P-256")?.into());
+    /// let key = EcPrivateKey { private_key: &[9], parameters, public_key: None };
+    /// let mut room = [0; 40];
+    /// let container = key.write_pkcs8_der(&mut room)?;
+    /// assert_eq!(container.len(), 36);
+    /// assert_eq!(EcPrivateKey::from_pkcs8_der(container)?.private_key, [9]);
+    /// # Ok::<(), sec1::der::Error>(())
+    /// ```
+    pub fn write_pkcs8_der<'b>(&self, buf: &'b mut [u8]) -> der::Result<&'b [u8]> {
+        self.with_fields(|fields| {
+            written::into_slice(buf, |out| raw::container_write(fields, out), der::Error::of)
+        })
+    }
+
+    /// Returns the container, as [`write_pkcs8_der`](Self::write_pkcs8_der) writes it.
+    ///
+    /// # Errors
+    ///
+    /// [`ErrorKind::Curve`] and [`ErrorKind::Overlength`], as there, and [`ErrorKind::Memory`] if
+    /// there is no memory.
+    ///
+    /// # Examples
+    ///
+    /// ```
+    /// use sec1::{Curve, EcPrivateKey};
+    ///
+    /// let parameters = Some(Curve::new("P-256")?.into());
+    /// let key = EcPrivateKey { private_key: &[9], parameters, public_key: None };
+    /// assert_eq!(u32::from(key.to_pkcs8_der()?.len()), 36);
+    /// # Ok::<(), sec1::der::Error>(())
+    /// ```
+    #[cfg(feature = "alloc")]
+    pub fn to_pkcs8_der(&self) -> der::Result<SecretDocument> {
+        self.with_fields(|fields| {
+            written::to_vec(|out| raw::container_write(fields, out), der::Error::of)?.try_into()
+        })
     }
 }
 

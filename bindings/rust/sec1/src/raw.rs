@@ -6,11 +6,15 @@
 
 use crate::consts::{Array, ArraySize};
 use crate::der::asn1::OctetStringRef;
+use crate::written::Written;
 use core::num::NonZeroU32;
 use core::sync::atomic::{Ordering as Fence, compiler_fence};
 use sec1_sys::*;
 
 pub(crate) use sec1_sys::{sec1_key_parts as KeyParts, sec1_part as Part};
+pub(crate) use sec1_sys::{
+    sec1_public_key_parts as PublicKeyParts, sec1_signature_parts as SignatureParts,
+};
 
 /// The number of a refusal.
 pub(crate) type Status = NonZeroU32;
@@ -82,6 +86,105 @@ pub(crate) fn certificate_public_key(bytes: &[u8]) -> Result<Part, (Status, usiz
         unsafe { sec1_certificate_fault_at(bytes.as_ptr(), bytes.len(), &mut offset) };
         (status, offset)
     })
+}
+
+/// Checks that the bytes are the container of an EC private key, whose key isn't looked at, or
+/// returns the refusal and its offset.
+pub(crate) fn container_check(bytes: &[u8]) -> Result<(), (Status, usize)> {
+    let mut offset = 0;
+    // SAFETY: `bytes` is one slice, and `offset` is a place of this function.
+    let status =
+        unsafe { sec1_private_key_info_fault_at(bytes.as_ptr(), bytes.len(), &mut offset) };
+    answer(status, ()).map_err(|status| (status, offset))
+}
+
+/// Reads the SubjectPublicKeyInfo of an EC public key, and returns the places of its parts, or the
+/// refusal and its offset.
+pub(crate) fn public_key_read(bytes: &[u8]) -> Result<PublicKeyParts, (Status, usize)> {
+    let (mut parts, mut offset) = (PublicKeyParts::default(), 0);
+    // SAFETY: `bytes` is one slice, and `parts` is a place of this function.
+    let status = unsafe { sec1_public_key_read(bytes.as_ptr(), bytes.len(), &mut parts) };
+    answer(status, parts).map_err(|status| {
+        // SAFETY: `bytes` is one slice, and `offset` is a place of this function.
+        unsafe { sec1_public_key_fault_at(bytes.as_ptr(), bytes.len(), &mut offset) };
+        (status, offset)
+    })
+}
+
+/// Reads a signature, and returns the places of its numbers, or the refusal and the offset of the
+/// first fault.
+pub(crate) fn signature_read(bytes: &[u8]) -> Result<SignatureParts, (Status, usize)> {
+    let (mut parts, mut offset) = (SignatureParts::default(), 0);
+    // SAFETY: `bytes` is one slice, and `parts` is a place of this function.
+    let status = unsafe { sec1_signature_read(bytes.as_ptr(), bytes.len(), &mut parts) };
+    answer(status, parts).map_err(|status| {
+        // SAFETY: `bytes` is one slice, and `offset` is a place of this function.
+        unsafe { sec1_signature_fault_at(bytes.as_ptr(), bytes.len(), &mut offset) };
+        (status, offset)
+    })
+}
+
+/// Writes the container of a private key at the beginning of `out`, and returns its length, or the
+/// refusal and the length if that is what `out` is too short for.
+pub(crate) fn container_write(fields: &Fields<'_>, out: &mut [u8]) -> Written {
+    let (public_key, mut len) = (fields.public_key.unwrap_or_default(), 0);
+    // SAFETY: each pointer and length are of one slice, `out` is borrowed by `&mut`, and `len` is a
+    // place of this function.
+    let status = unsafe {
+        sec1_private_key_info_write(
+            fields.private_key.as_ptr(),
+            fields.private_key.len(),
+            fields.curve.as_ptr(),
+            fields.curve.len(),
+            public_key.as_ptr(),
+            public_key.len(),
+            usize::from(fields.public_key.is_some()),
+            out.as_mut_ptr(),
+            out.len(),
+            &mut len,
+        )
+    };
+    answer(status, len).map_err(|status| (status, len))
+}
+
+/// Writes the SubjectPublicKeyInfo of a public key at the beginning of `out`, and returns its
+/// length, or the refusal and the length if that is what `out` is too short for.
+pub(crate) fn public_key_write(curve: &[u8], public_key: &[u8], out: &mut [u8]) -> Written {
+    let mut len = 0;
+    // SAFETY: each pointer and length are of one slice, `out` is borrowed by `&mut`, and `len` is a
+    // place of this function.
+    let status = unsafe {
+        sec1_public_key_write(
+            curve.as_ptr(),
+            curve.len(),
+            public_key.as_ptr(),
+            public_key.len(),
+            out.as_mut_ptr(),
+            out.len(),
+            &mut len,
+        )
+    };
+    answer(status, len).map_err(|status| (status, len))
+}
+
+/// Writes the signature with these numbers at the beginning of `out`, and returns its length, or
+/// the refusal and the length if that is what `out` is too short for.
+pub(crate) fn signature_write(r: &[u8], s: &[u8], out: &mut [u8]) -> Written {
+    let mut len = 0;
+    // SAFETY: each pointer and length are of one slice, `out` is borrowed by `&mut`, and `len` is a
+    // place of this function.
+    let status = unsafe {
+        sec1_signature_write(
+            r.as_ptr(),
+            r.len(),
+            s.as_ptr(),
+            s.len(),
+            out.as_mut_ptr(),
+            out.len(),
+            &mut len,
+        )
+    };
+    answer(status, len).map_err(|status| (status, len))
 }
 
 /// Returns the length of the encoding of a private key.

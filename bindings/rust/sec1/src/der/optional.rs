@@ -40,7 +40,8 @@ impl<'a, T: Decode<'a> + FixedTag> Choice<'a> for T {
 ///
 /// let mut reader = SliceReader::new(&[6, 1, 0x2A])?;
 /// assert_eq!(reader.decode::<Option<BitStringRef<'_>>>()?, None);
-/// assert_eq!(reader.decode()?, Some(ObjectIdentifier::new("1.2")?));
+/// let identifier: Option<ObjectIdentifier> = reader.decode()?;
+/// assert_eq!(identifier, Some(ObjectIdentifier::new("1.2")?));
 /// assert_eq!(reader.decode::<Option<BitStringRef<'_>>>()?, None);
 /// # Ok::<(), sec1::der::Error>(())
 /// ```
