@@ -10,6 +10,7 @@ use sec1::der::{
     Reader, Result, Sequence, SliceReader, SliceWriter, Tag, Tagged, Writer,
 };
 use sec1::subtle::{self, ConstantTimeEq};
+use sec1::zeroize::Zeroize;
 use sec1::{ALGORITHM_OID, Array, Curve, EcParameters, EcPrivateKey};
 
 mod support;
@@ -367,7 +368,8 @@ fn values_may_be_absent() {
     assert_eq!(reader.tlv_bytes(), Ok(&[5, 0][..]));
     assert!(reader.decode::<MayBe>().unwrap().is_some());
     assert_eq!(reader.decode::<MayBe>(), Ok(None));
-    assert!(ObjectIdentifier::can_decode(Tag::ObjectIdentifier));
+    let tags = [Tag::Integer, Tag::ObjectIdentifier, Tag::Sequence];
+    assert_eq!(tags.map(ObjectIdentifier::can_decode), [false, true, false]);
     assert_eq!(Some(ALGORITHM_OID).to_der(), ALGORITHM_OID.to_der());
     assert_eq!(None::<ObjectIdentifier>.to_der(), Ok(vec![]));
 }
@@ -479,6 +481,7 @@ fn bit_strings_have_lengths() {
     let bits = BitStringRef::new(3, &[1, 8]).unwrap();
     assert_eq!((bits.bit_len(), bits.byte_len()), (13, Ok(Length::new(2))));
     assert!(bits.has_unused_bits() && !bits.is_empty());
+    assert!(BitStringRef::new(1, &[8]).unwrap().has_unused_bits());
     let none = BitStringRef::from_bytes(&[]).unwrap();
     assert_eq!((none.bit_len(), none.has_unused_bits(), none.is_empty()), (0, false, true));
 }
@@ -496,6 +499,14 @@ fn choices_are_combined() {
         xor ^= b;
         assert_eq!([and, or, xor].map(bool::from), [x & y, x | y, x ^ y]);
     }
+}
+
+#[test]
+fn values_are_wiped() {
+    let (mut bytes, mut vector) = ([7_u8; 3], vec![7_u8; 3]);
+    bytes.zeroize();
+    vector.zeroize();
+    assert_eq!((bytes, vector), ([0; 3], vec![]));
 }
 
 #[test]

@@ -73,6 +73,8 @@ fn secrets_are_wiped() {
     assert_eq!(read(whole), 0);
     assert_eq!(read(&[whole, &[0; 9]].concat()), 0);
     assert_eq!(read(whole.split_last().unwrap().1), 0);
+    // One of which the bytes that are read first have a part of the secret.
+    assert_eq!(read(&[&[4, 32], &SECRET[..]].concat()), 0);
     std::fs::remove_file(&path).unwrap();
     // Copies have memory of their own.
     assert_eq!(freed(|| drop(document.to_bytes())), 0);
