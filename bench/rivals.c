@@ -1,73 +1,84 @@
-/* A task of one library, COUNT times: PROGRAM read|write|certificate|none COUNT KEY CERTIFICATE. It
- * reads an EC private key, writes it, or finds the public key in a certificate. With COUNT 0 it
- * prints the nanoseconds of a call, the fastest of 25 samples. The library is one of SEC1, OPENSSL,
- * MBEDTLS, WOLFSSL and BEARSSL. */
-#define _POSIX_C_SOURCE 199309L
-#include <stdint.h>
-#include <stdio.h>
-#include <stdlib.h>
-#include <string.h>
-#include <time.h>
-
-static unsigned char key[65536], certificate[65536], out[65536];
-static size_t key_len, certificate_len;
-
-#ifdef SEC1
+/* Other libraries for C behind the names of three calls of sec1.h, one in each shared object: it
+ * reads an EC private key, writes the key that it has read, and finds the public key in a
+ * certificate. No places are stored. The library is one of BEARSSL, WOLFSSL, MBEDTLS, OPENSSL, and
+ * TEMPLATES: those of OpenSSL, which know nothing of curves. */
 #include <sec1.h>
-static struct sec1_key_parts parts;
 
-static int read_key(void)
+static uint32_t status_of(int is_done)
 {
-    return sec1_key_read(key, key_len, &parts) == 0;
+    return is_done ? SEC1_OK : SEC1_VALUE;
 }
 
-static int write_key(void)
-{
-    size_t len;
-    return sec1_key_write(key + parts.private_key.offset, parts.private_key.len,
-                          key + parts.curve.offset, parts.curve.len,
-                          key + parts.public_key.offset, parts.public_key.len,
-                          parts.public_key.present, out, sizeof out, &len) == 0;
-}
-
-static int read_certificate(void)
-{
-    struct sec1_part info;
-    struct sec1_public_key_parts found;
-    return sec1_certificate_read_public_key(certificate, certificate_len, &info) == 0 &&
-           sec1_public_key_read(certificate + info.offset, info.len, &found) == 0;
-}
-
-#elif defined OPENSSL
+#if defined OPENSSL
 #define OPENSSL_SUPPRESS_DEPRECATED
 #include <openssl/ec.h>
 #include <openssl/x509.h>
 static EC_KEY *given;
 
-static int read_key(void)
+static int read_key(const uint8_t *bytes, size_t len)
 {
-    const unsigned char *at = key;
-    EC_KEY *read = d2i_ECPrivateKey(NULL, &at, (long)key_len);
-    if (!given)
+    EC_KEY *read = d2i_ECPrivateKey(NULL, &bytes, (long)len);
+    if (read) {
+        EC_KEY_free(given);
         given = read;
-    else
-        EC_KEY_free(read);
+    }
     return read != NULL;
 }
 
-static int write_key(void)
+static int write_key(uint8_t *out, size_t out_len)
 {
-    unsigned char *at = out;
-    return i2d_ECPrivateKey(given, &at) > 0;
+    (void)out_len;
+    return i2d_ECPrivateKey(given, &out) > 0;
 }
 
-static int read_certificate(void)
+static int read_certificate(const uint8_t *bytes, size_t len)
 {
-    const unsigned char *at = certificate;
-    X509 *read = d2i_X509(NULL, &at, (long)certificate_len);
+    X509 *read = d2i_X509(NULL, &bytes, (long)len);
     int found = read && X509_get0_pubkey_bitstr(read);
     X509_free(read);
     return found;
+}
+
+#elif defined TEMPLATES
+#include <openssl/asn1t.h>
+
+/* RFC 5915 section 3 */
+typedef struct {
+    int32_t version;
+    ASN1_OCTET_STRING *private_key;
+    ASN1_OBJECT *curve;
+    ASN1_BIT_STRING *public_key;
+} PRIVATE_KEY;
+
+ASN1_SEQUENCE(PRIVATE_KEY) = {
+    ASN1_EMBED(PRIVATE_KEY, version, INT32),
+    ASN1_SIMPLE(PRIVATE_KEY, private_key, ASN1_OCTET_STRING),
+    ASN1_EXP_OPT(PRIVATE_KEY, curve, ASN1_OBJECT, 0),
+    ASN1_EXP_OPT(PRIVATE_KEY, public_key, ASN1_BIT_STRING, 1)
+} static_ASN1_SEQUENCE_END(PRIVATE_KEY)
+
+static ASN1_VALUE *given;
+
+static int read_key(const uint8_t *bytes, size_t len)
+{
+    ASN1_VALUE *read = ASN1_item_d2i(NULL, &bytes, (long)len, ASN1_ITEM_rptr(PRIVATE_KEY));
+    if (read) {
+        ASN1_item_free(given, ASN1_ITEM_rptr(PRIVATE_KEY));
+        given = read;
+    }
+    return read != NULL;
+}
+
+static int write_key(uint8_t *out, size_t out_len)
+{
+    (void)out_len;
+    return ASN1_item_i2d(given, &out, ASN1_ITEM_rptr(PRIVATE_KEY)) > 0;
+}
+
+static int read_certificate(const uint8_t *bytes, size_t len)
+{
+    (void)bytes, (void)len;
+    return 0;
 }
 
 #elif defined MBEDTLS
@@ -75,23 +86,23 @@ static int read_certificate(void)
 #include <mbedtls/x509_crt.h>
 static mbedtls_pk_context given;
 
-static int read_key(void)
+static int read_key(const uint8_t *bytes, size_t len)
 {
     mbedtls_pk_free(&given);
     mbedtls_pk_init(&given);
-    return mbedtls_pk_parse_key(&given, key, key_len, NULL, 0) == 0;
+    return mbedtls_pk_parse_key(&given, bytes, len, NULL, 0) == 0;
 }
 
-static int write_key(void)
+static int write_key(uint8_t *out, size_t out_len)
 {
-    return mbedtls_pk_write_key_der(&given, out, sizeof out) > 0;
+    return mbedtls_pk_write_key_der(&given, out, out_len) > 0;
 }
 
-static int read_certificate(void)
+static int read_certificate(const uint8_t *bytes, size_t len)
 {
     mbedtls_x509_crt read;
     mbedtls_x509_crt_init(&read);
-    int found = mbedtls_x509_crt_parse_der(&read, certificate, certificate_len) == 0;
+    int found = mbedtls_x509_crt_parse_der(&read, bytes, len) == 0;
     mbedtls_x509_crt_free(&read);
     return found;
 }
@@ -103,23 +114,23 @@ static int read_certificate(void)
 #include <wolfssl/wolfcrypt/ecc.h>
 static ecc_key given;
 
-static int read_key(void)
+static int read_key(const uint8_t *bytes, size_t len)
 {
     word32 at = 0;
     wc_ecc_free(&given);
     wc_ecc_init(&given);
-    return wc_EccPrivateKeyDecode(key, &at, &given, (word32)key_len) == 0;
+    return wc_EccPrivateKeyDecode(bytes, &at, &given, (word32)len) == 0;
 }
 
-static int write_key(void)
+static int write_key(uint8_t *out, size_t out_len)
 {
-    return wc_EccKeyToDer(&given, out, sizeof out) > 0;
+    return wc_EccKeyToDer(&given, out, (word32)out_len) > 0;
 }
 
-static int read_certificate(void)
+static int read_certificate(const uint8_t *bytes, size_t len)
 {
     DecodedCert read;
-    wc_InitDecodedCert(&read, certificate, (word32)certificate_len, NULL);
+    wc_InitDecodedCert(&read, bytes, (word32)len, NULL);
     int found = wc_ParseCert(&read, CERT_TYPE, NO_VERIFY, NULL) == 0;
     wc_FreeDecodedCert(&read);
     return found;
@@ -128,84 +139,52 @@ static int read_certificate(void)
 #elif defined BEARSSL
 #include <bearssl.h>
 static br_skey_decoder_context given;
-static br_ec_public_key point;
+static br_ec_public_key point = {.curve = BR_EC_secp256r1, .qlen = 65};
 
-static int read_key(void)
+static int read_key(const uint8_t *bytes, size_t len)
 {
     br_skey_decoder_init(&given);
-    br_skey_decoder_push(&given, key, key_len);
-    point.curve = BR_EC_secp256r1;
-    point.q = key + 56;
-    point.qlen = 65;
+    br_skey_decoder_push(&given, bytes, len);
     return br_skey_decoder_last_error(&given) == 0;
 }
 
-static int write_key(void)
+/* The public key, which isn't read, is given. */
+static int write_key(uint8_t *out, size_t out_len)
 {
+    (void)out_len;
     return br_encode_ec_raw_der(out, br_skey_decoder_get_ec(&given), &point) > 0;
 }
 
-static int read_certificate(void)
+static int read_certificate(const uint8_t *bytes, size_t len)
 {
     br_x509_decoder_context read;
     br_x509_decoder_init(&read, NULL, NULL);
-    br_x509_decoder_push(&read, certificate, certificate_len);
+    br_x509_decoder_push(&read, bytes, len);
     return br_x509_decoder_get_pkey(&read) != NULL;
 }
 #endif
 
-static int nothing(void)
+uint32_t sec1_key_read(const uint8_t *bytes, size_t bytes_len, struct sec1_key_parts *parts)
 {
-    return 1;
+    (void)parts;
+    return status_of(read_key(bytes, bytes_len));
 }
 
-static size_t load(const char *path, unsigned char *bytes, size_t len)
+uint32_t sec1_key_write(const uint8_t *private_key, size_t private_key_len, const uint8_t *curve,
+                        size_t curve_len, const uint8_t *public_key, size_t public_key_len,
+                        size_t has_public_key, uint8_t *out, size_t out_len, size_t *len)
 {
-    FILE *file = fopen(path, "rb");
-    size_t found = file ? fread(bytes, 1, len, file) : 0;
-    if (file)
-        fclose(file);
-    return found;
+    (void)private_key, (void)private_key_len, (void)curve, (void)curve_len;
+    (void)public_key, (void)public_key_len, (void)len;
+#ifdef BEARSSL
+    point.q = (uint8_t *)public_key;
+#endif
+    return status_of(has_public_key && write_key(out, out_len));
 }
 
-static int repeat(int (*task)(void), long count)
+uint32_t sec1_certificate_read_public_key(const uint8_t *bytes, size_t bytes_len,
+                                          struct sec1_part *part)
 {
-    int all = 1;
-    while (count-- > 0)
-        all &= task();
-    return all;
-}
-
-static double nanoseconds(int (*task)(void))
-{
-    double fastest = 1e18;
-    for (int sample = 0; sample < 25; sample++) {
-        struct timespec begin, end;
-        long count = 2000;
-        clock_gettime(CLOCK_MONOTONIC, &begin);
-        repeat(task, count);
-        clock_gettime(CLOCK_MONOTONIC, &end);
-        double took = ((double)(end.tv_sec - begin.tv_sec) * 1e9 +
-                       (double)(end.tv_nsec - begin.tv_nsec)) / (double)count;
-        fastest = took < fastest ? took : fastest;
-    }
-    return fastest;
-}
-
-int main(int argc, char **argv)
-{
-    if (argc != 5)
-        return 2;
-    key_len = load(argv[3], key, sizeof key);
-    certificate_len = load(argv[4], certificate, sizeof certificate);
-    int (*task)(void) = !strcmp(argv[1], "read")    ? read_key
-                        : !strcmp(argv[1], "write") ? write_key
-                        : !strcmp(argv[1], "none")  ? nothing
-                                                    : read_certificate;
-    if (!read_key() || !task())
-        return 1;
-    long count = atol(argv[2]);
-    if (count == 0)
-        printf("%.0f\n", nanoseconds(task));
-    return !repeat(task, count);
+    (void)part;
+    return status_of(read_certificate(bytes, bytes_len));
 }
