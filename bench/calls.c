@@ -255,87 +255,50 @@ static uint8_t out[256];
 static size_t len;
 static int32_t order;
 
-static uint32_t read_key(const struct library *l)
-{
-    return l->key_read(key.bytes, key.len, &parts);
-}
+/* A line: how it is called here, its name, the call and what it is given, and its status. The
+ * certificate has its SubjectPublicKeyInfo at 189. */
+#define LINES(X)                                                                                   \
+    X(read_key, "sec1_key_read", key_read, (key.bytes, key.len, &parts), SEC1_OK)                  \
+    X(read_bare, "sec1_key_read, without options", key_read, (bare.bytes, bare.len, &parts),       \
+      SEC1_OK)                                                                                     \
+    X(refuse_tag, "sec1_key_read, refused at the first tag", key_read,                             \
+      (other_tag.bytes, other_tag.len, &parts), SEC1_TAG)                                          \
+    X(refuse_cut, "sec1_key_read, cut at 60", key_read, (key.bytes, 60, &parts), SEC1_TRUNCATED)   \
+    X(write_key, "sec1_key_write", key_write,                                                      \
+      (key.bytes + 7, 32, key.bytes + 43, 8, key.bytes + 56, 65, 1, out, sizeof out, &len),        \
+      SEC1_OK)                                                                                     \
+    X(write_bare, "sec1_key_write, without options", key_write,                                    \
+      (key.bytes + 7, 32, NULL, 0, NULL, 0, 0, out, sizeof out, &len), SEC1_OK)                    \
+    X(read_point, "sec1_point_read", point_read, (key.bytes + 56, 65, 32, &point), SEC1_OK)        \
+    X(compress, "sec1_point_compress", point_compress,                                             \
+      (key.bytes + 56, 65, 32, out, sizeof out, &len), SEC1_OK)                                    \
+    X(compare, "sec1_point_compare", point_compare,                                                \
+      (key.bytes + 56, 65, key.bytes + 56, 65, 32, &order), SEC1_OK)                               \
+    X(to_text, "sec1_identifier_to_text", identifier_to_text,                                      \
+      (key.bytes + 43, 8, (char *)out, sizeof out, &len), SEC1_OK)                                 \
+    X(from_text, "sec1_identifier_from_text", identifier_from_text,                                \
+      ("1.2.840.10045.3.1.7", 19, out, sizeof out, &len), SEC1_OK)                                 \
+    X(read_certificate, "sec1_certificate_read_public_key", certificate_read_public_key,           \
+      (certificate.bytes, certificate.len, &info), SEC1_OK)                                        \
+    X(read_container, "sec1_private_key_info_read", private_key_info_read,                         \
+      (container.bytes, container.len, &inside), SEC1_OK)                                          \
+    X(read_public_key, "sec1_public_key_read", public_key_read,                                    \
+      (certificate.bytes + 189, 91, &public_key), SEC1_OK)
 
-static uint32_t read_bare(const struct library *l)
-{
-    return l->key_read(bare.bytes, bare.len, &parts);
-}
+#define X(task, name, call, given, status)                                                         \
+    static uint32_t task(const struct library *l)                                                  \
+    {                                                                                              \
+        return l->call given;                                                                      \
+    }
+LINES(X)
+#undef X
 
-static uint32_t refuse_tag(const struct library *l)
-{
-    return l->key_read(other_tag.bytes, other_tag.len, &parts);
-}
-
-static uint32_t refuse_cut(const struct library *l)
-{
-    return l->key_read(key.bytes, 60, &parts);
-}
-
-static uint32_t write_key(const struct library *l)
-{
-    return l->key_write(key.bytes + 7, 32, key.bytes + 43, 8, key.bytes + 56, 65, 1, out,
-                        sizeof out, &len);
-}
-
-static uint32_t write_bare(const struct library *l)
-{
-    return l->key_write(key.bytes + 7, 32, NULL, 0, NULL, 0, 0, out, sizeof out, &len);
-}
-
-static uint32_t read_point(const struct library *l)
-{
-    return l->point_read(key.bytes + 56, 65, 32, &point);
-}
-
-static uint32_t compress(const struct library *l)
-{
-    return l->point_compress(key.bytes + 56, 65, 32, out, sizeof out, &len);
-}
-
-static uint32_t compare(const struct library *l)
-{
-    return l->point_compare(key.bytes + 56, 65, key.bytes + 56, 65, 32, &order);
-}
-
-static uint32_t to_text(const struct library *l)
-{
-    return l->identifier_to_text(key.bytes + 43, 8, (char *)out, sizeof out, &len);
-}
-
-static uint32_t from_text(const struct library *l)
-{
-    return l->identifier_from_text("1.2.840.10045.3.1.7", 19, out, sizeof out, &len);
-}
-
-static uint32_t read_certificate(const struct library *l)
-{
-    return l->certificate_read_public_key(certificate.bytes, certificate.len, &info);
-}
-
-static uint32_t read_container(const struct library *l)
-{
-    return l->private_key_info_read(container.bytes, container.len, &inside);
-}
-
-/* The SubjectPublicKeyInfo of the certificate. */
-static uint32_t read_public_key(const struct library *l)
-{
-    return l->public_key_read(certificate.bytes + 189, 91, &public_key);
-}
-
-/* A library of another kind does both in the first call, and stores no place. */
+/* Both calls. A library of another kind does all in the first, and stores no place. */
 static uint32_t certificate_key(const struct library *l)
 {
-    uint32_t status;
     info.present = 0;
-    status = l->certificate_read_public_key(certificate.bytes, certificate.len, &info);
-    if (status || !info.present)
-        return status;
-    return l->public_key_read(certificate.bytes + info.offset, info.len, &public_key);
+    uint32_t status = read_certificate(l);
+    return status || !info.present ? status : read_public_key(l);
 }
 
 static const struct line {
@@ -344,26 +307,13 @@ static const struct line {
     uint32_t (*run)(const struct library *);
     uint32_t status;
 } lines[] = {
-#define LINE(name, call, run, status) {name, offsetof(struct library, call), run, status}
-    LINE("sec1_key_read", key_read, read_key, SEC1_OK),
-    LINE("sec1_key_read, without options", key_read, read_bare, SEC1_OK),
-    LINE("sec1_key_read, refused at the first tag", key_read, refuse_tag, SEC1_TAG),
-    LINE("sec1_key_read, cut at 60", key_read, refuse_cut, SEC1_TRUNCATED),
-    LINE("sec1_key_write", key_write, write_key, SEC1_OK),
-    LINE("sec1_key_write, without options", key_write, write_bare, SEC1_OK),
-    LINE("sec1_point_read", point_read, read_point, SEC1_OK),
-    LINE("sec1_point_compress", point_compress, compress, SEC1_OK),
-    LINE("sec1_point_compare", point_compare, compare, SEC1_OK),
-    LINE("sec1_identifier_to_text", identifier_to_text, to_text, SEC1_OK),
-    LINE("sec1_identifier_from_text", identifier_from_text, from_text, SEC1_OK),
-    LINE("sec1_certificate_read_public_key", certificate_read_public_key, read_certificate,
-         SEC1_OK),
-    LINE("sec1_private_key_info_read", private_key_info_read, read_container, SEC1_OK),
-    LINE("sec1_public_key_read", public_key_read, read_public_key, SEC1_OK),
-    LINE("a certificate's key", certificate_read_public_key, certificate_key, SEC1_OK),
+#define X(task, name, call, given, status) {name, offsetof(struct library, call), task, status},
+    LINES(X)
+    X(certificate_key, "a certificate's key", certificate_read_public_key, (), SEC1_OK)
+#undef X
 };
 
-enum { LINES = sizeof lines / sizeof *lines, LIBRARIES = 16 };
+enum { COUNT = sizeof lines / sizeof *lines, LIBRARIES = 16 };
 
 static void repeat(const struct line *line, const struct library *library, long count)
 {
@@ -393,9 +343,9 @@ static double nanoseconds(const struct line *line, const struct library *library
 static void measure(const struct library *libraries, int count)
 {
     enum { ROUNDS = 4000, SLICE = 20000 };
-    static long calls[LINES][LIBRARIES];
-    static double best[LINES][LIBRARIES];
-    for (int i = 0; i < LINES; i++)
+    static long calls[COUNT][LIBRARIES];
+    static double best[COUNT][LIBRARIES];
+    for (int i = 0; i < COUNT; i++)
         for (int l = 0; l < count; l++) {
             if (!works(&lines[i], &libraries[l]))
                 continue;
@@ -404,14 +354,14 @@ static void measure(const struct library *libraries, int count)
             best[i][l] = 1e18;
         }
     for (int round = 0; round < ROUNDS; round++)
-        for (int i = 0; i < LINES; i++)
+        for (int i = 0; i < COUNT; i++)
             for (int l = 0; l < count; l++) {
                 if (!calls[i][l] || !works(&lines[i], &libraries[l]))
                     continue;
                 double took = nanoseconds(&lines[i], &libraries[l], calls[i][l]) / (double)calls[i][l];
                 best[i][l] = took < best[i][l] ? took : best[i][l];
             }
-    for (int i = 0; i < LINES; i++)
+    for (int i = 0; i < COUNT; i++)
         for (int l = 0; l < count; l++)
             if (calls[i][l])
                 printf("%s\t%d\t%.2f\n", lines[i].name, l, best[i][l]);
@@ -432,7 +382,7 @@ int main(int argc, char **argv)
     load_files();
     if (strcmp(task, "time") == 0)
         measure(libraries, count);
-    for (int i = 0; i < LINES && is_repeat; i++)
+    for (int i = 0; i < COUNT && is_repeat; i++)
         if (strcmp(argv[3], lines[i].name) == 0 && read_key(libraries) == SEC1_OK)
             repeat(&lines[i], libraries, atol(argv[4]));
     return 0;

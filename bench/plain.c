@@ -7,6 +7,14 @@
 /* The greatest length of a content, and of an identifier's content. */
 enum { CONTENT_MAX = 0x0FFFFFFF, IDENTIFIER_MAX = SEC1_IDENTIFIER_CONTENT_MAX };
 
+/* Returns what a call refuses with. */
+#define TRY(call)                                                                                  \
+    do {                                                                                           \
+        uint32_t status = call;                                                                    \
+        if (status)                                                                                \
+            return status;                                                                         \
+    } while (0)
+
 /* Bytes in the input. No bytes may be at NULL, where a pointer is less and more by 0. */
 struct bytes {
     const uint8_t *at, *end;
@@ -20,11 +28,6 @@ static struct bytes bytes_of(const uint8_t *bytes, size_t len)
 static size_t len_of(struct bytes bytes)
 {
     return (size_t)(bytes.end - bytes.at);
-}
-
-static int equal(struct bytes bytes, const char *other, size_t len)
-{
-    return len_of(bytes) == len && memcmp(bytes.at, other, len) == 0;
 }
 
 /* The place of a part in the input; a part at NULL is absent. */
@@ -111,8 +114,8 @@ static int is_bits(struct bytes content)
 /* Reads a BIT STRING. */
 static uint32_t bits(struct bytes *rest, uint8_t tag, struct bytes *found)
 {
-    uint32_t status = element(rest, tag, found);
-    return status || is_bits(*found) ? status : SEC1_VALUE;
+    TRY(element(rest, tag, found));
+    return is_bits(*found) ? SEC1_OK : SEC1_VALUE;
 }
 
 /* ---- identifiers of at most 39 bytes, with arcs below 2^32 (X.690 section 8.19) */
@@ -226,18 +229,15 @@ uint32_t sec1_identifier_from_text(const char *text, size_t text_len, uint8_t *c
 /* Reads the field [0]. */
 static inline uint32_t parameters(struct bytes field, struct bytes *curve)
 {
-    uint32_t status = element(&field, 0x06, curve);
-    if (status)
-        return status;
+    TRY(element(&field, 0x06, curve));
     return is_identifier(curve->at, len_of(*curve)) ? end(field) : SEC1_VALUE;
 }
 
 /* Reads the field [1]. Unused bits are told behind what follows the BIT STRING. */
 static inline uint32_t public_key_field(struct bytes field, struct bytes *key)
 {
-    uint32_t status = bits(&field, 0x03, key);
-    if (status || (status = end(field)))
-        return status;
+    TRY(bits(&field, 0x03, key));
+    TRY(end(field));
     return *key->at++ == 0 ? SEC1_OK : SEC1_VALUE;
 }
 
@@ -245,22 +245,21 @@ uint32_t sec1_key_read(const uint8_t *bytes, size_t bytes_len, struct sec1_key_p
 {
     struct bytes input = bytes_of(bytes, bytes_len), fields, field, version, private_key;
     struct bytes curve = {NULL, NULL}, public_key = {NULL, NULL};
-    uint32_t status;
-    if ((status = element(&input, 0x30, &fields)) || (status = element(&fields, 0x02, &version)))
-        return status;
+    TRY(element(&input, 0x30, &fields));
+    TRY(element(&fields, 0x02, &version));
     if (len_of(version) != 1 || *version.at != 1)
         return SEC1_VALUE;
-    if ((status = element(&fields, 0x04, &private_key)))
-        return status;
-    if (begins_with(fields, 0xA0)
-        && ((status = element(&fields, 0xA0, &field)) || (status = parameters(field, &curve))))
-        return status;
-    if (begins_with(fields, 0xA1)
-        && ((status = element(&fields, 0xA1, &field))
-            || (status = public_key_field(field, &public_key))))
-        return status;
-    if ((status = end(fields)) || (status = end(input)))
-        return status;
+    TRY(element(&fields, 0x04, &private_key));
+    if (begins_with(fields, 0xA0)) {
+        TRY(element(&fields, 0xA0, &field));
+        TRY(parameters(field, &curve));
+    }
+    if (begins_with(fields, 0xA1)) {
+        TRY(element(&fields, 0xA1, &field));
+        TRY(public_key_field(field, &public_key));
+    }
+    TRY(end(fields));
+    TRY(end(input));
     parts->private_key = place(bytes, private_key);
     parts->curve = place(bytes, curve);
     parts->public_key = place(bytes, public_key);
@@ -367,9 +366,7 @@ uint32_t sec1_point_read(const uint8_t *bytes, size_t bytes_len, size_t field_le
                          struct sec1_point_parts *parts)
 {
     static const struct sec1_part absent;
-    uint32_t status = check_point(bytes, bytes_len, field_len);
-    if (status)
-        return status;
+    TRY(check_point(bytes, bytes_len, field_len));
     parts->tag = *bytes;
     parts->x = bytes_len > 1 ? (struct sec1_part){1, field_len, 1} : absent;
     parts->y = bytes_len > 1 + field_len ? (struct sec1_part){1 + field_len, field_len, 1} : absent;
@@ -379,10 +376,8 @@ uint32_t sec1_point_read(const uint8_t *bytes, size_t bytes_len, size_t field_le
 uint32_t sec1_point_compress(const uint8_t *bytes, size_t bytes_len, size_t field_len,
                              uint8_t *out, size_t out_len, size_t *len)
 {
-    uint32_t status = check_point(bytes, bytes_len, field_len);
-    if (status)
-        return status;
     int has_y = bytes_len > 1 + field_len;
+    TRY(check_point(bytes, bytes_len, field_len));
     *len = has_y ? 1 + field_len : bytes_len;
     if (out_len < *len)
         return SEC1_BUFFER;
@@ -395,12 +390,9 @@ uint32_t sec1_point_compress(const uint8_t *bytes, size_t bytes_len, size_t fiel
 uint32_t sec1_point_compare(const uint8_t *first, size_t first_len, const uint8_t *second,
                             size_t second_len, size_t field_len, int32_t *order)
 {
-    uint32_t status;
-    int found;
-    if ((status = check_point(first, first_len, field_len))
-        || (status = check_point(second, second_len, field_len)))
-        return status;
-    found = *first != *second ? *first - *second : memcmp(first, second, first_len);
+    TRY(check_point(first, first_len, field_len));
+    TRY(check_point(second, second_len, field_len));
+    int found = *first != *second ? *first - *second : memcmp(first, second, first_len);
     *order = (found > 0) - (found < 0);
     return SEC1_OK;
 }
@@ -421,9 +413,7 @@ static int is_long_identifier(struct bytes content)
 
 static uint32_t identifier(struct bytes *rest, struct bytes *found)
 {
-    uint32_t status = element(rest, 0x06, found);
-    if (status)
-        return status;
+    TRY(element(rest, 0x06, found));
     return len_of(*found) && is_long_identifier(*found) ? SEC1_OK : SEC1_VALUE;
 }
 
@@ -435,19 +425,14 @@ static size_t curve_field(struct bytes curve)
                                    0,  0,  0,  0,  16, 16, 20, 24, 28, 28, 48, 66};
     static const uint8_t ansi[] = {0, 24, 24, 24, 30, 30, 30, 32};
     static const uint8_t brainpool[] = {0, 20, 20, 24, 24, 28, 28, 32, 32, 40, 40, 48, 48, 64, 64};
-    uint8_t last = len_of(curve) ? curve.end[-1] : 0;
-    switch (len_of(curve)) {
-    case 5: return memcmp(curve.at, "\x2B\x81\x04", 4) || last >= sizeof secg ? 0 : secg[last];
-    case 8:
-        return memcmp(curve.at, "\x2A\x86\x48\xCE\x3D\x03\x01", 7) || last >= sizeof ansi
-                   ? 0
-                   : ansi[last];
-    case 9:
-        return memcmp(curve.at, "\x2B\x24\x03\x03\x02\x08\x01\x01", 8) || last >= sizeof brainpool
-                   ? 0
-                   : brainpool[last];
-    default: return 0;
-    }
+    size_t len = len_of(curve), last = len ? curve.end[-1] : 0;
+    if (len == 5 && memcmp(curve.at, "\x2B\x81\x04", 4) == 0)
+        return last < sizeof secg ? secg[last] : 0;
+    if (len == 8 && memcmp(curve.at, "\x2A\x86\x48\xCE\x3D\x03\x01", 7) == 0)
+        return last < sizeof ansi ? ansi[last] : 0;
+    if (len == 9 && memcmp(curve.at, "\x2B\x24\x03\x03\x02\x08\x01\x01", 8) == 0)
+        return last < sizeof brainpool ? brainpool[last] : 0;
+    return 0;
 }
 
 /* Reads an AlgorithmIdentifier, and stores the curve that one of id-ecPublicKey names, with its
@@ -455,17 +440,14 @@ static size_t curve_field(struct bytes curve)
 static uint32_t algorithm(struct bytes *rest, struct bytes *curve, size_t *field)
 {
     struct bytes fields, name;
-    uint32_t status;
-    int is_named;
     *field = 0;
-    if ((status = element(rest, 0x30, &fields)) || (status = identifier(&fields, &name)))
-        return status;
+    TRY(element(rest, 0x30, &fields));
+    TRY(identifier(&fields, &name));
     if (fields.at == fields.end || !is_tag(*fields.at))
         return end(fields);
-    is_named = *fields.at == 0x06;
-    if ((status = any_element(&fields, curve)))
-        return status;
-    if (is_named && equal(name, "\x2A\x86\x48\xCE\x3D\x02\x01", 7))
+    int is_named = *fields.at == 0x06;
+    TRY(any_element(&fields, curve));
+    if (is_named && len_of(name) == 7 && memcmp(name.at, "\x2A\x86\x48\xCE\x3D\x02\x01", 7) == 0)
         *field = curve_field(*curve);
     return end(fields);
 }
@@ -475,10 +457,9 @@ static uint32_t public_key_info(struct bytes *rest, struct bytes *curve, size_t 
                                 struct bytes *key)
 {
     struct bytes fields;
-    uint32_t status;
-    if ((status = element(rest, 0x30, &fields)) || (status = algorithm(&fields, curve, field))
-        || (status = bits(&fields, 0x03, key)))
-        return status;
+    TRY(element(rest, 0x30, &fields));
+    TRY(algorithm(&fields, curve, field));
+    TRY(bits(&fields, 0x03, key));
     return end(fields);
 }
 
@@ -487,9 +468,8 @@ uint32_t sec1_public_key_read(const uint8_t *bytes, size_t bytes_len,
 {
     struct bytes input = bytes_of(bytes, bytes_len), curve, key;
     size_t field;
-    uint32_t status;
-    if ((status = public_key_info(&input, &curve, &field, &key)) || (status = end(input)))
-        return status;
+    TRY(public_key_info(&input, &curve, &field, &key));
+    TRY(end(input));
     if (field == 0)
         return SEC1_CURVE;
     if (*key.at++ != 0 || check_point(key.at, len_of(key), field))
@@ -501,18 +481,14 @@ uint32_t sec1_public_key_read(const uint8_t *bytes, size_t bytes_len,
 
 /* ---- sets (X.690 section 11.6) */
 
-typedef uint32_t read_one(struct bytes *rest);
-
 /* Reads the elements of a SET OF, which ascend. That they don't is told behind all other faults. */
-static uint32_t set_of(struct bytes rest, read_one *one)
+static uint32_t set_of(struct bytes rest, uint32_t (*read_one)(struct bytes *rest))
 {
     struct bytes last = {rest.at, rest.at};
     int ascend = 1;
     while (rest.at < rest.end) {
         struct bytes next = {rest.at, rest.at};
-        uint32_t status = one(&rest);
-        if (status)
-            return status;
+        TRY(read_one(&rest));
         next.end = rest.at;
         size_t least = len_of(last) < len_of(next) ? len_of(last) : len_of(next);
         ascend &= memcmp(last.at, next.at, least) <= 0;
@@ -527,10 +503,9 @@ static uint32_t set_of(struct bytes rest, read_one *one)
 static uint32_t key_attribute(struct bytes *rest)
 {
     struct bytes fields, found;
-    uint32_t status;
-    if ((status = element(rest, 0x30, &fields)) || (status = identifier(&fields, &found))
-        || (status = element(&fields, 0x31, &found)))
-        return status;
+    TRY(element(rest, 0x30, &fields));
+    TRY(identifier(&fields, &found));
+    TRY(element(&fields, 0x31, &found));
     return end(fields);
 }
 
@@ -539,20 +514,20 @@ uint32_t sec1_private_key_info_read(const uint8_t *bytes, size_t bytes_len,
 {
     struct bytes input = bytes_of(bytes, bytes_len), fields, version, curve, key, found;
     size_t field;
-    uint32_t status;
-    if ((status = element(&input, 0x30, &fields)) || (status = element(&fields, 0x02, &version)))
-        return status;
+    TRY(element(&input, 0x30, &fields));
+    TRY(element(&fields, 0x02, &version));
     if (len_of(version) != 1 || *version.at > 1)
         return SEC1_VALUE;
-    if ((status = algorithm(&fields, &curve, &field)) || (status = element(&fields, 0x04, &key)))
-        return status;
-    if (begins_with(fields, 0xA0)
-        && ((status = element(&fields, 0xA0, &found)) || (status = set_of(found, key_attribute))))
-        return status;
-    if (*version.at == 1 && begins_with(fields, 0x81) && (status = bits(&fields, 0x81, &found)))
-        return status;
-    if ((status = end(fields)) || (status = end(input)))
-        return status;
+    TRY(algorithm(&fields, &curve, &field));
+    TRY(element(&fields, 0x04, &key));
+    if (begins_with(fields, 0xA0)) {
+        TRY(element(&fields, 0xA0, &found));
+        TRY(set_of(found, key_attribute));
+    }
+    if (*version.at == 1 && begins_with(fields, 0x81))
+        TRY(bits(&fields, 0x81, &found));
+    TRY(end(fields));
+    TRY(end(input));
     if (field == 0)
         return SEC1_CURVE;
     parts->curve = place(bytes, curve);
@@ -562,26 +537,32 @@ uint32_t sec1_private_key_info_read(const uint8_t *bytes, size_t bytes_len,
 
 /* ---- certificates (RFC 5280 section 4.1) */
 
+/* What a certificate has, borrowed; a field at NULL is absent. */
+struct certificate {
+    struct bytes version, serial_number, signature, issuer, not_before, not_after, subject, info;
+    struct bytes curve, public_key, issuer_unique_id, subject_unique_id, extensions;
+    struct bytes algorithm, signature_value;
+    size_t field;
+};
+
 /* An attribute of a name. */
 static uint32_t name_attribute(struct bytes *rest)
 {
     struct bytes fields, found;
-    uint32_t status;
-    if ((status = element(rest, 0x30, &fields)) || (status = identifier(&fields, &found))
-        || (status = any_element(&fields, &found)))
-        return status;
+    TRY(element(rest, 0x30, &fields));
+    TRY(identifier(&fields, &found));
+    TRY(any_element(&fields, &found));
     return end(fields);
 }
 
 static uint32_t name(struct bytes *rest, struct bytes *found)
 {
     struct bytes sets, set;
-    uint32_t status = element(rest, 0x30, found);
-    if (status)
-        return status;
-    for (sets = *found; sets.at < sets.end;)
-        if ((status = element(&sets, 0x31, &set)) || (status = set_of(set, name_attribute)))
-            return status;
+    TRY(element(rest, 0x30, found));
+    for (sets = *found; sets.at < sets.end;) {
+        TRY(element(&sets, 0x31, &set));
+        TRY(set_of(set, name_attribute));
+    }
     return SEC1_OK;
 }
 
@@ -638,135 +619,115 @@ static int is_generalized_time(const uint8_t *text, size_t len)
 
 static uint32_t time(struct bytes *rest, struct bytes *found)
 {
-    int is_utc = begins_with(*rest, 0x17);
-    uint32_t status = element(rest, is_utc ? 0x17 : 0x18, found);
-    if (status)
-        return status;
-    return (is_utc ? is_utc_time : is_generalized_time)(found->at, len_of(*found)) ? SEC1_OK
-                                                                                   : SEC1_VALUE;
-}
-
-static uint32_t extension(struct bytes *rest)
-{
-    struct bytes fields, found;
-    uint32_t status;
-    if ((status = element(rest, 0x30, &fields)) || (status = identifier(&fields, &found)))
-        return status;
-    if (begins_with(fields, 0x01)) {
-        if ((status = element(&fields, 0x01, &found)))
-            return status;
-        /* FALSE is the default, and isn't written (X.690 section 11.5). */
-        if (len_of(found) != 1 || *found.at != 0xFF)
-            return SEC1_VALUE;
-    }
-    if ((status = element(&fields, 0x04, &found)))
-        return status;
-    return end(fields);
-}
-
-/* Reads the content of the field [0]. Version 1 is the default, and isn't written. */
-static uint32_t version_field(struct bytes field, struct bytes *version)
-{
-    uint32_t status = element(&field, 0x02, version);
-    if (status)
-        return status;
-    if (len_of(*version) != 1 || (*version->at != 1 && *version->at != 2))
-        return SEC1_VALUE;
-    return end(field);
-}
-
-/* Reads the content of the field [3]. */
-static uint32_t extensions_field(struct bytes field, struct bytes *extensions)
-{
-    struct bytes rest;
-    uint32_t status = element(&field, 0x30, extensions);
-    if (status)
-        return status;
-    for (rest = *extensions; rest.at < rest.end;)
-        if ((status = extension(&rest)))
-            return status;
-    return end(field);
-}
-
-/* What a certificate has, borrowed; a field at NULL is absent. */
-struct certificate {
-    struct bytes version, serial_number, signature, issuer, not_before, not_after, subject, info;
-    struct bytes curve, public_key, issuer_unique_id, subject_unique_id, extensions;
-    size_t field;
-};
-
-/* Reads an AlgorithmIdentifier that isn't a key's. */
-static uint32_t other_algorithm(struct bytes *rest, struct bytes *found)
-{
-    struct bytes curve;
-    size_t field;
-    uint32_t status;
-    found->at = rest->at;
-    status = algorithm(rest, &curve, &field);
-    found->end = rest->at;
-    return status;
+    int is_utc = begins_with(*rest, 0x17), is_right;
+    TRY(element(rest, is_utc ? 0x17 : 0x18, found));
+    is_right = is_utc ? is_utc_time(found->at, len_of(*found))
+                      : is_generalized_time(found->at, len_of(*found));
+    return is_right ? SEC1_OK : SEC1_VALUE;
 }
 
 static uint32_t validity(struct bytes *rest, struct certificate *found)
 {
     struct bytes fields;
-    uint32_t status;
-    if ((status = element(rest, 0x30, &fields)) || (status = time(&fields, &found->not_before))
-        || (status = time(&fields, &found->not_after)))
-        return status;
+    TRY(element(rest, 0x30, &fields));
+    TRY(time(&fields, &found->not_before));
+    TRY(time(&fields, &found->not_after));
     return end(fields);
 }
 
-/* Reads the fields of a TBSCertificate up to the key. */
-static uint32_t fields_to_subject(struct bytes *fields, struct certificate *found)
+/* Reads the field [0]. Version 1 is the default, and isn't written (X.690 section 11.5). */
+static uint32_t version_field(struct bytes *rest, struct bytes *version)
 {
     struct bytes field;
-    uint32_t status;
-    if (begins_with(*fields, 0xA0)
-        && ((status = element(fields, 0xA0, &field))
-            || (status = version_field(field, &found->version))))
-        return status;
-    if ((status = element(fields, 0x02, &found->serial_number)))
-        return status;
-    if (!is_integer(found->serial_number))
+    TRY(element(rest, 0xA0, &field));
+    TRY(element(&field, 0x02, version));
+    if (len_of(*version) != 1 || (*version->at != 1 && *version->at != 2))
         return SEC1_VALUE;
-    if ((status = other_algorithm(fields, &found->signature))
-        || (status = name(fields, &found->issuer)) || (status = validity(fields, found)))
-        return status;
-    return name(fields, &found->subject);
+    return end(field);
+}
+
+/* Reads an Extension. FALSE is the default, and isn't written. */
+static uint32_t extension(struct bytes *rest)
+{
+    struct bytes fields, found;
+    TRY(element(rest, 0x30, &fields));
+    TRY(identifier(&fields, &found));
+    if (begins_with(fields, 0x01)) {
+        TRY(element(&fields, 0x01, &found));
+        if (len_of(found) != 1 || *found.at != 0xFF)
+            return SEC1_VALUE;
+    }
+    TRY(element(&fields, 0x04, &found));
+    return end(fields);
+}
+
+/* Reads the field [3]. */
+static uint32_t extensions_field(struct bytes *rest, struct bytes *extensions)
+{
+    struct bytes field, row;
+    TRY(element(rest, 0xA3, &field));
+    TRY(element(&field, 0x30, extensions));
+    for (row = *extensions; row.at < row.end;)
+        TRY(extension(&row));
+    return end(field);
+}
+
+/* Reads an AlgorithmIdentifier, whichever it is. */
+static uint32_t any_algorithm(struct bytes *rest, struct bytes *found)
+{
+    struct bytes curve;
+    size_t field;
+    found->at = rest->at;
+    TRY(algorithm(rest, &curve, &field));
+    found->end = rest->at;
+    return SEC1_OK;
 }
 
 /* Reads a TBSCertificate. */
 static uint32_t tbs_certificate(struct bytes *rest, struct certificate *found)
 {
-    struct bytes fields, field;
-    uint32_t status;
-    if ((status = element(rest, 0x30, &fields)) || (status = fields_to_subject(&fields, found)))
-        return status;
+    struct bytes fields;
+    TRY(element(rest, 0x30, &fields));
+    if (begins_with(fields, 0xA0))
+        TRY(version_field(&fields, &found->version));
+    TRY(element(&fields, 0x02, &found->serial_number));
+    if (!is_integer(found->serial_number))
+        return SEC1_VALUE;
+    TRY(any_algorithm(&fields, &found->signature));
+    TRY(name(&fields, &found->issuer));
+    TRY(validity(&fields, found));
+    TRY(name(&fields, &found->subject));
     found->info.at = fields.at;
-    if ((status = public_key_info(&fields, &found->curve, &found->field, &found->public_key)))
-        return status;
+    TRY(public_key_info(&fields, &found->curve, &found->field, &found->public_key));
     found->info.end = fields.at;
-    if ((begins_with(fields, 0x81) && (status = bits(&fields, 0x81, &found->issuer_unique_id)))
-        || (begins_with(fields, 0x82) && (status = bits(&fields, 0x82, &found->subject_unique_id)))
-        || (begins_with(fields, 0xA3)
-            && ((status = element(&fields, 0xA3, &field))
-                || (status = extensions_field(field, &found->extensions)))))
-        return status;
+    if (begins_with(fields, 0x81))
+        TRY(bits(&fields, 0x81, &found->issuer_unique_id));
+    if (begins_with(fields, 0x82))
+        TRY(bits(&fields, 0x82, &found->subject_unique_id));
+    if (begins_with(fields, 0xA3))
+        TRY(extensions_field(&fields, &found->extensions));
     return end(fields);
+}
+
+/* Reads a Certificate, all of whose fields are stored. */
+uint32_t plain_certificate(const uint8_t *bytes, size_t len, struct certificate *found);
+uint32_t plain_certificate(const uint8_t *bytes, size_t len, struct certificate *found)
+{
+    struct bytes input = bytes_of(bytes, len), fields;
+    memset(found, 0, sizeof *found);
+    TRY(element(&input, 0x30, &fields));
+    TRY(tbs_certificate(&fields, found));
+    TRY(any_algorithm(&fields, &found->algorithm));
+    TRY(bits(&fields, 0x03, &found->signature_value));
+    TRY(end(fields));
+    return end(input);
 }
 
 uint32_t sec1_certificate_read_public_key(const uint8_t *bytes, size_t bytes_len,
                                           struct sec1_part *part)
 {
-    struct bytes input = bytes_of(bytes, bytes_len), fields, algorithm, signature;
-    struct certificate found = {0};
-    uint32_t status;
-    if ((status = element(&input, 0x30, &fields)) || (status = tbs_certificate(&fields, &found))
-        || (status = other_algorithm(&fields, &algorithm))
-        || (status = bits(&fields, 0x03, &signature)) || (status = end(fields))
-        || (status = end(input)))
-        return status;
+    struct certificate found;
+    TRY(plain_certificate(bytes, bytes_len, &found));
     *part = place(bytes, found.info);
     return SEC1_OK;
 }
