@@ -259,15 +259,14 @@ static int32_t order;
  * certificate has its SubjectPublicKeyInfo at 189. */
 #define LINES(X)                                                                                   \
     X(read_key, "sec1_key_read", key_read, (key.bytes, key.len, &parts), SEC1_OK)                  \
-    X(read_bare, "sec1_key_read, without options", key_read, (bare.bytes, bare.len, &parts),       \
-      SEC1_OK)                                                                                     \
-    X(refuse_tag, "sec1_key_read, refused at the first tag", key_read,                             \
+    X(read_bare, "sec1_key_read, no options", key_read, (bare.bytes, bare.len, &parts), SEC1_OK)   \
+    X(refuse_tag, "sec1_key_read, first tag", key_read,                                            \
       (other_tag.bytes, other_tag.len, &parts), SEC1_TAG)                                          \
-    X(refuse_cut, "sec1_key_read, cut at 60", key_read, (key.bytes, 60, &parts), SEC1_TRUNCATED)   \
+    X(refuse_cut, "sec1_key_read, cut", key_read, (key.bytes, 60, &parts), SEC1_TRUNCATED)         \
     X(write_key, "sec1_key_write", key_write,                                                      \
       (key.bytes + 7, 32, key.bytes + 43, 8, key.bytes + 56, 65, 1, out, sizeof out, &len),        \
       SEC1_OK)                                                                                     \
-    X(write_bare, "sec1_key_write, without options", key_write,                                    \
+    X(write_bare, "sec1_key_write, no options", key_write,                                         \
       (key.bytes + 7, 32, NULL, 0, NULL, 0, 0, out, sizeof out, &len), SEC1_OK)                    \
     X(read_point, "sec1_point_read", point_read, (key.bytes + 56, 65, 32, &point), SEC1_OK)        \
     X(compress, "sec1_point_compress", point_compress,                                             \
@@ -358,7 +357,8 @@ static void measure(const struct library *libraries, int count)
             for (int l = 0; l < count; l++) {
                 if (!calls[i][l] || !works(&lines[i], &libraries[l]))
                     continue;
-                double took = nanoseconds(&lines[i], &libraries[l], calls[i][l]) / (double)calls[i][l];
+                double took = nanoseconds(&lines[i], &libraries[l], calls[i][l]);
+                took /= (double)calls[i][l];
                 best[i][l] = took < best[i][l] ? took : best[i][l];
             }
     for (int i = 0; i < COUNT; i++)

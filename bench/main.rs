@@ -4,10 +4,10 @@
 //!     main measure     runs each line and prints its samples, as nanoseconds
 //!     main lines       prints the name of each line, its sides, and how many jobs a call does
 //!     main large       reads the longest document there is, once by each side, and prints the seconds
-//!     main repeat LINE ours|peer|best|openssl COUNT     runs one side of one line so often, for a profiler
+//!     main repeat LINE ours|peer COUNT     runs one side of one line so often, for a profiler
 mod heap;
 
-use peer::{IDENTIFIER_CONTENT_MAX, IDENTIFIER_TEXT_MAX, calls};
+use peer::calls;
 use std::arch::global_asm;
 use std::hint::black_box;
 use std::time::Instant;
@@ -100,59 +100,6 @@ unsafe extern "C" {
     ) -> usize;
 }
 
-#[link(name = "sec1_c", kind = "static")]
-unsafe extern "C" {
-    fn sec1_key_read(input: *const u8, len: usize, parts: *mut [[usize; 3]; 3]) -> u32;
-    fn sec1_key_write(
-        private_key: *const u8,
-        private_key_len: usize,
-        curve: *const u8,
-        curve_len: usize,
-        public_key: *const u8,
-        public_key_len: usize,
-        has_public_key: usize,
-        out: *mut u8,
-        out_len: usize,
-        len: *mut usize,
-    ) -> u32;
-    fn sec1_certificate_read_public_key(input: *const u8, len: usize, part: *mut [[usize; 3]; 1])
-    -> u32;
-    fn sec1_private_key_info_read(input: *const u8, len: usize, parts: *mut [[usize; 3]; 2])
-    -> u32;
-    fn sec1_public_key_read(input: *const u8, len: usize, parts: *mut [[usize; 3]; 2]) -> u32;
-    fn sec1_point_read(input: *const u8, len: usize, field: usize, parts: *mut [usize; 7]) -> u32;
-    fn sec1_point_compress(
-        input: *const u8,
-        len: usize,
-        field: usize,
-        out: *mut u8,
-        out_len: usize,
-        written: *mut usize,
-    ) -> u32;
-    fn sec1_point_compare(
-        first: *const u8,
-        first_len: usize,
-        second: *const u8,
-        second_len: usize,
-        field: usize,
-        order: *mut i32,
-    ) -> u32;
-    fn sec1_identifier_to_text(
-        content: *const u8,
-        content_len: usize,
-        text: *mut u8,
-        text_len: usize,
-        len: *mut usize,
-    ) -> u32;
-    fn sec1_identifier_from_text(
-        text: *const u8,
-        text_len: usize,
-        content: *mut u8,
-        content_len: usize,
-        len: *mut usize,
-    ) -> u32;
-}
-
 #[link(name = "sec1_bench_calls", kind = "static")]
 unsafe extern "C" {
     fn bench_certificate_point_called(input: *const u8, len: usize) -> usize;
@@ -163,13 +110,6 @@ unsafe extern "C" {
         out_len: usize,
         rounds: usize,
     ) -> usize;
-}
-
-#[link(name = "openssl_peer", kind = "static")]
-unsafe extern "C" {
-    fn openssl_key_read(input: *const u8, len: usize) -> usize;
-    fn openssl_key_write(input: *const u8, len: usize, out: *mut u8, rounds: usize) -> usize;
-    fn openssl_key_rewrite(input: *const u8, len: usize, out: *mut u8) -> usize;
 }
 
 /// One call, with its arguments.
@@ -206,22 +146,16 @@ fn alone<'a>(name: &'static str, ours: impl Fn() -> usize + 'a) -> Line<'a> {
     }
 }
 
-/// The line of a call of `sec1` and those of both peers.
+/// The line of a call of `sec1` and the peer's.
 macro_rules! line {
     ($name:expr, $ours:expr, $call:ident($($arg:expr),*)) => {
-        line($name, $ours, move || peer::calls::$call($($arg),*) as usize)
-            .side("best", 1, move || best::calls::$call($($arg),*) as usize)
+        line($name, $ours, move || calls::$call($($arg),*))
     };
 }
 
 impl<'a> Line<'a> {
     fn jobs(mut self, jobs: usize) -> Line<'a> {
         self.sides.iter_mut().for_each(|side| side.1 = jobs);
-        self
-    }
-
-    fn side(mut self, side: &'static str, jobs: usize, call: impl Fn() -> usize + 'a) -> Line<'a> {
-        self.sides.push((side, jobs, Box::new(call)));
         self
     }
 }
@@ -389,9 +323,6 @@ const ROUNDS: usize = 200;
 /// The name of the line that calls nothing.
 const EMPTY: &str = "an empty call";
 
-/// How often OpenSSL writes a key that it reads once.
-const WRITES: usize = 200;
-
 const DOTTED: &[u8] = b"1.2.840.10045.3.1.7";
 
 /// The lines on keys.
@@ -408,23 +339,18 @@ fn key_lines(inputs: &Inputs) -> Vec<Line<'_>> {
         ("refuse at the first tag", other_tag),
         ("refuse a key cut at 60", cut),
     ] {
-        let mut line = line!(name, on(bench_key_read, input), key_read(black_box(input)));
-        if input == key || input == bare {
-            line = line.side("openssl", 1, move || unsafe {
-                openssl_key_read(input.as_ptr(), input.len())
-            });
-        }
-        lines.push(line);
+        lines.push(line!(
+            name,
+            on(bench_key_read, input),
+            key_read(black_box(input))
+        ));
     }
     lines.extend([
         line!(
             "write a key",
             write(bench_key_write, d, q),
             key_write(black_box(d), q, &mut [0; 128])
-        )
-        .side("openssl", WRITES, move || unsafe {
-            openssl_key_write(key.as_ptr(), key.len(), [0; 128].as_mut_ptr(), WRITES)
-        }),
+        ),
         line!(
             "write a key, inlined",
             write(bench_key_write_inline, d, q),
@@ -434,10 +360,7 @@ fn key_lines(inputs: &Inputs) -> Vec<Line<'_>> {
             "write a key without options",
             into(bench_key_write_bare, d),
             key_write_bare(black_box(d), &mut [0; 128])
-        )
-        .side("openssl", WRITES, move || unsafe {
-            openssl_key_write(bare.as_ptr(), bare.len(), [0; 128].as_mut_ptr(), WRITES)
-        }),
+        ),
         line!(
             "write a key without options, inlined",
             into(bench_key_write_bare_inline, d),
@@ -447,10 +370,7 @@ fn key_lines(inputs: &Inputs) -> Vec<Line<'_>> {
             "read a key and write it",
             into(bench_key_rewrite, key),
             key_rewrite(black_box(key), &mut [0; 128])
-        )
-        .side("openssl", 1, move || unsafe {
-            openssl_key_rewrite(key.as_ptr(), key.len(), [0; 128].as_mut_ptr())
-        }),
+        ),
         line(
             "a key's document",
             move || unsafe {
@@ -705,152 +625,8 @@ fn point_lines(inputs: &Inputs) -> Vec<Line<'_>> {
     ]
 }
 
-/// The line of a call of the C library that stores N places.
-fn places<'a, const N: usize>(
-    name: &'static str,
-    call: unsafe extern "C" fn(*const u8, usize, *mut [[usize; 3]; N]) -> u32,
-    input: &'a [u8],
-) -> Line<'a> {
-    alone(name, move || {
-        let mut parts = [[0; 3]; N];
-        let status = unsafe { call(black_box(input).as_ptr(), input.len(), &mut parts) };
-        status as usize + black_box(&parts).iter().map(|part| part[1]).sum::<usize>()
-    })
-}
-
-/// The lines on the calls of the C library. Each adds to its status what it has stored.
-fn c_lines(inputs: &Inputs) -> Vec<Line<'_>> {
-    let key = &inputs.key[..];
-    let (d, q) = (&key[PRIVATE_KEY], &key[PUBLIC_KEY]);
-    let next = &inputs.points[65..130];
-    macro_rules! c {
-        ($name:expr, $room:expr, $sum:expr, |$out:ident| $ours:expr, $call:ident($($arg:expr),*)) => {
-            line($name, move || {
-                let mut $out = $room;
-                let status = unsafe { $ours };
-                status as usize + $sum(black_box(&$out))
-            }, move || {
-                let mut $out = $room;
-                let status = peer::calls::$call($($arg),*);
-                status as usize + $sum(black_box(&$out))
-            })
-            .side("best", 1, move || {
-                let mut $out = $room;
-                let status = best::calls::$call($($arg),*);
-                status as usize + $sum(black_box(&$out))
-            })
-        };
-    }
-    vec![
-        c!(
-            "C: sec1_key_read",
-            [[0; 3]; 3],
-            |p: &[[usize; 3]; 3]| p[1][0] + p[2][0] + p[2][1],
-            |out| sec1_key_read(black_box(key).as_ptr(), key.len(), &mut out),
-            c_key_read(black_box(key), &mut out)
-        ),
-        c!(
-            "C: sec1_key_write",
-            ([0u8; 128], 0),
-            |o: &([u8; 128], usize)| o.1,
-            |out| sec1_key_write(
-                black_box(d).as_ptr(),
-                d.len(),
-                CURVE.as_ptr(),
-                CURVE.len(),
-                q.as_ptr(),
-                q.len(),
-                1,
-                out.0.as_mut_ptr(),
-                128,
-                &mut out.1
-            ),
-            c_key_write(black_box(d), black_box(&CURVE), q, &mut out.0, &mut out.1)
-        ),
-        c!(
-            "C: sec1_point_read",
-            [0; 7],
-            |p: &[usize; 7]| p[0] + p[4] + p[5],
-            |out| sec1_point_read(black_box(q).as_ptr(), q.len(), 32, &mut out),
-            c_point_read(black_box(q), &mut out)
-        ),
-        c!(
-            "C: sec1_point_compress",
-            ([0u8; 128], 0),
-            |o: &([u8; 128], usize)| o.1,
-            |out| sec1_point_compress(
-                black_box(q).as_ptr(),
-                q.len(),
-                32,
-                out.0.as_mut_ptr(),
-                128,
-                &mut out.1
-            ),
-            c_point_compress(black_box(q), &mut out.0, &mut out.1)
-        ),
-        c!(
-            "C: sec1_point_compare",
-            0,
-            |order: &i32| *order as usize,
-            |out| sec1_point_compare(
-                black_box(q).as_ptr(),
-                q.len(),
-                next.as_ptr(),
-                next.len(),
-                32,
-                &mut out
-            ),
-            c_point_compare(black_box(q), next, &mut out)
-        ),
-        c!(
-            "C: sec1_identifier_to_text",
-            ([0u8; IDENTIFIER_TEXT_MAX], 0),
-            |o: &([u8; IDENTIFIER_TEXT_MAX], usize)| o.1,
-            |out| sec1_identifier_to_text(
-                black_box(&CURVE).as_ptr(),
-                8,
-                out.0.as_mut_ptr(),
-                IDENTIFIER_TEXT_MAX,
-                &mut out.1
-            ),
-            c_identifier_to_text(black_box(&CURVE), &mut out.0, &mut out.1)
-        ),
-        c!(
-            "C: sec1_identifier_from_text",
-            ([0u8; IDENTIFIER_CONTENT_MAX], 0),
-            |o: &([u8; IDENTIFIER_CONTENT_MAX], usize)| o.1,
-            |out| sec1_identifier_from_text(
-                black_box(DOTTED).as_ptr(),
-                DOTTED.len(),
-                out.0.as_mut_ptr(),
-                IDENTIFIER_CONTENT_MAX,
-                &mut out.1
-            ),
-            c_identifier_from_text(black_box(DOTTED), &mut out.0, &mut out.1)
-        ),
-        places(
-            "C: sec1_certificate_read_public_key",
-            sec1_certificate_read_public_key,
-            CERTIFICATE,
-        ),
-        places(
-            "C: sec1_private_key_info_read",
-            sec1_private_key_info_read,
-            CONTAINER,
-        ),
-        places(
-            "C: sec1_public_key_read",
-            sec1_public_key_read,
-            &CERTIFICATE[PUBLIC_KEY_INFO],
-        ),
-    ]
-}
-
 const CERTIFICATE: &[u8] = include_bytes!("p256_certificate.der");
 const CONTAINER: &[u8] = include_bytes!("p256_container.der");
-
-/// Where its SubjectPublicKeyInfo is in the certificate.
-const PUBLIC_KEY_INFO: std::ops::Range<usize> = 189..280;
 
 /// The name of a file that holds a key.
 const FILE: &str = concat!(env!("BENCH_FOLDER"), "/../dist/examples/p256.der");
@@ -870,7 +646,7 @@ fn record_lines<'a>() -> Vec<Line<'a>> {
         line(
             "a certificate to a point, by a call",
             on(bench_certificate_point_called, CERTIFICATE),
-            || calls::certificate_point(black_box(CERTIFICATE)),
+            || calls::certificate_point_called(black_box(CERTIFICATE)),
         ),
         alone("a certificate, written", || {
             let mut out = [0; 512];
@@ -916,68 +692,47 @@ fn damaged(bytes: &[u8], mut f: impl FnMut(&[u8])) {
     }
 }
 
-/// Tests that both peers accept what `sec1` accepts, with the same result and the same reason of a refusal.
+/// Tests that the peer accepts what `sec1` accepts, with the same result and the same reason of a refusal.
 fn verdicts(inputs: &Inputs) {
     let mut count = 0;
-    let mut same = |ours: OnBytes, peers: [fn(&[u8]) -> usize; 2], bytes: &[u8]| {
+    let mut same = |ours: OnBytes, peer: fn(&[u8]) -> usize, bytes: &[u8]| {
         damaged(bytes, |bytes| {
             let number = unsafe { ours(bytes.as_ptr(), bytes.len()) };
-            assert_eq!([number; 2], peers.map(|peer| peer(bytes)), "{bytes:02X?}");
+            assert_eq!(number, peer(bytes), "{bytes:02X?}");
             count += 1;
         })
     };
     for key in &inputs.keys {
-        same(
-            bench_key_read,
-            [calls::key_read, best::calls::key_read],
-            key,
-        );
-    }
-    for key in &inputs.keys {
-        same(
-            bench_key_point,
-            [calls::key_point, best::calls::key_point],
-            key,
-        );
+        same(bench_key_read, calls::key_read, key);
+        same(bench_key_point, calls::key_point, key);
     }
     for content in [
         &CURVE[..],
         &[0x2B, 0x81, 4, 0, 0x22],
         &[0x8F, 0xFF, 0xFF, 0xFF, 0x7F, 1, 1, 1, 0x81, 1],
     ] {
-        same(
-            bench_identifier_read,
-            [calls::identifier_read, best::calls::identifier_read],
-            content,
-        );
+        same(bench_identifier_read, calls::identifier_read, content);
     }
     for text in [DOTTED, b"2.999.4294967295", b"1.39"] {
-        same(
-            bench_identifier_parse,
-            [calls::identifier_parse, best::calls::identifier_parse],
-            text,
-        );
+        same(bench_identifier_parse, calls::identifier_parse, text);
     }
     for point in [
         &inputs.points[..65],
         &[&[3], &inputs.points[1..33]].concat(),
     ] {
-        same(
-            bench_point_read,
-            [calls::point_read, best::calls::point_read],
-            point,
-        );
+        same(bench_point_read, calls::point_read, point);
         let text: String = point.iter().map(|byte| format!("{byte:02X}")).collect();
         damaged(text.as_bytes(), |text| {
             let number = unsafe { bench_point_parse(text.as_ptr(), text.len(), 1) };
-            let peers = [
-                calls::point_parse(text, 1),
-                best::calls::point_parse(text, 1),
-            ];
-            assert_eq!([number; 2], peers, "{text:02X?}");
+            assert_eq!(number, calls::point_parse(text, 1), "{text:02X?}");
         });
     }
-    println!("{count} inputs, most of them damaged: the same verdicts by sec1 and by both peers");
+    same(
+        bench_certificate_point,
+        calls::certificate_point,
+        CERTIFICATE,
+    );
+    println!("{count} inputs, most of them damaged: the same verdicts by sec1 and by its peer");
 }
 
 /// How long `count` calls take, in nanoseconds.
@@ -1006,12 +761,7 @@ fn calls_of(call: &dyn Fn() -> usize) -> usize {
 
 /// Takes samples of all sides of a line in turn, and prints each as nanoseconds a job.
 fn measure(line: &Line) {
-    let sides: Vec<_> = line
-        .sides
-        .iter()
-        .filter(|side| side.0 != "openssl" || (side.2)() > 0)
-        .collect();
-    for (side, _, call) in sides.iter().filter(|side| side.0 != "openssl") {
+    for (side, _, call) in &line.sides {
         assert_eq!(
             call(),
             (line.sides[0].2)(),
@@ -1019,9 +769,9 @@ fn measure(line: &Line) {
             line.name
         );
     }
-    let counts: Vec<usize> = sides.iter().map(|side| calls_of(&side.2)).collect();
+    let counts: Vec<usize> = line.sides.iter().map(|side| calls_of(&side.2)).collect();
     for _ in 0..SAMPLES {
-        for ((side, jobs, call), &count) in sides.iter().zip(&counts) {
+        for ((side, jobs, call), &count) in line.sides.iter().zip(&counts) {
             let job = time(call, count) / (count * jobs) as f64;
             println!("{}\t{side}\t{job:.3}", line.name);
         }
@@ -1055,7 +805,6 @@ fn main() {
         key_lines(&inputs),
         der_lines(&inputs),
         point_lines(&inputs),
-        c_lines(&inputs),
         record_lines(),
     ]
     .into_iter()
@@ -1067,10 +816,8 @@ fn main() {
         ["verdicts"] => verdicts(&inputs),
         ["lines"] => {
             for line in &lines {
-                for (side, jobs, call) in &line.sides {
-                    if *side != "openssl" || call() > 0 {
-                        println!("{}\t{side}\t{jobs}", line.name);
-                    }
+                for (side, jobs, _) in &line.sides {
+                    println!("{}\t{side}\t{jobs}", line.name);
                 }
             }
         }

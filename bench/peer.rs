@@ -1,23 +1,20 @@
 //! The jobs of `sec1` by hand, as Rust programs do them: the same inputs are read, the same are refused for the same reasons,
-//! and the same bytes are written. It is compared with `sec1` by `main.rs`, and used by nothing else.
+//! and the same bytes are written. `main.rs` compares it with `sec1`.
 #![allow(mismatched_lifetime_syntaxes)]
 use std::cmp::Ordering;
-use std::io::{self, Read, Write};
+use std::io::{self, Read};
 
 /// The most bytes of a content.
 const MAX: usize = 0x0FFF_FFFF;
 
 /// The most bytes of an identifier's content.
-pub const IDENTIFIER_CONTENT_MAX: usize = 39;
-
-/// The most bytes of an identifier's text, with a byte behind it.
-pub const IDENTIFIER_TEXT_MAX: usize = 4 * IDENTIFIER_CONTENT_MAX + 2;
+const IDENTIFIER_CONTENT_MAX: usize = 39;
 
 /// The most bytes that are asked for in one read of a content.
 const STEP: usize = 4096;
 
 #[derive(Clone, Copy, Debug, PartialEq, Eq)]
-pub enum Error {
+enum Error {
     Truncated = 1,
     Tag,
     Length,
@@ -30,7 +27,7 @@ pub enum Error {
     Point,
 }
 
-pub type Result<T> = std::result::Result<T, Error>;
+type Result<T> = std::result::Result<T, Error>;
 
 impl From<io::Error> for Error {
     fn from(_: io::Error) -> Error {
@@ -39,7 +36,7 @@ impl From<io::Error> for Error {
 }
 
 /// The tag and the length that the bytes begin with, and the bytes behind them.
-pub fn header(bytes: &[u8]) -> Result<(u8, usize, &[u8])> {
+fn header(bytes: &[u8]) -> Result<(u8, usize, &[u8])> {
     let (&tag, rest) = bytes.split_first().ok_or(Error::Truncated)?;
     if tag == 0 || tag & 0x1F == 0x1F {
         return Err(Error::Tag);
@@ -121,12 +118,10 @@ fn only(bytes: &[u8], tag: u8) -> Result<&[u8]> {
 }
 
 #[derive(Clone, Copy)]
-pub struct Identifier {
+struct Identifier {
     bytes: [u8; IDENTIFIER_CONTENT_MAX],
     len: usize,
 }
-
-use Identifier as Content;
 
 const ID_EC_PUBLIC_KEY: Identifier = {
     let mut bytes = [0; IDENTIFIER_CONTENT_MAX];
@@ -140,7 +135,7 @@ const ID_EC_PUBLIC_KEY: Identifier = {
 };
 
 impl Identifier {
-    pub fn from_bytes(content: &[u8]) -> Result<Identifier> {
+    fn from_bytes(content: &[u8]) -> Result<Identifier> {
         if content.is_empty() || content.len() > IDENTIFIER_CONTENT_MAX {
             return Err(Error::Value);
         }
@@ -206,12 +201,6 @@ impl Identifier {
     fn text(&self) -> String {
         self.to_string()
     }
-
-    fn to_text(&self, text: &mut [u8; IDENTIFIER_TEXT_MAX]) -> usize {
-        let mut rest = &mut text[..];
-        write!(rest, "{self}").expect("enough room");
-        IDENTIFIER_TEXT_MAX - rest.len()
-    }
 }
 
 fn arc(text: &str) -> Result<u32> {
@@ -261,7 +250,7 @@ fn bits(field: &[u8]) -> Result<&[u8]> {
 }
 
 /// Why a bit string with these bytes behind it isn't whole bytes, and nothing else.
-pub fn bits_fault(content: &[u8], behind: &[u8]) -> Error {
+fn bits_fault(content: &[u8], behind: &[u8]) -> Error {
     let is_bits = match content {
         [0, ..] => true,
         [unused @ 1..=7, .., last] => last & ((1 << unused) - 1) == 0,
@@ -274,10 +263,10 @@ pub fn bits_fault(content: &[u8], behind: &[u8]) -> Error {
     }
 }
 
-pub struct Key<'a> {
-    pub private_key: &'a [u8],
-    pub curve: Option<Identifier>,
-    pub public_key: Option<&'a [u8]>,
+struct Key<'a> {
+    private_key: &'a [u8],
+    curve: Option<Identifier>,
+    public_key: Option<&'a [u8]>,
 }
 
 impl<'a> Key<'a> {
@@ -318,7 +307,7 @@ impl<'a> Key<'a> {
         Ok(len)
     }
 
-    pub fn encode_to_slice(&self, buffer: &mut [u8]) -> Result<usize> {
+    fn encode_to_slice(&self, buffer: &mut [u8]) -> Result<usize> {
         let len = self.content_len()?;
         let total = element_len(len)?;
         let mut writer = Writer {
@@ -486,7 +475,7 @@ fn fill<R: Read>(reader: &mut R, mut room: &mut [u8]) -> Result<()> {
 }
 
 #[derive(Clone, Copy)]
-pub struct Point {
+struct Point {
     bytes: [u8; 65],
     len: usize,
 }
@@ -620,64 +609,124 @@ impl Read for Single<'_> {
     }
 }
 
-/// The point of a certificate (RFC 5280 section 4.1), all of whose fields are read.
-fn certificate_point(input: &[u8]) -> Result<Point> {
-    let mut outer = Reader {
-        rest: only(input, 0x30)?,
-    };
-    let mut fields = Reader {
-        rest: outer.content(0x30)?,
-    };
-    if let Some(version) = fields.optional(0xA0)? {
-        if !matches!(only(version, 0x02)?, [1 | 2]) {
-            return Err(Error::Value);
-        }
-    }
-    match fields.content(0x02)? {
-        [] | [0, 0..=0x7F, ..] | [0xFF, 0x80..=0xFF, ..] => return Err(Error::Value),
-        _ => {}
-    }
-    algorithm(fields.content(0x30)?)?;
-    name(fields.content(0x30)?)?;
-    let mut validity = Reader {
-        rest: fields.content(0x30)?,
-    };
-    for _ in 0..2 {
-        time(validity.element()?)?;
-    }
-    validity.finish()?;
-    name(fields.content(0x30)?)?;
-    let mut key = Reader {
-        rest: fields.content(0x30)?,
-    };
-    let on_curve = is_p256(algorithm(key.content(0x30)?)?);
-    let public_key = bits(key.rest)?;
-    for tag in [0x81, 0x82] {
-        fields.optional(tag)?;
-    }
-    if let Some(extensions) = fields.optional(0xA3)? {
-        let mut extensions = Reader {
-            rest: only(extensions, 0x30)?,
+/// An algorithm's identifier, and its parameters.
+type Algorithm<'a> = (&'a [u8], &'a [u8]);
+
+/// A certificate (RFC 5280 section 4.1), all of whose fields are kept.
+#[allow(dead_code)]
+struct Certificate<'a> {
+    version: Option<&'a [u8]>,
+    serial_number: &'a [u8],
+    signature: Algorithm<'a>,
+    issuer: &'a [u8],
+    validity: [(u8, &'a [u8]); 2],
+    subject: &'a [u8],
+    key_algorithm: Algorithm<'a>,
+    public_key: &'a [u8],
+    issuer_unique_id: Option<&'a [u8]>,
+    subject_unique_id: Option<&'a [u8]>,
+    extensions: Option<&'a [u8]>,
+    signature_algorithm: Algorithm<'a>,
+    signature_value: &'a [u8],
+}
+
+impl<'a> Certificate<'a> {
+    fn from_der(input: &'a [u8]) -> Result<Certificate<'a>> {
+        let mut outer = Reader {
+            rest: only(input, 0x30)?,
         };
-        while !extensions.rest.is_empty() {
-            extension(extensions.content(0x30)?)?;
-        }
+        let mut fields = Reader {
+            rest: outer.content(0x30)?,
+        };
+        let version = fields.optional(0xA0)?.map(version).transpose()?;
+        let serial_number = integer(fields.content(0x02)?)?;
+        let signature = algorithm(fields.content(0x30)?)?;
+        let issuer = name(fields.content(0x30)?)?;
+        let mut times = Reader {
+            rest: fields.content(0x30)?,
+        };
+        let validity = [time(times.element()?)?, time(times.element()?)?];
+        times.finish()?;
+        let subject = name(fields.content(0x30)?)?;
+        let mut key = Reader {
+            rest: fields.content(0x30)?,
+        };
+        let key_algorithm = algorithm(key.content(0x30)?)?;
+        let public_key = bit_string(key.content(0x03)?)?;
+        key.finish()?;
+        let issuer_unique_id = fields.optional(0x81)?.map(bit_string).transpose()?;
+        let subject_unique_id = fields.optional(0x82)?.map(bit_string).transpose()?;
+        let extensions = fields.optional(0xA3)?.map(extensions).transpose()?;
+        fields.finish()?;
+        let signature_algorithm = algorithm(outer.content(0x30)?)?;
+        let signature_value = bit_string(outer.content(0x03)?)?;
+        outer.finish()?;
+        Ok(Certificate {
+            version,
+            serial_number,
+            signature,
+            issuer,
+            validity,
+            subject,
+            key_algorithm,
+            public_key,
+            issuer_unique_id,
+            subject_unique_id,
+            extensions,
+            signature_algorithm,
+            signature_value,
+        })
     }
-    fields.finish()?;
-    algorithm(outer.content(0x30)?)?;
-    bits(outer.rest)?;
-    if on_curve {
-        Point::from_bytes(public_key)
-    } else {
-        Err(Error::Value)
+
+    fn point(&self) -> Result<Point> {
+        match self.public_key {
+            [0, bytes @ ..] if is_p256(self.key_algorithm) => Point::from_bytes(bytes),
+            _ => Err(Error::Value),
+        }
     }
 }
 
-/// The identifier's content and the parameters of an AlgorithmIdentifier.
-fn algorithm(content: &[u8]) -> Result<(&[u8], &[u8])> {
+/// The content of a bit string, unused bits and all.
+fn bit_string(content: &[u8]) -> Result<&[u8]> {
+    match content {
+        [0, ..] => Ok(content),
+        [unused @ 1..=7, .., last] if last & ((1 << unused) - 1) == 0 => Ok(content),
+        _ => Err(Error::Value),
+    }
+}
+
+fn integer(content: &[u8]) -> Result<&[u8]> {
+    match content {
+        [] | [0, 0..=0x7F, ..] | [0xFF, 0x80..=0xFF, ..] => Err(Error::Value),
+        _ => Ok(content),
+    }
+}
+
+fn version(field: &[u8]) -> Result<&[u8]> {
+    match only(field, 0x02)? {
+        number @ [1 | 2] => Ok(number),
+        _ => Err(Error::Value),
+    }
+}
+
+/// An identifier's content of any length, with numbers of any size.
+fn long_identifier(content: &[u8]) -> Result<&[u8]> {
+    let mut begins = true;
+    for &byte in content {
+        if begins && byte == 0x80 {
+            return Err(Error::Value);
+        }
+        begins = byte < 0x80;
+    }
+    if content.is_empty() || !begins {
+        return Err(Error::Value);
+    }
+    Ok(content)
+}
+
+fn algorithm(content: &[u8]) -> Result<Algorithm> {
     let mut fields = Reader { rest: content };
-    let kind = fields.content(0x06)?;
-    Identifier::from_bytes(kind)?;
+    let kind = long_identifier(fields.content(0x06)?)?;
     let parameters = fields.rest;
     if !parameters.is_empty() {
         fields.element()?;
@@ -686,12 +735,12 @@ fn algorithm(content: &[u8]) -> Result<(&[u8], &[u8])> {
     Ok((kind, parameters))
 }
 
-fn is_p256((kind, parameters): (&[u8], &[u8])) -> bool {
+fn is_p256((kind, parameters): Algorithm) -> bool {
     kind == ID_EC_PUBLIC_KEY.as_bytes()
         && parameters == [6, 8, 0x2A, 0x86, 0x48, 0xCE, 0x3D, 3, 1, 7]
 }
 
-fn name(content: &[u8]) -> Result<()> {
+fn name(content: &[u8]) -> Result<&[u8]> {
     let mut sets = Reader { rest: content };
     while !sets.rest.is_empty() {
         let mut set = Reader {
@@ -703,7 +752,7 @@ fn name(content: &[u8]) -> Result<()> {
             let mut fields = Reader {
                 rest: set.content(0x30)?,
             };
-            Identifier::from_bytes(fields.content(0x06)?)?;
+            long_identifier(fields.content(0x06)?)?;
             fields.element()?;
             fields.finish()?;
             let element = &front[..front.len() - set.rest.len()];
@@ -713,32 +762,64 @@ fn name(content: &[u8]) -> Result<()> {
             last = element;
         }
     }
-    Ok(())
+    Ok(content)
 }
 
-fn time((tag, content): (u8, &[u8])) -> Result<()> {
-    let digits = match (tag, content) {
-        (0x17, [digits @ .., b'Z']) if digits.len() == 12 => digits,
-        (0x18, [_, _, digits @ .., b'Z']) if digits.len() == 12 => digits,
+/// A UTCTime, or a GeneralizedTime, which may have a fraction that doesn't end in 0 (X.690 section 11.7).
+fn time((tag, content): (u8, &[u8])) -> Result<(u8, &[u8])> {
+    let (years, text) = match (tag, content) {
+        (0x17, [text @ .., b'Z']) => (2, text),
+        (0x18, [text @ .., b'Z']) => (4, text),
         (0x17 | 0x18, _) => return Err(Error::Value),
         _ => return Err(Error::Tag),
     };
-    let pair = |i: usize| 10 * (digits[2 * i] - b'0') + digits[2 * i + 1] - b'0';
-    if !content[..content.len() - 1].iter().all(u8::is_ascii_digit)
-        || !(1..=12).contains(&pair(1))
-        || !(1..=31).contains(&pair(2))
-        || pair(3) > 23
-        || pair(4) > 59
-        || pair(5) > 59
+    let (moment, fraction) = text.split_at_checked(years + 10).ok_or(Error::Value)?;
+    let is_fraction = match fraction {
+        [] => true,
+        [b'.', digits @ .., last] => {
+            tag == 0x18 && digits.iter().all(u8::is_ascii_digit) && matches!(last, b'1'..=b'9')
+        }
+        _ => false,
+    };
+    if !is_fraction || !moment.iter().all(u8::is_ascii_digit) {
+        return Err(Error::Value);
+    }
+    let pair = |i: usize| u32::from(10 * (moment[i] - b'0') + moment[i + 1] - b'0');
+    let year = if years == 4 {
+        100 * pair(0) + pair(2)
+    } else {
+        pair(0)
+    };
+    let is_leap = year % 4 == 0 && (year % 100 != 0 || year % 400 == 0);
+    let days = match pair(years) {
+        2 if is_leap => 29,
+        2 => 28,
+        4 | 6 | 9 | 11 => 30,
+        1..=12 => 31,
+        _ => 0,
+    };
+    if !(1..=days).contains(&pair(years + 2))
+        || pair(years + 4) > 23
+        || pair(years + 6) > 59
+        || pair(years + 8) > 59
     {
         return Err(Error::Value);
     }
-    Ok(())
+    Ok((tag, content))
+}
+
+fn extensions(field: &[u8]) -> Result<&[u8]> {
+    let content = only(field, 0x30)?;
+    let mut extensions = Reader { rest: content };
+    while !extensions.rest.is_empty() {
+        extension(extensions.content(0x30)?)?;
+    }
+    Ok(content)
 }
 
 fn extension(content: &[u8]) -> Result<()> {
     let mut fields = Reader { rest: content };
-    Identifier::from_bytes(fields.content(0x06)?)?;
+    long_identifier(fields.content(0x06)?)?;
     if !matches!(fields.optional(0x01)?, None | Some([0xFF])) {
         return Err(Error::Value);
     }
@@ -767,380 +848,249 @@ fn container_point(input: &[u8]) -> Result<Point> {
     Point::from_bytes(key.public_key.unwrap_or_default())
 }
 
-/// The calls of keys, identifiers and points, each with the arguments and the result of the export of `sec1_bench` that it is
-/// named for, or of the call of the C library. Those that aren't `_inline` call what they measure out of line.
-#[macro_export]
-macro_rules! calls {
-    () => {
-        fn length_and_last(bytes: &[u8]) -> usize {
-            bytes
-                .last()
-                .map_or(0, |&last| bytes.len() + usize::from(last))
-        }
+/// The calls that are measured, each with the arguments and the result of the export of `sec1_bench` that it is named for.
+/// Those that aren't `_inline` call what they measure out of line.
+pub mod calls {
+    use super::*;
 
-        fn key_sum(key: Result<Key>) -> usize {
-            key.map_or_else(
-                |error| error as usize,
-                |key| {
-                    let curve = key
-                        .curve
-                        .map_or(0, |curve| length_and_last(curve.as_bytes()));
-                    let public_key = key.public_key.map_or(0, length_and_last);
-                    length_and_last(key.private_key) + curve + public_key
-                },
-            )
-        }
+    fn length_and_last(bytes: &[u8]) -> usize {
+        bytes
+            .last()
+            .map_or(0, |&last| bytes.len() + usize::from(last))
+    }
 
-        #[inline(never)]
-        fn read(input: &[u8]) -> Result<Key> {
-            Key::from_der(input)
-        }
+    fn key_sum(key: Result<Key>) -> usize {
+        key.map_or_else(
+            |error| error as usize,
+            |key| {
+                let curve = key
+                    .curve
+                    .map_or(0, |curve| length_and_last(curve.as_bytes()));
+                let public_key = key.public_key.map_or(0, length_and_last);
+                length_and_last(key.private_key) + curve + public_key
+            },
+        )
+    }
 
-        #[inline(never)]
-        pub fn key_read(input: &[u8]) -> usize {
-            key_sum(read(input))
-        }
+    #[inline(never)]
+    fn read(input: &[u8]) -> Result<Key> {
+        Key::from_der(input)
+    }
 
-        #[inline(never)]
-        pub fn key_point(input: &[u8]) -> usize {
-            let point = Key::from_der(input)
-                .and_then(|key| Point::from_bytes(key.public_key.unwrap_or_default()));
-            point.map_or(0, |point| length_and_last(point.as_bytes()))
-        }
+    #[inline(never)]
+    pub fn key_read(input: &[u8]) -> usize {
+        key_sum(read(input))
+    }
 
-        fn full<'a>(private_key: &'a [u8], public_key: &'a [u8]) -> Key<'a> {
-            Key {
-                private_key,
-                curve: Some(ID_EC_PUBLIC_KEY),
-                public_key: Some(public_key),
-            }
-        }
+    #[inline(never)]
+    pub fn key_point(input: &[u8]) -> usize {
+        let point = Key::from_der(input)
+            .and_then(|key| Point::from_bytes(key.public_key.unwrap_or_default()));
+        point.map_or(0, |point| length_and_last(point.as_bytes()))
+    }
 
-        #[inline(never)]
-        fn write(key: &Key, out: &mut [u8]) -> usize {
-            key.encode_to_slice(out).unwrap_or(0)
+    fn full<'a>(private_key: &'a [u8], public_key: &'a [u8]) -> Key<'a> {
+        Key {
+            private_key,
+            curve: Some(ID_EC_PUBLIC_KEY),
+            public_key: Some(public_key),
         }
+    }
 
-        #[inline(never)]
-        pub fn key_write(private_key: &[u8], public_key: &[u8], out: &mut [u8]) -> usize {
-            write(&full(private_key, public_key), out)
-        }
+    #[inline(never)]
+    fn write(key: &Key, out: &mut [u8]) -> usize {
+        key.encode_to_slice(out).unwrap_or(0)
+    }
 
-        #[inline(never)]
-        pub fn key_write_inline(private_key: &[u8], public_key: &[u8], out: &mut [u8]) -> usize {
-            full(private_key, public_key)
-                .encode_to_slice(out)
-                .unwrap_or(0)
-        }
+    #[inline(never)]
+    pub fn key_write(private_key: &[u8], public_key: &[u8], out: &mut [u8]) -> usize {
+        write(&full(private_key, public_key), out)
+    }
 
-        #[inline(never)]
-        pub fn key_write_bare(private_key: &[u8], out: &mut [u8]) -> usize {
-            write(
-                &Key {
-                    private_key,
-                    curve: None,
-                    public_key: None,
-                },
-                out,
-            )
-        }
+    #[inline(never)]
+    pub fn key_write_inline(private_key: &[u8], public_key: &[u8], out: &mut [u8]) -> usize {
+        full(private_key, public_key)
+            .encode_to_slice(out)
+            .unwrap_or(0)
+    }
 
-        #[inline(never)]
-        pub fn key_write_bare_inline(private_key: &[u8], out: &mut [u8]) -> usize {
-            let key = Key {
+    #[inline(never)]
+    pub fn key_write_bare(private_key: &[u8], out: &mut [u8]) -> usize {
+        write(
+            &Key {
                 private_key,
                 curve: None,
                 public_key: None,
-            };
-            key.encode_to_slice(out).unwrap_or(0)
-        }
+            },
+            out,
+        )
+    }
 
-        #[inline(never)]
-        pub fn key_rewrite(input: &[u8], out: &mut [u8]) -> usize {
-            Key::from_der(input)
-                .and_then(|key| key.encode_to_slice(out))
-                .unwrap_or(0)
-        }
+    #[inline(never)]
+    pub fn key_write_bare_inline(private_key: &[u8], out: &mut [u8]) -> usize {
+        let key = Key {
+            private_key,
+            curve: None,
+            public_key: None,
+        };
+        key.encode_to_slice(out).unwrap_or(0)
+    }
 
-        #[inline(never)]
-        fn content(input: &[u8]) -> Result<Identifier> {
-            Identifier::from_bytes(input)
-        }
+    #[inline(never)]
+    pub fn key_rewrite(input: &[u8], out: &mut [u8]) -> usize {
+        Key::from_der(input)
+            .and_then(|key| key.encode_to_slice(out))
+            .unwrap_or(0)
+    }
 
-        #[inline(never)]
-        pub fn identifier_read(input: &[u8]) -> usize {
-            content(input).map_or(0, |identifier| length_and_last(identifier.as_bytes()))
-        }
+    #[inline(never)]
+    fn content(input: &[u8]) -> Result<Identifier> {
+        Identifier::from_bytes(input)
+    }
 
-        #[inline(never)]
-        pub fn identifier_read_inline(input: &[u8]) -> usize {
-            Identifier::from_bytes(input)
-                .map_or(0, |identifier| length_and_last(identifier.as_bytes()))
-        }
+    #[inline(never)]
+    pub fn identifier_read(input: &[u8]) -> usize {
+        content(input).map_or(0, |identifier| length_and_last(identifier.as_bytes()))
+    }
 
-        #[inline(never)]
-        pub fn identifier_parse(input: &[u8]) -> usize {
-            let text = std::str::from_utf8(input).unwrap_or_default();
-            Content::parse(text).map_or(0, |identifier| length_and_last(identifier.as_bytes()))
-        }
+    #[inline(never)]
+    pub fn identifier_read_inline(input: &[u8]) -> usize {
+        Identifier::from_bytes(input).map_or(0, |identifier| length_and_last(identifier.as_bytes()))
+    }
 
-        #[inline(never)]
-        pub fn identifier_text(input: &[u8]) -> usize {
-            Identifier::from_bytes(input).map_or(0, |identifier| {
-                std::hint::black_box(identifier.text()).len()
+    #[inline(never)]
+    pub fn identifier_parse(input: &[u8]) -> usize {
+        let text = std::str::from_utf8(input).unwrap_or_default();
+        Identifier::parse(text).map_or(0, |identifier| length_and_last(identifier.as_bytes()))
+    }
+
+    #[inline(never)]
+    pub fn identifier_text(input: &[u8]) -> usize {
+        Identifier::from_bytes(input).map_or(0, |identifier| {
+            std::hint::black_box(identifier.text()).len()
+        })
+    }
+
+    #[inline(never)]
+    fn point(input: &[u8]) -> Result<Point> {
+        Point::from_bytes(input)
+    }
+
+    #[inline(never)]
+    pub fn point_read(input: &[u8]) -> usize {
+        point(input).map_or(0, |point| length_and_last(point.as_bytes()))
+    }
+
+    #[inline(never)]
+    pub fn point_read_inline(input: &[u8]) -> usize {
+        Point::from_bytes(input).map_or(0, |point| length_and_last(point.as_bytes()))
+    }
+
+    #[inline(never)]
+    pub fn point_copy(input: &[u8]) -> usize {
+        Point::from_bytes(input).map_or(0, |point| std::hint::black_box(point.to_bytes()).len())
+    }
+
+    #[inline(never)]
+    pub fn point_parse(input: &[u8], rounds: usize) -> usize {
+        let text = std::str::from_utf8(input).unwrap_or_default();
+        (0..rounds)
+            .filter_map(|_| Point::parse(text).ok())
+            .map(|point| length_and_last(point.as_bytes()))
+            .sum()
+    }
+
+    #[inline(never)]
+    pub fn point_text(input: &[u8]) -> usize {
+        Point::from_bytes(input).map_or(0, |point| std::hint::black_box(point.to_upper_hex()).len())
+    }
+
+    pub fn point_print(input: &[u8]) -> usize {
+        Point::from_bytes(input).map_or(0, |point| std::hint::black_box(point.to_string()).len())
+    }
+
+    fn points(input: &[u8]) -> [Point; 64] {
+        let mut points = [IDENTITY; 64];
+        for (point, bytes) in points.iter_mut().zip(input.chunks_exact(65)) {
+            *point = Point::from_bytes(bytes).unwrap_or(IDENTITY);
+        }
+        points
+    }
+
+    #[inline(never)]
+    fn compressed(point: &Point) -> Point {
+        point.compress()
+    }
+
+    #[inline(never)]
+    fn order(first: &Point, second: &Point) -> std::cmp::Ordering {
+        first.compare(second)
+    }
+
+    #[inline(never)]
+    fn same(first: &Point, second: &Point) -> bool {
+        first == second
+    }
+
+    #[inline(always)]
+    fn compress_all(
+        input: &[u8],
+        out: &mut [u8],
+        rounds: usize,
+        f: impl Fn(&Point) -> Point,
+    ) -> usize {
+        let points = points(input);
+        let mut sum = 0;
+        for _ in 0..rounds {
+            for point in &points {
+                let compressed = f(point);
+                let bytes = compressed.as_bytes();
+                if let Some(room) = out.get_mut(..bytes.len()) {
+                    room.copy_from_slice(bytes);
+                }
+                sum += bytes.len();
+            }
+        }
+        sum
+    }
+
+    #[inline(always)]
+    fn count(input: &[u8], rounds: usize, f: impl Fn(&Point, &Point) -> bool) -> usize {
+        let points = points(input);
+        (0..rounds)
+            .map(|_| {
+                points
+                    .windows(2)
+                    .filter(|pair| f(&pair[0], &pair[1]))
+                    .count()
             })
-        }
+            .sum()
+    }
 
-        #[inline(never)]
-        fn point(input: &[u8]) -> Result<Point> {
-            Point::from_bytes(input)
-        }
+    #[inline(never)]
+    pub fn points_compress(input: &[u8], out: &mut [u8], rounds: usize) -> usize {
+        compress_all(input, out, rounds, compressed)
+    }
 
-        #[inline(never)]
-        pub fn point_read(input: &[u8]) -> usize {
-            point(input).map_or(0, |point| length_and_last(point.as_bytes()))
-        }
+    #[inline(never)]
+    pub fn points_compress_inline(input: &[u8], out: &mut [u8], rounds: usize) -> usize {
+        compress_all(input, out, rounds, |point| point.compress())
+    }
 
-        #[inline(never)]
-        pub fn point_read_inline(input: &[u8]) -> usize {
-            Point::from_bytes(input).map_or(0, |point| length_and_last(point.as_bytes()))
-        }
+    #[inline(never)]
+    pub fn points_cmp(input: &[u8], rounds: usize) -> usize {
+        count(input, rounds, |first, second| order(first, second).is_lt())
+    }
 
-        #[inline(never)]
-        pub fn point_copy(input: &[u8]) -> usize {
-            Point::from_bytes(input).map_or(0, |point| std::hint::black_box(point.to_bytes()).len())
-        }
+    #[inline(never)]
+    pub fn points_eq(input: &[u8], rounds: usize) -> usize {
+        count(input, rounds, same)
+    }
 
-        #[inline(never)]
-        pub fn point_parse(input: &[u8], rounds: usize) -> usize {
-            let text = std::str::from_utf8(input).unwrap_or_default();
-            (0..rounds)
-                .filter_map(|_| Point::parse(text).ok())
-                .map(|point| length_and_last(point.as_bytes()))
-                .sum()
-        }
-
-        #[inline(never)]
-        pub fn point_text(input: &[u8]) -> usize {
-            Point::from_bytes(input)
-                .map_or(0, |point| std::hint::black_box(point.to_upper_hex()).len())
-        }
-
-        pub fn point_print(input: &[u8]) -> usize {
-            Point::from_bytes(input)
-                .map_or(0, |point| std::hint::black_box(point.to_string()).len())
-        }
-
-        fn points(input: &[u8]) -> [Point; 64] {
-            let mut points = [IDENTITY; 64];
-            for (point, bytes) in points.iter_mut().zip(input.chunks_exact(65)) {
-                *point = Point::from_bytes(bytes).unwrap_or(IDENTITY);
-            }
-            points
-        }
-
-        #[inline(never)]
-        fn compressed(point: &Point) -> Point {
-            point.compress()
-        }
-
-        #[inline(never)]
-        fn order(first: &Point, second: &Point) -> std::cmp::Ordering {
-            first.compare(second)
-        }
-
-        #[inline(never)]
-        fn same(first: &Point, second: &Point) -> bool {
-            first == second
-        }
-
-        #[inline(always)]
-        fn compress_all(
-            input: &[u8],
-            out: &mut [u8],
-            rounds: usize,
-            f: impl Fn(&Point) -> Point,
-        ) -> usize {
-            let points = points(input);
-            let mut sum = 0;
-            for _ in 0..rounds {
-                for point in &points {
-                    let compressed = f(point);
-                    let bytes = compressed.as_bytes();
-                    if let Some(room) = out.get_mut(..bytes.len()) {
-                        room.copy_from_slice(bytes);
-                    }
-                    sum += bytes.len();
-                }
-            }
-            sum
-        }
-
-        #[inline(always)]
-        fn count(input: &[u8], rounds: usize, f: impl Fn(&Point, &Point) -> bool) -> usize {
-            let points = points(input);
-            (0..rounds)
-                .map(|_| {
-                    points
-                        .windows(2)
-                        .filter(|pair| f(&pair[0], &pair[1]))
-                        .count()
-                })
-                .sum()
-        }
-
-        #[inline(never)]
-        pub fn points_compress(input: &[u8], out: &mut [u8], rounds: usize) -> usize {
-            compress_all(input, out, rounds, compressed)
-        }
-
-        #[inline(never)]
-        pub fn points_compress_inline(input: &[u8], out: &mut [u8], rounds: usize) -> usize {
-            compress_all(input, out, rounds, |point| point.compress())
-        }
-
-        #[inline(never)]
-        pub fn points_cmp(input: &[u8], rounds: usize) -> usize {
-            count(input, rounds, |first, second| order(first, second).is_lt())
-        }
-
-        #[inline(never)]
-        pub fn points_eq(input: &[u8], rounds: usize) -> usize {
-            count(input, rounds, same)
-        }
-
-        #[inline(never)]
-        pub fn points_eq_inline(input: &[u8], rounds: usize) -> usize {
-            count(input, rounds, |first, second| first == second)
-        }
-
-        fn part(input: &[u8], part: Option<&[u8]>) -> [usize; 3] {
-            part.map_or([0; 3], |part| {
-                [part.as_ptr().addr() - input.as_ptr().addr(), part.len(), 1]
-            })
-        }
-
-        #[inline(never)]
-        pub fn c_key_read(input: &[u8], parts: &mut [[usize; 3]; 3]) -> u32 {
-            match Key::from_der(input) {
-                Ok(key) => {
-                    let private_key = part(input, Some(key.private_key));
-                    let end = private_key[0] + private_key[1];
-                    let curve = key
-                        .curve
-                        .map_or([0; 3], |curve| [end + 4, curve.as_bytes().len(), 1]);
-                    *parts = [private_key, curve, part(input, key.public_key)];
-                    0
-                }
-                Err(error) => error as u32,
-            }
-        }
-
-        #[inline(never)]
-        pub fn c_key_write(
-            private_key: &[u8],
-            curve: &[u8],
-            public_key: &[u8],
-            out: &mut [u8],
-            len: &mut usize,
-        ) -> u32 {
-            let written = Identifier::from_bytes(curve).and_then(|curve| {
-                Key {
-                    private_key,
-                    curve: Some(curve),
-                    public_key: Some(public_key),
-                }
-                .encode_to_slice(out)
-            });
-            match written {
-                Ok(written) => *len = written,
-                Err(error) => return error as u32,
-            }
-            0
-        }
-
-        #[inline(never)]
-        pub fn c_point_read(input: &[u8], parts: &mut [usize; 7]) -> u32 {
-            match Point::from_bytes(input) {
-                Ok(point) => {
-                    let x = if point.as_bytes().len() > 1 {
-                        [1, 32, 1]
-                    } else {
-                        [0; 3]
-                    };
-                    let y = if point.as_bytes().len() > 33 {
-                        [33, 32, 1]
-                    } else {
-                        [0; 3]
-                    };
-                    let tag = usize::from(point.as_bytes()[0]);
-                    *parts = [tag, x[0], x[1], x[2], y[0], y[1], y[2]];
-                    0
-                }
-                Err(_) => 9,
-            }
-        }
-
-        #[inline(never)]
-        pub fn c_point_compress(input: &[u8], out: &mut [u8], len: &mut usize) -> u32 {
-            let Ok(point) = Point::from_bytes(input) else {
-                return 9;
-            };
-            let compressed = point.compress();
-            let bytes = compressed.as_bytes();
-            *len = bytes.len();
-            match out.get_mut(..bytes.len()) {
-                Some(room) => room.copy_from_slice(bytes),
-                None => return 7,
-            }
-            0
-        }
-
-        #[inline(never)]
-        pub fn c_point_compare(first: &[u8], second: &[u8], order: &mut i32) -> u32 {
-            match (Point::from_bytes(first), Point::from_bytes(second)) {
-                (Ok(first), Ok(second)) => *order = first.compare(&second) as i32,
-                _ => return 9,
-            }
-            0
-        }
-
-        #[inline(never)]
-        pub fn c_identifier_to_text(content: &[u8], out: &mut [u8], len: &mut usize) -> u32 {
-            let Ok(identifier) = Identifier::from_bytes(content) else {
-                return 5;
-            };
-            let mut text = [0; $crate::IDENTIFIER_TEXT_MAX];
-            *len = identifier.to_text(&mut text) + 1;
-            match out.get_mut(..*len) {
-                Some(room) => room.copy_from_slice(&text[..*len]),
-                None => return 7,
-            }
-            0
-        }
-
-        #[inline(never)]
-        pub fn c_identifier_from_text(text: &[u8], out: &mut [u8], len: &mut usize) -> u32 {
-            let Some(identifier) = std::str::from_utf8(text)
-                .ok()
-                .and_then(|text| Content::parse(text).ok())
-            else {
-                return 5;
-            };
-            *len = identifier.as_bytes().len();
-            match out.get_mut(..*len) {
-                Some(room) => room.copy_from_slice(identifier.as_bytes()),
-                None => return 7,
-            }
-            0
-        }
-    };
-}
-
-/// The calls that are measured, those of the macro and the rest.
-pub mod calls {
-    use super::*;
-    crate::calls!();
+    #[inline(never)]
+    pub fn points_eq_inline(input: &[u8], rounds: usize) -> usize {
+        count(input, rounds, |first, second| first == second)
+    }
 
     #[inline(never)]
     pub fn empty(_input: &[u8]) -> usize {
@@ -1223,12 +1173,26 @@ pub mod calls {
     }
 
     #[inline(never)]
+    fn certificate(input: &[u8]) -> Result<Certificate> {
+        Certificate::from_der(input)
+    }
+
+    fn point_sum(point: Result<Point>) -> usize {
+        point.map_or(0, |point| length_and_last(point.as_bytes()))
+    }
+
+    #[inline(never)]
     pub fn certificate_point(input: &[u8]) -> usize {
-        super::certificate_point(input).map_or(0, |point| length_and_last(point.as_bytes()))
+        point_sum(Certificate::from_der(input).and_then(|certificate| certificate.point()))
+    }
+
+    #[inline(never)]
+    pub fn certificate_point_called(input: &[u8]) -> usize {
+        point_sum(certificate(input).and_then(|certificate| certificate.point()))
     }
 
     #[inline(never)]
     pub fn container_point(input: &[u8]) -> usize {
-        super::container_point(input).map_or(0, |point| length_and_last(point.as_bytes()))
+        point_sum(super::container_point(input))
     }
 }

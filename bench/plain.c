@@ -1,4 +1,4 @@
-/* The calls of sec1.h that bench/rivals measures, in plain C: the same checks in the same order, and
+/* Calls of sec1.h in plain C, as bench/rivals measures them: the same checks in the same order, and
  * the same answers for every input. What is read is borrowed, by its place. Written from SEC1, RFC
  * 5280, 5480, 5915 and 5958, X.690 and sec1.h, apart from the crates and from dist/tests. */
 #include <sec1.h>
@@ -611,10 +611,9 @@ static int is_generalized_time(const uint8_t *text, size_t len)
 {
     if (len < 15 || !are_digits(text, 14) || text[len - 1] != 'Z')
         return 0;
-    if (len > 15
-        && (len < 17 || text[14] != '.' || !are_digits(text + 15, len - 16) || text[len - 2] == '0'))
-        return 0;
-    return is_time(100 * two(text) + two(text + 2), text + 4);
+    int has_fraction = len > 16 && text[14] == '.' && are_digits(text + 15, len - 16);
+    return (len == 15 || (has_fraction && text[len - 2] != '0'))
+           && is_time(100 * two(text) + two(text + 2), text + 4);
 }
 
 static uint32_t time(struct bytes *rest, struct bytes *found)
