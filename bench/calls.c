@@ -49,7 +49,7 @@ static struct library load(const char *path)
 
 /* ---- answers */
 
-enum { MOST = 2048, INPUTS = 400000, CONTENT_MAX = 0x0FFFFFFF };
+enum { MOST = 2048, INPUTS = 400000, CALLS_COUNT = 10, CONTENT_MAX = 0x0FFFFFFF };
 
 /* What all calls are given: bytes, another point, and where a key's parts are in the bytes. */
 struct input {
@@ -66,7 +66,7 @@ struct written {
 
 /* What the calls have answered. */
 struct answers {
-    uint32_t status[10];
+    uint32_t status[CALLS_COUNT];
     int32_t order;
     struct sec1_key_parts key;
     struct sec1_point_parts point;
@@ -78,13 +78,13 @@ struct answers {
 
 static void ask(const struct library *l, const struct input *in, struct answers *a)
 {
-    const uint8_t *bytes = in->bytes;
+    const uint8_t *bytes = in->len ? in->bytes : NULL;
     size_t len = in->len, room = in->room;
     memset(a, 0xA5, sizeof *a);
     a->status[0] = l->key_read(bytes, len, &a->key);
-    a->status[1] = l->key_write(bytes + in->private_key.offset, in->private_key.len,
-                                bytes + in->curve.offset, in->curve.len,
-                                bytes + in->public_key.offset, in->public_key.len,
+    a->status[1] = l->key_write(in->bytes + in->private_key.offset, in->private_key.len,
+                                in->curve.len ? in->bytes + in->curve.offset : NULL, in->curve.len,
+                                in->bytes + in->public_key.offset, in->public_key.len,
                                 in->has_public_key, a->written.out, room, &a->written.len);
     a->status[2] = l->point_read(bytes, len, in->field, &a->point);
     a->status[3] = l->point_compress(bytes, len, in->field, a->compressed.out, room,
@@ -161,7 +161,7 @@ static int same_lengths(const struct library *libraries, int count)
     static const size_t publics[] = {0, 65, CONTENT_MAX - 1, CONTENT_MAX, CONTENT_MAX + 1};
     const uint8_t *zeros = mmap(NULL, CONTENT_MAX + 2, PROT_READ,
                                 MAP_PRIVATE | MAP_ANONYMOUS | MAP_NORESERVE, -1, 0);
-    for (size_t i = 0; i < 1000; i++) {
+    for (size_t i = 0; i < 1000 && zeros != MAP_FAILED; i++) {
         size_t private_len = i < 150 ? CONTENT_MAX + 1 - i : (size_t)1 << i % 28, lens[2];
         uint32_t status[2];
         if (i >= 500)
@@ -177,41 +177,49 @@ static int same_lengths(const struct library *libraries, int count)
     return zeros != MAP_FAILED;
 }
 
+/* Whether all libraries give the same answers, which are stored. */
+static int same_answers(const struct library *libraries, int count, const struct input *in,
+                        struct answers *first)
+{
+    static struct answers next;
+    ask(&libraries[0], in, first);
+    for (int l = 1; l < count; l++) {
+        ask(&libraries[l], in, &next);
+        if (memcmp(first, &next, sizeof next) == 0)
+            continue;
+        printf("library %d answers otherwise: ", l);
+        for (size_t at = 0; at < in->len; at++)
+            printf("%02X", in->bytes[at]);
+        printf("\n");
+        return 0;
+    }
+    return 1;
+}
+
 static int check(const struct library *libraries, int count)
 {
     static struct input in;
-    static struct answers first, next;
-    unsigned long keys = 0, read = 0, refused = 0;
-    for (long i = 0; i < INPUTS; i++) {
+    static struct answers answers;
+    long accepted[CALLS_COUNT] = {0}, all = 0;
+    int is_same = same_lengths(libraries, count);
+    for (long i = 0; i < INPUTS && is_same; i++) {
         draw_all(&in);
-        if (libraries->key_read(in.bytes, in.len, &first.key) == SEC1_OK) {
-            in.private_key = first.key.private_key;
-            in.curve = first.key.curve;
-            in.public_key = first.key.public_key;
-            in.has_public_key = first.key.public_key.present;
+        if (libraries->key_read(in.bytes, in.len, &answers.key) == SEC1_OK) {
+            in.private_key = answers.key.private_key;
+            in.curve = answers.key.curve;
+            in.public_key = answers.key.public_key;
+            in.has_public_key = answers.key.public_key.present;
         }
-        ask(&libraries[0], &in, &first);
-        for (int l = 1; l < count; l++) {
-            ask(&libraries[l], &in, &next);
-            if (memcmp(&first, &next, sizeof first) == 0)
-                continue;
-            printf("FAILED: library %d answers otherwise on ", l);
-            for (size_t at = 0; at < in.len; at++)
-                printf("%02X", in.bytes[at]);
-            printf("\n");
-            return 1;
-        }
-        keys += first.status[0] == SEC1_OK;
-        for (int call = 0; call < 10; call++)
-            *(first.status[call] == SEC1_OK ? &read : &refused) += 1;
+        is_same = same_answers(libraries, count, &in, &answers);
+        for (int call = 0; call < CALLS_COUNT; call++)
+            accepted[call] += answers.status[call] == SEC1_OK;
     }
-    if (!same_lengths(libraries, count)) {
-        printf("FAILED: a library measures long keys otherwise\n");
-        return 1;
-    }
-    printf("%d inputs, %lu of them keys: the same %lu answers and %lu refusals by all\n", INPUTS,
-           keys, read, refused);
-    return 0;
+    for (int call = 0; call < CALLS_COUNT; all += accepted[call++])
+        is_same &= accepted[call] >= 1000;
+    printf("%s: %d inputs, %ld of them keys; %d calls, of which %ld succeed\n",
+           is_same ? "the same answers by all" : "FAILED", INPUTS, accepted[0],
+           CALLS_COUNT * INPUTS, all);
+    return !is_same;
 }
 
 /* ---- lines */
@@ -341,7 +349,7 @@ static double nanoseconds(const struct line *line, const struct library *library
 /* Prints the fastest of many short slices of each line, which all libraries take in turn. */
 static void measure(const struct library *libraries, int count)
 {
-    enum { ROUNDS = 4000, SLICE = 20000 };
+    enum { ROUNDS = 500, SLICE = 20000 };
     static long calls[COUNT][LIBRARIES];
     static double best[COUNT][LIBRARIES];
     for (int i = 0; i < COUNT; i++)
