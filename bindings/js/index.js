@@ -107,10 +107,12 @@ function bytesOf(data) {
   throw new TypeError('bytes are expected, as a Uint8Array');
 }
 
+const ENCODER = new TextEncoder();
+
 /** Returns the bytes of a text in UTF-8. Anything but a text is a TypeError. */
 function textBytes(text) {
   if (typeof text !== 'string') throw new TypeError('a text is expected');
-  return new TextEncoder().encode(text);
+  return ENCODER.encode(text);
 }
 
 /** Returns the text of these ASCII letters and a byte 0. */
@@ -154,18 +156,22 @@ for (const kind of ERRORS.values()) kind.text = textOf(made('sec1_status_to_text
 
 const NOTHING = new Uint8Array(0);
 
+/** Marks bytes that the library has read or written, and that are nobody else's: a constructor that
+ * gets it neither copies nor checks them. No other module has it. */
+const MADE = Symbol('made');
+
 // ---- object identifiers and curves
 
 export class ObjectIdentifier {
   #content;
 
-  constructor(content) {
-    this.#content = bytesOf(content).slice();
-    made('sec1_identifier_check', this.#content);
+  constructor(content, mark) {
+    this.#content = mark === MADE ? content : bytesOf(content).slice();
+    if (mark !== MADE) made('sec1_identifier_check', this.#content);
   }
 
   static fromText(text) {
-    return new ObjectIdentifier(made('sec1_identifier_from_text', textBytes(text)));
+    return new ObjectIdentifier(made('sec1_identifier_from_text', textBytes(text)), MADE);
   }
 
   get content() {
@@ -205,7 +211,7 @@ export class Curve {
   }
 
   static fromName(name) {
-    return new Curve(new ObjectIdentifier(made('sec1_curve_from_name', textBytes(name))));
+    return new Curve(new ObjectIdentifier(made('sec1_curve_from_name', textBytes(name)), MADE));
   }
 
   get identifier() {
@@ -237,10 +243,11 @@ export class EcPrivateKey {
   #curve;
   #publicKey;
 
-  constructor(privateKey, curve = null, publicKey = null) {
-    this.#privateKey = bytesOf(privateKey);
+  constructor(privateKey, curve = null, publicKey = null, mark = null) {
+    const isMade = mark === MADE;
+    this.#privateKey = isMade ? privateKey : bytesOf(privateKey);
     this.#curve = curve === null ? null : instance(ObjectIdentifier, curve);
-    this.#publicKey = publicKey === null ? null : bytesOf(publicKey);
+    this.#publicKey = publicKey === null || isMade ? publicKey : bytesOf(publicKey);
   }
 
   static fromDer(data) {
@@ -262,7 +269,8 @@ export class EcPrivateKey {
   }
 
   static #ofParts(privateKey, curve, publicKey) {
-    return new EcPrivateKey(privateKey, curve && new ObjectIdentifier(curve), publicKey);
+    const identifier = curve && new ObjectIdentifier(curve, MADE);
+    return new EcPrivateKey(privateKey, identifier, publicKey, MADE);
   }
 
   get privateKey() {
@@ -312,7 +320,7 @@ export class EcPublicKey {
   static fromDer(data) {
     const faultAt = 'sec1_public_key_fault_at';
     const [curve, publicKey] = read('sec1_public_key_read', faultAt, bytesOf(data));
-    return new EcPublicKey(new ObjectIdentifier(curve), publicKey);
+    return new EcPublicKey(new ObjectIdentifier(curve, MADE), publicKey);
   }
 
   get curve() {
@@ -387,24 +395,18 @@ export const Tag = Object.freeze({
 export class Point {
   #encoding;
   #fieldLength;
-  #tag;
-  #x;
-  #y;
+  #parts = null;
 
-  constructor(encoding, fieldLength) {
-    this.#encoding = bytesOf(encoding).slice();
+  constructor(encoding, fieldLength, mark) {
+    this.#encoding = mark === MADE ? encoding : bytesOf(encoding).slice();
     this.#fieldLength = wholeNumber(fieldLength);
-    const [status, tag, x, y] = call('sec1_point_read', this.#encoding, fieldLength);
-    check(status);
-    this.#tag = tag;
-    this.#x = x;
-    this.#y = y;
+    if (mark !== MADE) this.#read();
   }
 
   static fromCoordinates(x, y, compress = false) {
     const [first, second] = [bytesOf(x), bytesOf(y)];
     const name = 'sec1_point_from_coordinates';
-    return new Point(made(name, first, second, Number(Boolean(compress))), first.length);
+    return new Point(made(name, first, second, Number(Boolean(compress))), first.length, MADE);
   }
 
   static identity(fieldLength) {
@@ -413,7 +415,8 @@ export class Point {
 
   static fromHex(text, fieldLength) {
     const digits = textBytes(text);
-    return new Point(made('sec1_point_from_hex', digits, wholeNumber(fieldLength)), fieldLength);
+    const encoding = made('sec1_point_from_hex', digits, wholeNumber(fieldLength));
+    return new Point(encoding, fieldLength, MADE);
   }
 
   get encoding() {
@@ -425,15 +428,15 @@ export class Point {
   }
 
   get tag() {
-    return this.#tag;
+    return this.#read().tag;
   }
 
   get x() {
-    return this.#x?.slice() ?? null;
+    return this.#read().x?.slice() ?? null;
   }
 
   get y() {
-    return this.#y?.slice() ?? null;
+    return this.#read().y?.slice() ?? null;
   }
 
   hex(lowerCase = false) {
@@ -441,15 +444,16 @@ export class Point {
   }
 
   compress() {
-    return new Point(this.#made('sec1_point_compress'), this.#fieldLength);
+    return new Point(this.#made('sec1_point_compress'), this.#fieldLength, MADE);
   }
 
   uncompress() {
-    return this.#y === null ? this : Point.fromCoordinates(this.#x, this.#y);
+    const { x, y } = this.#read();
+    return y === null ? this : Point.fromCoordinates(x, y);
   }
 
   toHybrid() {
-    return new Point(this.#made('sec1_point_to_hybrid'), this.#fieldLength);
+    return new Point(this.#made('sec1_point_to_hybrid'), this.#fieldLength, MADE);
   }
 
   equals(other) {
@@ -467,6 +471,16 @@ export class Point {
 
   toString() {
     return this.hex();
+  }
+
+  /** Returns the tag and both coordinates, which are read when one of them is asked for. */
+  #read() {
+    if (!this.#parts) {
+      const [status, tag, x, y] = call('sec1_point_read', this.#encoding, this.#fieldLength);
+      check(status);
+      this.#parts = { tag, x, y };
+    }
+    return this.#parts;
   }
 
   #made(name, ...given) {

@@ -1,23 +1,41 @@
 // The proved module, compiled. It is read from the file beside this one, in browsers by `fetch`.
 
 const url = new URL('./sec1.wasm', import.meta.url);
+// The name is no constant, so that no tool that packs for browsers looks for the module.
+const FILES = 'node:fs';
+/** The first bytes of each module, which are one without content (WebAssembly 2.0, section 5.5). */
+const MAGIC = Uint8Array.of(0, 0x61, 0x73, 0x6d, 1, 0, 0, 0);
 
 /** Returns the bytes of the module. */
 async function source() {
-  const fs = url.protocol === 'file:' && globalThis.process?.getBuiltinModule?.('node:fs');
-  if (fs) return fs.readFileSync(url);
+  if (url.protocol === 'file:' && globalThis.process?.versions?.node) {
+    return (await import(FILES)).readFileSync(url);
+  }
   const response = await fetch(url);
   if (!response.ok) throw new Error(`${url}: ${response.status} ${response.statusText}`);
-  return response.arrayBuffer();
+  return new Uint8Array(await response.arrayBuffer());
+}
+
+/** Returns why a module can't be compiled. */
+async function reason(bytes) {
+  try {
+    await WebAssembly.compile(MAGIC);
+  } catch {
+    return "WebAssembly is forbidden here: a policy has to allow 'wasm-unsafe-eval'";
+  }
+  if (MAGIC.some((byte, at) => byte !== bytes[at])) {
+    return `${url} is no module of WebAssembly: its ${bytes.length} bytes begin otherwise`;
+  }
+  return `${url} is damaged, or this engine doesn't know WebAssembly 2.0`;
 }
 
 /** Returns the compiled module. */
 async function compiled(bytes) {
+  if (!globalThis.WebAssembly) throw new Error('this engine has no WebAssembly');
   try {
     return await WebAssembly.compile(bytes);
   } catch (cause) {
-    const needed = 'Node 24 or --experimental-wasm-memory64, Chromium 133, Firefox 134';
-    throw new Error(`no WebAssembly with a memory of 64 bits is here: ${needed}`, { cause });
+    throw new Error(await reason(bytes), { cause });
   }
 }
 

@@ -1,38 +1,95 @@
-// Prints a table of the microseconds of a call of this package, and of the nearest one of
-// `node:crypto`: the fastest of 50 samples of 200 calls each.
+// Prints a table of the microseconds of a call of this package, and of the nearest ones of
+// `node:crypto` and of two packages where they are installed: the fastest of 200 samples of 50
+// calls each, taken in turn. Debian has the packages as node-asn1.js and node-elliptic, which a
+// node that isn't Debian's finds by NODE_PATH=/usr/share/nodejs.
 import crypto from 'node:crypto';
 import fs from 'node:fs';
+import { createRequire } from 'node:module';
 
 import { EcPrivateKey, Point } from '../index.js';
 
-const der = fs.readFileSync(new URL('data/p256.der', import.meta.url));
-const key = EcPrivateKey.fromDer(der);
-const point = new Point(key.publicKey, 32);
-const peer = crypto.createPrivateKey({ key: der, format: 'der', type: 'sec1' });
+const SAMPLES = 200;
+const CALLS = 50;
 
-const CALLS = {
+/** Returns what a package of this name exports, or null. */
+function installed(name) {
+  try {
+    return createRequire(import.meta.url)(name);
+  } catch {
+    return null;
+  }
+}
+
+const der = fs.readFileSync(new URL('data/p256.der', import.meta.url));
+const cut = der.subarray(0, 60);
+const key = EcPrivateKey.fromDer(der);
+const { publicKey } = key;
+const point = new Point(publicKey, 32);
+const form = { format: 'der', type: 'sec1' };
+const peer = crypto.createPrivateKey({ key: der, ...form });
+// ECPrivateKey as RFC 5915 section 3 defines it.
+const asn1 = installed('asn1.js')?.define('ECPrivateKey', function define() {
+  this.seq().obj(
+    this.key('version').int(),
+    this.key('privateKey').octstr(),
+    this.key('parameters').explicit(0).optional().objid(),
+    this.key('publicKey').explicit(1).optional().bitstr(),
+  );
+});
+const parsed = asn1?.decode(der, 'der');
+const curve = installed('elliptic') && new (installed('elliptic').ec)('p256').curve;
+const decoded = curve?.decodePoint(publicKey);
+
+/** Makes a call, which throws. */
+function refused(call) {
+  try {
+    call();
+  } catch {
+    return;
+  }
+  throw new Error('it is accepted');
+}
+
+// This package, asn1.js, elliptic, node:crypto.
+const TABLE = {
   'read a key': [
-    () => EcPrivateKey.fromDer(der),
-    () => crypto.createPrivateKey({ key: der, format: 'der', type: 'sec1' }),
+    () => EcPrivateKey.fromDer(der), asn1 && (() => asn1.decode(der, 'der')), null,
+    () => crypto.createPrivateKey({ key: der, ...form }),
   ],
-  'write a key': [() => key.toDer(), () => peer.export({ format: 'der', type: 'sec1' })],
+  'refuse one that is cut': [
+    () => refused(() => EcPrivateKey.fromDer(cut)),
+    asn1 && (() => refused(() => asn1.decode(cut, 'der'))), null,
+    () => refused(() => crypto.createPrivateKey({ key: cut, ...form })),
+  ],
+  'write a key': [
+    () => key.toDer(), asn1 && (() => asn1.encode(parsed, 'der')), null, () => peer.export(form),
+  ],
+  'read a point': [
+    () => new Point(publicKey, 32), null, curve && (() => curve.decodePoint(publicKey)), null,
+  ],
   'compress a point': [
-    () => point.compress(),
-    () => crypto.ECDH.convertKey(key.publicKey, 'prime256v1', null, null, 'compressed'),
+    () => point.compress(), null, curve && (() => decoded.encodeCompressed()),
+    () => crypto.ECDH.convertKey(publicKey, 'prime256v1', null, null, 'compressed'),
   ],
 };
 
-function cost(call) {
-  let least = Infinity;
-  for (let sample = 0; sample < 50; sample += 1) {
-    const begin = process.hrtime.bigint();
-    for (let round = 0; round < 200; round += 1) call();
-    least = Math.min(least, Number(process.hrtime.bigint() - begin) / 200 / 1000);
-  }
-  return least.toFixed(1);
+/** Returns the microseconds of a call. */
+function sample(call) {
+  const begin = process.hrtime.bigint();
+  for (let round = 0; round < CALLS; round += 1) call();
+  return Number(process.hrtime.bigint() - begin) / CALLS / 1000;
 }
 
-console.log('| | this package | `node:crypto` |\n|---|---|---|');
-for (const [name, calls] of Object.entries(CALLS)) {
-  console.log(`| ${name} | ${calls.map(cost).join(' | ')} |`);
+const least = Object.values(TABLE).map((calls) => calls.map(() => Infinity));
+for (let round = 0; round < SAMPLES; round += 1) {
+  for (const [row, calls] of Object.values(TABLE).entries()) {
+    for (const [at, call] of calls.entries()) {
+      if (call) least[row][at] = Math.min(least[row][at], sample(call));
+    }
+  }
+}
+console.log('| | this package | asn1.js | elliptic | `node:crypto` |\n|---|---|---|---|---|');
+for (const [row, name] of Object.keys(TABLE).entries()) {
+  const cells = least[row].map((it) => (it < Infinity ? it.toFixed(1) : ''));
+  console.log(`| ${name} | ${cells.join(' | ')} |`);
 }

@@ -3,30 +3,35 @@
 import assert from 'node:assert/strict';
 import { spawnSync } from 'node:child_process';
 import fs from 'node:fs';
+import os from 'node:os';
+import path from 'node:path';
 import test from 'node:test';
+import url from 'node:url';
 import util from 'node:util';
 
 const read = (name) => fs.readFileSync(new URL(name, import.meta.url));
 const lines = (name) => read(name).toString().trim().split('\n').filter((it) => it[0] !== '#');
 const bytes = (hex) => new Uint8Array(Buffer.from(hex.replaceAll(' ', ''), 'hex'));
 const hex = (data) => Buffer.from(data).toString('hex');
+const changed = (data, at, value) => data.map((byte, index) => (index === at ? value : byte));
 
 // The package's memory is looked at from outside: its module is instantiated in sight, and a test
 // may put another call in the place of one.
 let memory;
 let heap;
 let calls;
+let first;
 const { instantiate } = WebAssembly;
 WebAssembly.instantiate = async (...given) => {
   const instance = await instantiate(...given);
   calls = { ...instance.exports };
   ({ memory, __heap_base: { value: heap } } = calls);
+  first = new Uint8Array(memory.buffer).slice();
   return { exports: calls };
 };
 const sec1 = await import('../index.js');
 WebAssembly.instantiate = instantiate;
 const { Curve, EcPrivateKey, EcPublicKey, ObjectIdentifier, Point, Signature, Tag } = sec1;
-const first = new Uint8Array(memory.buffer).slice();
 
 const oid = ObjectIdentifier.fromText;
 const p256 = oid('1.2.840.10045.3.1.7');
@@ -97,7 +102,7 @@ test('tells where a key is at fault', () => {
     [4, 2, sec1.ValueContentError, 4],
     [6, 0x80, sec1.LengthError, 6],
   ]) {
-    refused(() => EcPrivateKey.fromDer(data.with(at, value)), Kind, offset);
+    refused(() => EcPrivateKey.fromDer(changed(data, at, value)), Kind, offset);
   }
   for (const rest of ['\n', '\r\n', ' ', '\0']) {
     const longer = Buffer.concat([data, Buffer.from(rest)]);
@@ -195,10 +200,10 @@ test('finds keys equal or different by each part, to its last byte', () => {
   const again = new EcPrivateKey(Buffer.alloc(32), oid(String(p256)), new ArrayBuffer(65));
   assert(key.equals(again) && again.equals(key));
   const others = [
-    ...[scalar.with(31, 1), scalar.with(0, 1), scalar.slice(1), bytes('')]
+    ...[changed(scalar, 31, 1), changed(scalar, 0, 1), scalar.slice(1), bytes('')]
       .map((it) => new EcPrivateKey(it, p256, point)),
     ...[other, null].map((it) => new EcPrivateKey(scalar, it, point)),
-    ...[point.with(64, 1), point.slice(1), bytes(''), null]
+    ...[changed(point, 64, 1), point.slice(1), bytes(''), null]
       .map((it) => new EcPrivateKey(scalar, p256, it)),
     new EcPublicKey(p256, point), scalar, null, undefined,
   ];
@@ -308,8 +313,8 @@ test('refuses a key in a container by its place, and by its curve', () => {
     [32, 2, sec1.ValueContentError, 32],
     [34, 3, sec1.TruncatedError, 34],
   ]) {
-    refused(() => EcPrivateKey.fromPkcs8Der(data.with(at, value)), Kind, offset);
-    refused(() => EcPrivateKey.read(data.with(at, value)), Kind, offset);
+    refused(() => EcPrivateKey.fromPkcs8Der(changed(data, at, value)), Kind, offset);
+    refused(() => EcPrivateKey.read(changed(data, at, value)), Kind, offset);
   }
   // The key ends after its container's octet string, and attributes follow that.
   const longer = bytes(element('30', `020100${named}0409300802010104020708a000`));
@@ -354,7 +359,7 @@ test('refuses public keys, certificates and signatures by their places', () => {
     [25, 1, sec1.PointEncodingError, 23],
     [26, 9, sec1.PointEncodingError, 23],
   ]) {
-    refused(() => EcPublicKey.fromDer(data.with(at, value)), Kind, offset);
+    refused(() => EcPublicKey.fromDer(changed(data, at, value)), Kind, offset);
   }
   refused(() => new EcPublicKey(p256, point.slice(1)).toDer(), sec1.PointEncodingError);
   refused(() => new EcPublicKey(oid('1.2.3'), point).toDer(), sec1.CurveError);
@@ -362,8 +367,8 @@ test('refuses public keys, certificates and signatures by their places', () => {
   // In the place of a serial number is the algorithm's identifier.
   refused(() => sec1.certificatePublicKey(data), sec1.TagError, 4);
   const signature = bytes('3006020101020109');
-  refused(() => Signature.fromDer(signature.with(7, 0x80)), sec1.ValueContentError, 7);
-  refused(() => Signature.fromDer(signature.with(5, 3)), sec1.TagError, 5);
+  refused(() => Signature.fromDer(changed(signature, 7, 0x80)), sec1.ValueContentError, 7);
+  refused(() => Signature.fromDer(changed(signature, 5, 3)), sec1.TagError, 5);
 });
 
 test('tells where a certificate is at fault', () => {
@@ -384,7 +389,7 @@ test('tells where a certificate is at fault', () => {
     [77, 0xa0, sec1.TagError, 77],
     [121, 0x83, sec1.TagError, 121],
   ]) {
-    refused(() => sec1.certificatePublicKey(certificate.with(at, value)), Kind, offset);
+    refused(() => sec1.certificatePublicKey(changed(certificate, at, value)), Kind, offset);
   }
   const longer = Uint8Array.of(...certificate, 0);
   refused(() => sec1.certificatePublicKey(longer), sec1.TrailingDataError, 195);
@@ -396,7 +401,7 @@ test('finds public keys and signatures equal or different by each part', () => {
   const key = new EcPublicKey(curve, point);
   assert(key.equals(new EcPublicKey(p256, Buffer.from(point))));
   const others = [
-    new EcPublicKey(curve, point.with(32, 2)), new EcPublicKey(curve, point.slice(1)),
+    new EcPublicKey(curve, changed(point, 32, 2)), new EcPublicKey(curve, point.slice(1)),
     new EcPublicKey(Curve.fromName('secp256k1').identifier, point), point, null,
   ];
   for (const other of others) assert(!key.equals(other));
@@ -471,7 +476,8 @@ test('finds points equal or different by each byte, and by the field', () => {
   const point = new Point(data, 32);
   assert(point.equals(new Point(Buffer.from(data), 32)));
   const others = [
-    ...[data.with(64, 2), data.with(32, 1), data.with(0, 6), data.slice(0, 33).with(0, 2), [0]]
+    ...[changed(data, 64, 2), changed(data, 32, 1), changed(data, 0, 6),
+      changed(data.slice(0, 33), 0, 2), [0]]
       .map((it) => new Point(Uint8Array.from(it), 32)),
     bytes('00'), null,
   ];
@@ -618,15 +624,6 @@ test('names each refusal as sec1.h does', () => {
 const { Memory } = WebAssembly;
 const growing = Memory.prototype.grow;
 
-/** The argument by which this engine grows a memory of 64 bits. */
-function grown(memory, pages) {
-  try {
-    return growing.call(memory, BigInt(pages));
-  } catch {
-    return growing.call(memory, Number(pages));
-  }
-}
-
 /** Runs a call, while a memory is grown by this function. */
 function whileGrowing(grow, call) {
   Memory.prototype.grow = grow;
@@ -637,33 +634,36 @@ function whileGrowing(grow, call) {
   }
 }
 
-test('grows memory by numbers and by BigInts, as older and newer engines do', () => {
-  for (const type of ['number', 'bigint']) {
-    const before = memory.buffer.byteLength;
-    const key = new EcPrivateKey(new Uint8Array(before).fill(7));
-    const grow = function grow(pages) {
-      if (typeof pages !== type) throw new TypeError(`a ${type} is expected`);
-      return grown(this, pages);
-    };
-    assert.deepEqual(EcPrivateKey.fromDer(whileGrowing(grow, () => key.toDer())).privateKey,
-      key.privateKey);
-    assert(memory.buffer.byteLength > before);
-    assertWiped();
+test('finds a byte that is left in memory', () => {
+  const all = new Uint8Array(memory.buffer);
+  for (const at of [0, 61440, 65535, Number(heap), all.length - 1]) {
+    all[at] ^= 1;
+    assert.throws(assertWiped, assert.AssertionError);
+    all[at] ^= 1;
   }
+  assertWiped();
+});
+
+test('reads and writes keys that memory has to grow for', () => {
+  const before = memory.buffer.byteLength;
+  const key = new EcPrivateKey(new Uint8Array(before).fill(7));
+  assert.deepEqual(EcPrivateKey.fromDer(key.toDer()).privateKey, key.privateKey);
+  assert(memory.buffer.byteLength > before);
+  assertWiped();
 });
 
 test('grows memory only if it is needed, by pages', () => {
   for (const more of [0, 1, 8, 65536, 65537, 65544]) {
     const before = memory.buffer.byteLength;
-    // A call that takes this, and stores one number of 8 bytes.
-    sec1.documentLength(new Uint8Array(before - Number(heap) - 8 + more));
+    // A call that takes this, behind the room for what calls store.
+    sec1.documentLength(new Uint8Array(before - Number(heap) - 96 + more));
     assert.equal(memory.buffer.byteLength - before, Math.ceil(more / 65536) * 65536);
   }
 });
 
 test('wipes memory if it cannot be grown, and works on', () => {
   const secret = new Uint8Array(memory.buffer.byteLength).fill(7);
-  const none = (pages) => { throw new (typeof pages === 'bigint' ? RangeError : TypeError)(); };
+  const none = () => { throw new RangeError(); };
   // There is room for the private key alone, and none for a public key.
   const key = new EcPrivateKey(secret.subarray(secret.length / 2), null, secret);
   assert.throws(() => whileGrowing(none, () => key.toDer()), RangeError);
@@ -677,11 +677,16 @@ test('wipes memory after each call that sees a private key', () => {
   const [der, contained] = [key.toDer(), key.toPkcs8Der()];
   assertWiped();
   const outside = { TypeError, Sec1Error: sec1.Sec1Error };
+  const base64 = Buffer.from(der).toString('base64');
+  const label = 'EC PRIVATE KEY-----';
+  const pem = Buffer.from(`-----BEGIN ${label}\n${base64}\n-----END ${label}\n`);
   for (const [call, Kind] of [
     [() => EcPrivateKey.fromDer(der)], [() => EcPrivateKey.fromPkcs8Der(contained)],
     [() => EcPrivateKey.read(der)], [() => EcPrivateKey.read(contained)],
     [() => sec1.checkTree(der)], [() => sec1.documentLength(der)],
     [() => key.toDer()], [() => key.toPkcs8Der()], [() => key.equals(EcPrivateKey.fromDer(der))],
+    ...[der, contained, pem, Buffer.from(hex(der))].flatMap((data) => [false, true]
+      .map((all) => [() => sec1.draw(data, { all })])),
     [() => EcPrivateKey.fromDer(der.slice(1)), outside.Sec1Error],
     [() => EcPrivateKey.fromPkcs8Der(contained.slice(0, -1)), outside.Sec1Error],
     [() => EcPrivateKey.read(der.slice(0, -1)), outside.Sec1Error],
@@ -853,10 +858,43 @@ test('refuses to write a key that is too long', () => {
   assertWiped();
 });
 
-test('says what is missing in an engine without memories of 64 bits', () => {
-  const program = `WebAssembly.compile = async () => { throw new WebAssembly.CompileError('bit'); };
-    await import(${JSON.stringify(new URL('../index.js', import.meta.url))});`;
-  const { status, stderr } = spawnSync(process.execPath, ['--input-type=module', '-e', program]);
-  assert.equal(status, 1);
-  assert.match(String(stderr), /no WebAssembly with a memory of 64 bits is here: Node 24 or/);
+/** Returns the status of Node, and the error that it prints, when it imports the package with this
+ * module, by these options and after this program. */
+function saidAtImport(module, options = [], before = '') {
+  const folder = fs.mkdtempSync(path.join(os.tmpdir(), 'sec1-'));
+  try {
+    for (const name of ['package.json', 'index.js', 'library.js', 'module.js']) {
+      fs.writeFileSync(path.join(folder, name), read(`../${name}`));
+    }
+    fs.writeFileSync(path.join(folder, 'sec1.wasm'), module);
+    const index = JSON.stringify(`${url.pathToFileURL(folder)}/index.js`);
+    const words = [...options, '--input-type=module', '-e', `${before}; await import(${index});`];
+    const { status, stderr } = spawnSync(process.execPath, words);
+    return [status, /^Error: (.*)$/m.exec(stderr)?.[1] ?? ''];
+  } finally {
+    fs.rmSync(folder, { recursive: true });
+  }
+}
+
+test('says why the module cannot be compiled', () => {
+  const module = read('../sec1.wasm');
+  assert.deepEqual(saidAtImport(module), [0, '']);
+  const link = Buffer.from('../../dist/sec1.wasm');
+  for (const file of [link, Buffer.alloc(0), module.subarray(1)]) {
+    const [status, said] = saidAtImport(file);
+    assert.equal(status, 1);
+    assert.match(said, /sec1\.wasm is no module of WebAssembly: its \d+ bytes begin otherwise$/);
+    assert(said.includes(` ${file.length} bytes `), said);
+  }
+  const damaged = Buffer.from(module).fill(0xff, module.length >> 1, (module.length >> 1) + 9);
+  for (const file of [damaged, module.subarray(0, 100000), module.subarray(0, 20)]) {
+    const [status, said] = saidAtImport(file);
+    assert.equal(status, 1);
+    assert.match(said, /sec1\.wasm is damaged, or this engine doesn't know WebAssembly 2\.0$/);
+  }
+  assert.deepEqual(saidAtImport(module, ['--jitless']), [1, 'this engine has no WebAssembly']);
+  // What a page's policy does, which is tried in browsers by page.html.
+  const refuses = 'WebAssembly.compile = async () => { throw new WebAssembly.CompileError("no"); }';
+  assert.deepEqual(saidAtImport(module, [], refuses),
+    [1, "WebAssembly is forbidden here: a policy has to allow 'wasm-unsafe-eval'"]);
 });
