@@ -1,0 +1,90 @@
+"""Computes how much of its stack the module for WebAssembly uses, beside what bindings/js wipes.
+
+  stack.py MODULE LIBRARY   LIBRARY is bindings/js/library.js, or the same with other numbers
+
+A function's part of the stack is a constant, which it takes off the stack pointer when it begins. A
+call uses at most the parts of the functions on the longest way through those that it reaches. No
+function is called by a table, and those that call themselves do so as often as LEVELS says. Prints
+the two greatest numbers, and ends with status 1 if more is used than is wiped.
+"""
+import pathlib
+import re
+import sys
+
+sys.path.insert(0, str(pathlib.Path(__file__).resolve().parents[2] / "dist"))
+import wasm  # noqa: E402
+
+# How often a function can stand on the stack, for those that call themselves.
+LEVELS = {
+    # levels 2 to 65, which its contract limits
+    "der_view::faults::tree::check_forest": 64,
+    # a number is below 2^128, and has no leading digits 0: 18 digits of 7 bits are 126
+    "der_view::values::arcs::split_subidentifier": 20,
+    # five digits of 7 bits in 32, and then 0
+    "sec1_der::object_identifier::builder::Content::push_marked": 6,
+    # it has no part of its own, so that any number is right
+    "der_view::line::Line::push_code": 1,
+}
+# Instructions on the one global, which is the stack pointer, and on locals.
+GET, SET, POINTER, CONSTANT, TEE = 0x23, 0x24, (0,), 0x42, 0x22
+
+
+def frame(ops, name):
+    """Returns a function's part of the stack in bytes. The compiler takes it at the beginning, if
+    at all, and gives it back before each end."""
+    words = [wasm.PLAIN.get(op.code, ("",))[0] for op in ops]
+    gets, sets = ([at for at, op in enumerate(ops) if (op.code, op.args) == (it, POINTER)]
+                  for it in (GET, SET))
+    first, size = gets[0] if gets else 0, 0
+    if gets and ops[first + 1].code == CONSTANT and words[first + 2] == "i64.sub":
+        size = ops[first + 1].args[0]
+        sets = [at for at in sets if at != first + 4 or ops[at - 1].code != TEE]
+    added = [ops[at - 2].args[0] if words[at - 1] == "i64.add" else 0 for at in sets]
+    if len(gets) > 1 or size < 0 or any(it != size for it in added):
+        sys.exit(f"{name} moves the stack pointer in an unknown way")
+    return size
+
+
+class Stack:
+    """What the functions of a module use of the stack."""
+
+    def __init__(self, module):
+        self.names, self.frames, self.calls, self.known = module.names, {}, {}, {}
+        for index, function in enumerate(module.functions):
+            ops = list(module.ops(function))
+            self.frames[index] = frame(ops, self.names[index])
+            self.calls[index] = {op.args[0] for op in ops if op.code == wasm.CALL}
+
+    def used(self, index, around=()):
+        """Returns how many bytes a call of a function uses at most."""
+        name = self.names[index]
+        if index in around or (index in self.calls[index] and name not in LEVELS):
+            sys.exit(f"{name} calls itself")
+        if index not in self.known:
+            inner = self.calls[index] - {index}
+            deepest = max((self.used(it, (*around, index)) for it in inner), default=0)
+            own = self.frames[index] * (LEVELS[name] if index in self.calls[index] else 1)
+            self.known[index] = own + deepest
+        return self.known[index]
+
+
+def main():
+    module = wasm.Module(pathlib.Path(sys.argv[1]).read_bytes())
+    library = pathlib.Path(sys.argv[2]).read_text(encoding="utf-8")
+    begin, deep, flat = map(int, re.search(
+        r"^const \[STACK, DEEP, FLAT\] = \[(\d+), (\d+), (\d+)\];$", library, re.M).groups())
+    names = set(re.findall(r"\bsec1_\w+", re.sub(r"//.*", "", library))) & set(module.exports)
+    stack = Stack(module)
+    used = {name: stack.used(module.exports[name]) for name in names}
+    pictures = [it for it in used if it.startswith("sec1_picture_")]
+    drawn = max(used[it] for it in pictures)
+    other = max(used[it] for it in used if it not in pictures)
+    print(f"{len(used)} calls: {len(pictures)} that draw use {drawn} bytes of {deep}, "
+          f"the others {other} of {flat}")
+    # the constants follow the stack
+    is_right = module.segments[0][0] == begin and deep <= begin
+    return not (is_right and len(pictures) == 2 and drawn <= deep and other <= flat)
+
+
+if __name__ == "__main__":
+    sys.exit(main())
