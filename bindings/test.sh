@@ -288,7 +288,7 @@ copied() { # FOLDER
 # it says in C, and the version.
 js_names() {
     diff <(grep -oE '\bsec1_[a-z_0-9]+\(' "$top/dist/sec1.h" | tr -d '(' | sort -u) \
-        <(node "${flag[@]}" -e 'console.log(WebAssembly.Module.exports(new WebAssembly.Module(
+        <(node -e 'console.log(WebAssembly.Module.exports(new WebAssembly.Module(
             fs.readFileSync(process.argv[1]))).map((it) => it.name).join("\n"))' \
             "$top/dist/sec1.wasm" | grep ^sec1_ | sort -u) | sed -n 's/^[<>] //p' | paste -s -d ' '
 }
@@ -297,22 +297,18 @@ js_names() {
 js_tests() {
     local count
     count=$(grep -c '^test(' "$here/js/tests/test.js")
-    node "${flag[@]}" node_modules/bridgeacacia-sec1/tests/test.js >"$work/tap" 2>&1
+    node node_modules/bridgeacacia-sec1/tests/test.js >"$work/tap" 2>&1
     grep -E -A 20 '^(not ok|# Subtest)' "$work/tap" | grep -A 20 '^not ok'
     grep -qx "# pass $count" "$work/tap" && grep -qx '# fail 0' "$work/tap"
 }
 
 js() {
-    local repository=$work/js flag=() installed server
+    local repository=$work/js installed server sum
     export npm_config_offline=true npm_config_cache="$work/npm" npm_config_update_notifier=false
     export npm_config_fund=false npm_config_audit=false
-    if ! node -e 'process.exit(process.getBuiltinModule ? 0 : 1)'; then
-        skip 16 "JavaScript: node is older than 20.16"
+    if ! node -e 'process.exit(parseInt(process.versions.node) < 18 ? 1 : 0)'; then
+        skip 24 "JavaScript: node is older than 18"
         return
-    fi
-    # Node 24 and later have no such option.
-    if node --experimental-wasm-memory64 -e 0 2>/dev/null; then
-        flag=(--experimental-wasm-memory64)
     fi
     copied "$repository"
     cd "$repository/bindings/js" || return
@@ -321,6 +317,7 @@ js() {
     check "it leaves the folder as it was" diff -r --no-dereference "$here/js" .
     check "npm packs it again" npm pack --pack-destination "$repository"
     check "with the same bytes" cmp "$work/first.tgz" "$repository"/*.tgz
+    without_links
     mkdir "$work/empty" && cd "$work/empty" || return
     check "npm installs what is packed" npm install "$work/first.tgz"
     installed=node_modules/bridgeacacia-sec1
@@ -331,22 +328,60 @@ js() {
     readme 1 >read.mjs && readme 2 >write.mjs
     cp "$top/dist/examples/p256.der" .
     check "the first program of README.md prints dist/examples/p256.txt" \
-        says "$(cat "$top/dist/examples/p256.txt")" node "${flag[@]}" read.mjs
+        says "$(cat "$top/dist/examples/p256.txt")" node read.mjs
     check "the second program prints what it has to" \
-        says $'121 138 0201\ntrue Truncated 1 1' node "${flag[@]}" write.mjs
+        says $'121 138 0201\ntrue Truncated 1 1' node write.mjs
     check "the package passes its tests" js_tests
-    check "the script that measures the cost of calls prints three" \
-        says 5 eval 'node "${flag[@]}" $installed/tests/cost.js | grep -c "|"'
+    check "the script that measures the cost of calls prints five" \
+        says 7 eval 'node $installed/tests/cost.js 2 | grep -c "|"'
     check "the module has the calls of sec1.h" says \
         "sec1_key_len_of sec1_key_write_of sec1_status_text sec1_version" js_names
+    engines
     (cd $installed && exec python3 -u -m http.server --bind 127.0.0.1 0) >>"$work/served" 2>&1 &
     server=$!
     browsers
     kill "$server"
-    sed -i 's/memory.fill(0, HEAP, this.end)/memory.fill(0, HEAP + 65536, this.end)/' \
+    sed -i 's/memory.fill(0, STORED, end)/memory.fill(0, STORED + 65536, end)/' \
         $installed/library.js
     check "a page that isn't wiped is found" eval '! js_tests'
     types
+}
+
+# Packs a clone that has no links, as git makes it on Windows: each is a file that has a path.
+without_links() {
+    local clone=$work/clone
+    git -C "$repository" init -q && git -C "$repository" add -A &&
+        git -C "$repository" -c user.name=t -c user.email=t@example.com commit -q -m .
+    check "git clones it without links" \
+        git clone -q -c core.symlinks=false "$repository" "$clone"
+    cd "$clone/bindings/js" || return
+    check "the module is a path there" says ../../dist/sec1.wasm cat sec1.wasm
+    mkdir "$clone/packed"
+    check "npm packs it" npm pack --pack-destination "$clone/packed"
+    check "with the same bytes" cmp "$work/first.tgz" "$clone"/packed/*.tgz
+    check "it leaves the folder as it was" test -z "$(git status --porcelain .)"
+    rm "$clone/dist/sec1.wasm"
+    refuses "a path that leads nowhere is refused" \
+        "sec1.wasm leads to ../../dist/sec1.wasm, where nothing is" node links.js follow
+}
+
+# Compares what engines compute: that of Node, of WebKit, and then those of the browsers.
+engines() {
+    local words=("$installed/sec1.wasm" "$installed/tests/data/p256.der"
+        "$installed/tests/data/containers.txt")
+    sum=$(node $installed/tests/engines.js "${words[@]}")
+    echo "$(node -p '`Node ${process.version}, V8 ${process.versions.v8}`'): $sum"
+    if command -v jsc >/dev/null; then
+        check "WebKit's engine computes the same" \
+            says "$sum" jsc -m $installed/tests/engines.js -- "${words[@]}"
+    else
+        skip 1 "jsc is missing (Debian: apt-get install libjavascriptcoregtk-4.0-bin)"
+    fi
+    # id-ecPublicKey with another last byte.
+    LC_ALL=C sed 's/\x2a\x86\x48\xce\x3d\x02\x01/\x2a\x86\x48\xce\x3d\x02\x02/' "${words[0]}" \
+        >"$work/planted.wasm"
+    check "another constant in the module is found" eval \
+        '! says "$sum" node $installed/tests/engines.js "$work/planted.wasm" "${words[@]:1}"'
 }
 
 # Opens the page of the tests in the browsers that are installed.
@@ -359,7 +394,7 @@ browsers() {
     done
     for browser in chromium firefox-esr; do
         if command -v $browser >/dev/null; then
-            check "$browser reads and writes keys" reads_and_writes $browser \
+            check "$browser reads and writes keys, and computes the same" reads_and_writes $browser \
                 "http://127.0.0.1:$port/tests/page.html"
         else
             skip 1 "$browser is missing (Debian: apt-get install $browser)"
@@ -378,12 +413,12 @@ reads_and_writes() { # BROWSER URL
     : >"$work/served"
     HOME=$work/$1 timeout 100 "$1" "${options[@]}" "$2" >"$work/$1.said" 2>&1 &
     for _ in {1..200}; do
-        if grep -q 'GET /\(read-and-wrote-keys\|failed-.*\) ' "$work/served"; then break; fi
+        if grep -q 'GET /\(read-and-wrote-keys\|failed\)-.* ' "$work/served"; then break; fi
         sleep 0.5
     done
     kill $! && wait $!
     cat "$work/served"
-    grep -q 'GET /read-and-wrote-keys ' "$work/served"
+    grep -q "GET /read-and-wrote-keys-${sum/ calls: /-} " "$work/served"
 }
 
 # Checks the types by a program of each name, and lines that are to be refused.
@@ -412,7 +447,7 @@ for name in ${1:-rust python js}; do
     python) if has python3 && has cc; then part python; fi ;;
     js)
         if command -v node >/dev/null && command -v npm >/dev/null; then part js; else
-            skip 16 "JavaScript: node or npm is missing (Debian: apt-get install nodejs npm)"
+            skip 24 "JavaScript: node or npm is missing (Debian: apt-get install nodejs npm)"
         fi
         ;;
     esac

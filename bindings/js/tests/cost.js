@@ -1,14 +1,16 @@
 // Prints a table of the microseconds of a call of this package, and of the nearest ones of
-// `node:crypto` and of two packages where they are installed: the fastest of 200 samples of 50
-// calls each, taken in turn. Debian has the packages as node-asn1.js and node-elliptic, which a
-// node that isn't Debian's finds by NODE_PATH=/usr/share/nodejs.
+// `node:crypto` and of two packages where they are installed: the fastest of 200 samples, or of as
+// many as are asked for, of 50 calls each, taken in turn. Debian has the packages as node-asn1.js
+// and node-elliptic, which a node that isn't Debian's finds by NODE_PATH=/usr/share/nodejs.
+//
+//   node cost.js [SAMPLES]
 import crypto from 'node:crypto';
 import fs from 'node:fs';
 import { createRequire } from 'node:module';
 
 import { EcPrivateKey, Point } from '../index.js';
 
-const SAMPLES = 200;
+const SAMPLES = Number(process.argv[2] ?? 200);
 const CALLS = 50;
 
 /** Returns what a package of this name exports, or null. */
