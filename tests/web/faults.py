@@ -47,9 +47,11 @@ FAULTS = [
           "const top = 2 * share * this.#box.clientHeight"),
     Fault("rows that stay", "large", "() => this.#draw());\n    new Resize",
           "() => 0);\n    new Resize"),
-    Fault("a page of memory that isn't wiped", "memory", "memory.fill(0, HEAP, this.end);",
-          "memory.fill(0, HEAP + 65536, this.end);"),
-    Fault("the stack that isn't wiped", "memory", "memory.fill(0, 0, CONSTANTS);", ""),
+    Fault("a page of memory that isn't wiped", "memory", "memory.fill(0, STORED, end);",
+          "memory.fill(0, STORED + 65536, end);"),
+    Fault("the stack that isn't wiped", "memory", "memory.fill(0, STACK - depth, STACK);", ""),
+    Fault("the stack that isn't wiped as far as pictures use it", "memory",
+          "[65536, 24576, 4096]", "[65536, 4096, 4096]"),
 ]
 
 

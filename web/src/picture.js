@@ -43,10 +43,9 @@ export class Picture {
 
   /** The picture of an input. The bytes that it is of are the input or were decoded from it. */
   constructor(input) {
-    const { status, text, numbers, decoded } = picture(input);
+    const { status, text, numbers, decoded } = picture(input, true);
     if (status) throw new Error(`the library broke its contract: ${status}`);
-    // DER is what it is, and only a text has headings.
-    const bytes = numbers[0] === Kind.HEADING ? decoded : input.slice();
+    const bytes = decoded ?? input.slice();
     [this.#text, this.#numbers, this.#bytes] = [text, numbers, bytes];
     const count = numbers.length / NUMBERS;
     this.#starts = new Uint32Array(count + 1);
