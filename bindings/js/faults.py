@@ -6,7 +6,6 @@
 """
 import pathlib
 import shutil
-import subprocess
 import sys
 
 sys.dont_write_bytecode = True
@@ -16,41 +15,53 @@ import plant  # noqa: E402
 
 FAULTS = [
     # the memory of a call
-    ("library.js", "memory.fill(0, HEAP, this.end);", ""),
-    ("library.js", "memory.fill(0, HEAP, this.end)", "memory.fill(0, HEAP + 65536, this.end)"),
-    ("library.js", "memory.fill(0, HEAP, this.end)", "memory.fill(0, HEAP, this.end - 65536)"),
-    ("library.js", "memory.fill(0, HEAP, this.end)", "memory.fill(0, HEAP, this.end - 1)"),
-    ("library.js", "memory.fill(0, HEAP, this.end)", "memory.fill(1, HEAP, this.end)"),
-    ("library.js", "    memory.fill(0, 0, CONSTANTS);\n", ""),
-    ("library.js", "  } finally {\n    scratch.wipe();", "  } finally {"),
+    ("library.js", "memory.fill(0, STORED, end);", ""),
+    ("library.js", "memory.fill(0, STORED, end)", "memory.fill(0, STORED + 65536, end)"),
+    ("library.js", "memory.fill(0, STORED, end)", "memory.fill(0, STORED, end - 65536)"),
+    ("library.js", "memory.fill(0, STORED, end)", "memory.fill(0, GIVEN, end)"),
+    ("library.js", "memory.fill(0, STORED, end)", "memory.fill(1, STORED, end)"),
+    ("library.js", "    wipe(FLAT);\n", ""),
+    ("library.js", "    wipe(FLAT);", "    wipe(64);"),
+    ("library.js", "decoded };\n  } finally {\n    wipe(DEEP);",
+     "decoded };\n  } finally {\n    wipe(FLAT);"),
+    ("library.js", "      most = wanted;\n    } finally {\n      wipe(DEEP);",
+     "      most = wanted;\n    } finally {\n      wipe(FLAT);"),
+    ("library.js", "      most = wanted;\n    } finally {\n      wipe(DEEP);\n",
+     "      most = wanted;\n    } finally {\n"),
+    ("library.js", "memory.fill(0, STACK - depth, STACK);", ""),
+    ("library.js", "  end = GIVEN;\n}", "}"),
     ("library.js", "const BUFFER = 7;", "const BUFFER = 8;"),
     ("library.js", "const PAGE = 65536;", "const PAGE = 131072;"),
-    ("library.js", "exports.memory.grow(BigInt(pages));", "exports.memory.grow(pages);"),
-    ("library.js", "    exports.memory.grow(pages);\n", ""),
-    ("library.js", "if (!(error instanceof TypeError)) throw error;", ""),
+    ("library.js", "const GIVEN = STORED + 96;", "const GIVEN = STORED + 64;"),
+    ("library.js", "exports.memory.grow(Math.ceil(length / PAGE));",
+     "exports.memory.grow(BigInt(Math.ceil(length / PAGE)));"),
+    ("library.js", "  exports.memory.grow(Math.ceil(length / PAGE));\n", ""),
     ("library.js", "  view = new DataView(exports.memory.buffer);\n", ""),
     ("library.js", "  memory = new Uint8Array(exports.memory.buffer);\n", ""),
     ("library.js", "Math.ceil(length / 8) * 8", "Math.floor(length / 8) * 8"),
-    ("library.js", "if (this.end > memory.length)", "if (this.end > memory.length + 4096)"),
-    ("library.js", "grow(this.end - memory.length)", "grow(this.end)"),
-    ("library.js", "grow(this.end - memory.length)", "grow(this.end - memory.length - 65536)"),
-    ("library.js", "view.getBigUint64(place, true)", "view.getBigUint64(place, false)"),
+    ("library.js", "if (end > memory.length)", "if (end > memory.length + 4096)"),
+    ("library.js", "grow(end - memory.length)", "grow(end)"),
+    ("library.js", "grow(end - memory.length)", "grow(end - memory.length - 65536)"),
+    ("library.js", "view.getUint32(place, true)", "view.getUint32(place, false)"),
+    ("library.js", " + view.getUint32(place + 4, true) * 2 ** 32", ""),
     ("library.js", "view.getInt32(place, true)", "view.getUint32(place, true)"),
-    ("library.js", "    memory.set(bytes, place);\n", ""),
-    ("library.js", "[BigInt(place), BigInt(bytes.length)]", "[BigInt(place), BigInt(place)]"),
-    ("library.js", "[BigInt(number)]", "[BigInt(number) + 1n]"),
-    ("library.js", "if (wanted <= this.#room) return false;", "return false;"),
-    ("library.js", "this.#place = scratch.reserve(wanted);", ""),
-    ("library.js", "begin + wordAt(it + 8)", "begin + wordAt(it + 16)"),
-    ("library.js", "(wordAt(it + 16) ? ", "(wordAt(it + 8) ? "),
+    ("library.js", "      memory.set(it, place);\n", ""),
+    ("library.js", "BigInt(place), BigInt(it.length)", "BigInt(place), BigInt(place)"),
+    ("library.js", "words.push(BigInt(it))", "words.push(BigInt(it) + 1n)"),
+    ("library.js", "if (status !== BUFFER || length <= room) return", "return"),
+    ("library.js", "BigInt(room), STORED_WORD", "BigInt(ROOM), STORED_WORD"),
+    ("library.js", "begin + wordAt(place + 8)", "begin + wordAt(place + 16)"),
+    ("library.js", "(wordAt(place + 16) ? ", "(wordAt(place + 8) ? "),
     ("library.js", "memory.slice(begin,", "memory.subarray(begin,"),
-    ("library.js", "HEAP + wordAt(it);", "HEAP + wordAt(it) + 1;"),
-    *[("library.js", f"return [memory.slice({it}", f"return [memory.subarray({it}")
-      for it in ("this.#place, this.#place + wordAt(", "this.#place, this.#place + Math.min(")],
-    *[("library.js", f"sec1_{it}_fault_at: [Bytes, offset]", f"sec1_{it}_fault_at: [Bytes, Size]")
+    ("library.js", "GIVEN + wordAt(place);", "GIVEN + wordAt(place) + 1;"),
+    ("library.js", "[status, memory.slice(place, place + length)]",
+     "[status, memory.subarray(place, place + length)]"),
+    ("library.js", "memory.slice(text, text + wanted)", "memory.subarray(text, text + wanted)"),
+    ("library.js", "      place += length;\n", ""),
+    *[("library.js", f"sec1_{it}_fault_at: stores([size])", f"sec1_{it}_fault_at: stores([part])")
       for it in ("certificate", "private_key", "private_key_info", "public_key", "signature")],
-    ("library.js", "stores(size, part, part)", "stores(part, part, size)"),
-    ("library.js", "keyParts = stores(part, part, part)", "keyParts = stores(part, part, place)"),
+    ("library.js", "stores([size, part, part])", "stores([part, part, size])"),
+    ("library.js", "stores([part, part, part], [size])", "stores([part, part, part, size])"),
     # refusals
     *[("index.js", f"static status = {n};", f"static status = {n + 20};")
       for n in (1, 2, 3, 4, 5, 6, 8, 9, 10, 11, 12)],
@@ -86,8 +97,12 @@ FAULTS = [
     ("index.js", "if (status) check(status, call(faultAt, bytes)[1]);", "check(status);"),
     ("index.js", "  check(status);\n  return result;", "  return result;"),
     # identifiers and curves
-    ("index.js", "this.#content = bytesOf(content).slice();", "this.#content = bytesOf(content);"),
-    ("index.js", "    made('sec1_identifier_check', this.#content);\n", ""),
+    ("index.js", "bytesOf(content).slice();", "bytesOf(content);"),
+    ("index.js", "    if (mark !== MADE) made('sec1_identifier_check', this.#content);\n", ""),
+    ("index.js", "this.#content = mark === MADE ?", "this.#content = mark ?"),
+    ("index.js", "const MADE = Symbol('made');", "const MADE = undefined;"),
+    ("index.js", "const isMade = mark === MADE;", "const isMade = true;"),
+    ("index.js", "    if (mark !== MADE) this.#read();\n", ""),
     ("index.js", "return this.#content.slice();", "return this.#content;"),
     ("index.js", "other instanceof ObjectIdentifier && same(this.#content, other.#content)",
      "other instanceof ObjectIdentifier && this.#content.length === other.#content.length"),
@@ -100,14 +115,12 @@ FAULTS = [
     ("index.js", "    this.#identifier = identifier;\n", ""),
     ("index.js", "this.#identifier.equals(other.#identifier)", "true"),
     # keys
-    ("index.js", "this.#privateKey = bytesOf(privateKey);",
-     "this.#privateKey = bytesOf(privateKey).slice();"),
-    ("index.js", "this.#privateKey = bytesOf(privateKey);",
-     "this.#privateKey = this.hidden = bytesOf(privateKey);"),
+    ("index.js", "privateKey : bytesOf(privateKey);", "privateKey : bytesOf(privateKey).slice();"),
+    ("index.js", "this.#privateKey = isMade", "this.#privateKey = this.hidden = isMade"),
     ("index.js", "curve === null ? null : instance(ObjectIdentifier, curve)", "curve"),
     ("index.js", "curve === null ? null : instance", "!curve ? null : instance"),
-    ("index.js", "publicKey === null ? null : bytesOf(publicKey)", "publicKey"),
-    ("index.js", "publicKey === null ? null : bytesOf", "!publicKey ? null : bytesOf"),
+    ("index.js", "publicKey === null || isMade ? publicKey : bytesOf(publicKey)", "publicKey"),
+    ("index.js", "publicKey === null || isMade ? publicKey", "!publicKey || isMade ? publicKey"),
     ("index.js", "    check(status, offset);\n    return EcPrivateKey.#ofParts",
      "    check(status);\n    return EcPrivateKey.#ofParts"),
     ("index.js", "    check(status, offset);\n    return EcPrivateKey.read(data);",
@@ -122,8 +135,8 @@ FAULTS = [
     ("index.js", "= 'sec1_certificate_fault_at';", "= 'sec1_public_key_fault_at';"),
     ("index.js", "return read('sec1_certificate_read_public_key', faultAt, bytesOf(data))[0];",
      "return made('sec1_certificate_read_public_key', bytesOf(data));"),
-    ("index.js", "curve && new ObjectIdentifier(curve), publicKey);",
-     "curve && new ObjectIdentifier(curve));"),
+    *[("index.js", "(privateKey, identifier, publicKey, MADE);", f"(privateKey, {it}, MADE);")
+      for it in ("identifier, null", "null, publicKey")],
     ("index.js", "same(this.#privateKey, other.#privateKey) &&", "true &&"),
     ("index.js", "(this.#curve?.equals(other.#curve) ?? other.#curve === null) &&", ""),
     ("index.js", "?? other.#curve === null)", "?? true)"),
@@ -152,24 +165,25 @@ FAULTS = [
     # points
     ("index.js", "export const Tag = Object.freeze({", "export const Tag = ({"),
     ("index.js", "HYBRID_EVEN: 6,\n  HYBRID_ODD: 7,", "HYBRID_EVEN: 7,\n  HYBRID_ODD: 6,"),
-    ("index.js", "this.#encoding = bytesOf(encoding).slice();", "this.#encoding = bytesOf(encoding);"),
+    ("index.js", "bytesOf(encoding).slice();", "bytesOf(encoding);"),
     ("index.js", "this.#fieldLength = wholeNumber(fieldLength);", "this.#fieldLength = fieldLength;"),
-    ("index.js", "    this.#x = x;", "    this.#x = y;"),
-    ("index.js", "    this.#y = y;", "    this.#y = x;"),
-    ("index.js", "    this.#tag = tag;", "    this.#tag = tag & 6;"),
+    ("index.js", "{ tag, x, y };", "{ tag, x: y, y };"),
+    ("index.js", "{ tag, x, y };", "{ tag, x, y: x };"),
+    ("index.js", "{ tag, x, y };", "{ tag: tag & 6, x, y };"),
+    ("index.js", "    if (!this.#parts) {", "    if (this.#parts) {"),
     ("index.js", "Number(Boolean(compress))", "Number(!compress)"),
     ("index.js", "Number(Boolean(compress))", "1"),
     ("index.js", "made('sec1_point_identity'), fieldLength", "made('sec1_point_identity'), 32"),
     ("index.js", "digits, wholeNumber(fieldLength)", "digits, fieldLength"),
     ("index.js", "return this.#encoding.slice();", "return this.#encoding;"),
-    ("index.js", "this.#x?.slice() ?? null", "this.#x"),
-    ("index.js", "this.#y?.slice() ?? null", "this.#y"),
-    ("index.js", "this.#y?.slice() ?? null", "this.#y?.slice()"),
+    ("index.js", "this.#read().x?.slice() ?? null", "this.#read().x"),
+    ("index.js", "this.#read().y?.slice() ?? null", "this.#read().y"),
+    ("index.js", "this.#read().y?.slice() ?? null", "this.#read().y?.slice()"),
     ("index.js", "Number(Boolean(lowerCase))", "Number(!lowerCase)"),
     ("index.js", "this.#made('sec1_point_compress')", "this.#made('sec1_point_to_hybrid')"),
     ("index.js", "this.#made('sec1_point_to_hybrid')", "this.#made('sec1_point_compress')"),
-    ("index.js", "Point.fromCoordinates(this.#x, this.#y)", "Point.fromCoordinates(this.#y, this.#x)"),
-    ("index.js", "this.#y === null ? this : Point", "this.#tag !== 6 ? this : Point"),
+    ("index.js", "Point.fromCoordinates(x, y);", "Point.fromCoordinates(y, x);"),
+    ("index.js", "y === null ? this : Point", "this.tag !== 6 ? this : Point"),
     ("index.js", "other instanceof Point && this.#fieldLength === other.#fieldLength &&",
      "other instanceof Point &&"),
     ("index.js", "this.compare(other) === 0", "this.compare(other) <= 0"),
@@ -180,26 +194,24 @@ FAULTS = [
     # pictures
     ("library.js", "export const NUMBERS = 6;", "export const NUMBERS = 7;"),
     ("library.js", "HEADING: 0, ROW: 1, MARK: 2,", "HEADING: 0, ROW: 2, MARK: 1,"),
-    ("library.js", "this.#place = scratch.reserve(length);", "this.#place = scratch.reserve(8);"),
-    ("library.js", "this.#place = scratch.reserve(room);", "this.#place = scratch.reserve(8);"),
-    ("library.js", "scratch.reserve(room * NUMBERS * 8)", "scratch.reserve(room * NUMBERS)"),
-    ("library.js", "Math.min(length, this.#room)), length]", "this.#room), length]"),
-    ("library.js", "this.#room)), length]", "this.#room)), this.#room]"),
-    ("library.js", "(memory.buffer, this.#place,", "(memory.buffer, this.#length,"),
+    ("library.js", "[reserve(length), reserve(most)]", "[reserve(8), reserve(most)]"),
+    ("library.js", "[reserve(length), reserve(most)]", "[reserve(length), reserve(8)]"),
+    ("library.js", "reserve(count * NUMBERS * 8)", "reserve(count * NUMBERS)"),
+    ("library.js", "(memory.buffer, place,", "(memory.buffer, place + 8,"),
     ("library.js", "halves[2 * at];", "halves[at];"),
     ("library.js", "halves[2 * at];", "halves[2 * at + 1];"),
-    ("library.js", "[Bytes, Room, Lines]", "[Bytes, Room, Text]"),
-    ("library.js", "Room, Text, stores(size)]", "Room, Text, stores(part)]"),
-    *[("library.js", "input, all, 2 * input.length + 2 + most, most)", f"input, {it}, most)")
-      for it in ("0, 2 * input.length + 2 + most", "all, input.length + 2 + most",
-                 "all, 2 * input.length + 1 + most", "all, 2 * input.length + 2")],
-    ("library.js", "if (status !== BUFFER || length <= most) return", "return"),
-    ("library.js", "return [status, text, isKey];", "return [0, text, isKey];"),
+    ("library.js", "Math.min(wordAt(STORED), count)", "wordAt(STORED) - 1"),
+    *[("library.js", "const length = 2 * input.length + 2 + most;", f"const length = {it};")
+      for it in ("input.length + 2 + most", "2 * input.length + 1 + most", "2 * input.length + 2")],
+    ("library.js", "placed([input, all])", "placed([input, 0])"),
+    ("library.js", "if (status !== BUFFER || wanted <= most) {", "if (true) {"),
+    ("library.js", "return [status, memory.slice(text,", "return [0, memory.slice(text,"),
+    ("library.js", "wordAt(STORED + 8)];", "wordAt(STORED)];"),
     ("library.js", "drawn(input, 0);", "drawn(input, 1);"),
     ("library.js", "text.indexOf(10, at + 1)", "text.indexOf(10, at + 40)"),
     ("library.js", "let count = 0;", "let count = -1;"),
-    ("library.js", "input, 2 * input.length + 2, count)", "input, input.length + 2, count)"),
-    ("library.js", "input, 2 * input.length + 2, count)", "input, 2 * input.length + 1, count)"),
+    ("library.js", "const length = 2 * input.length + 2;", "const length = input.length + 2;"),
+    ("library.js", "const length = 2 * input.length + 2;", "const length = 2 * input.length + 1;"),
     ("library.js", "status: status || told", "status"),
     ("library.js", "status: status || told", "status: told"),
     ("index.js", "text.split('\\n').slice(0, -1)", "text.split('\\n').slice(1)"),
@@ -233,12 +245,17 @@ FAULTS = [
     ("index.js", "export function documentLength", "export const other = 1;\nexport function documentLength"),
     ("index.d.ts", "  toHybrid(): Point;\n", ""),
     ("index.d.ts", "  readonly fieldLength: number;\n  readonly tag", "  readonly tag"),
-    ("module.js", "no WebAssembly with a memory of 64 bits is here", "no WebAssembly"),
-    ("module.js", "return fs.readFileSync(url);", "return fs.readFileSync(url).subarray(1);"),
+    ("module.js", "this engine has no WebAssembly'", "no'"),
+    ("module.js", "  if (!globalThis.WebAssembly) throw", "  if (false) throw"),
+    ("module.js", "a policy has to allow", "a policy may allow"),
+    ("module.js", "await WebAssembly.compile(MAGIC);", "await WebAssembly.compile(bytes);"),
+    ("module.js", "byte !== bytes[at]", "byte > bytes[at]"),
+    ("module.js", "is damaged, or this", "is damaged: this"),
+    ("module.js", "(FILES)).readFileSync(url)", "(FILES)).readFileSync(url).subarray(1)"),
 ]
 
 
-MEMORY_OF_64_BITS = "--experimental-wasm-memory64"
+COMMAND = ["node", "tests/test.js"]
 
 # Ends the tests where the first of them fails; node's own go on.
 STOP = """
@@ -250,12 +267,6 @@ export default function test(name, call) {
   });
 }
 """
-
-
-def command():
-    """Returns the command that runs the tests, with the option that some versions of Node need."""
-    known = subprocess.run(["node", MEMORY_OF_64_BITS, "-e", "0"], capture_output=True, check=False)
-    return ["node", *[MEMORY_OF_64_BITS] * (known.returncode == 0), "tests/test.js"]
 
 
 def copy(folder):
@@ -282,5 +293,4 @@ if __name__ == "__main__":
     if not shutil.which("node"):
         print(f"there is no node\n0 passed, 0 failed, {len(FAULTS)} skipped")
         sys.exit(0)
-    COMMAND = command()
     sys.exit(plant.main(FAULTS, copy, run))

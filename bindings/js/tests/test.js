@@ -193,6 +193,19 @@ test('refuses values of wrong types', () => {
   }
 });
 
+test('copies and checks what is given, whatever comes with it', () => {
+  const mine = () => [bytes('2a03'), bytes('030000'), bytes('04')];
+  for (const more of [true, 'made', Symbol('made'), undefined]) {
+    const [content, encoding] = mine();
+    const made = [new ObjectIdentifier(content, more), new Point(encoding, 2, more)];
+    for (const array of [content, encoding]) array.fill(0xff);
+    assert.deepEqual([hex(made[0].content), hex(made[1].encoding)], ['2a03', '030000']);
+    assert.throws(() => new ObjectIdentifier(bytes('ff'), more), sec1.ValueContentError);
+    assert.throws(() => new Point(bytes('ff'), 2, more), sec1.PointEncodingError);
+    assert.throws(() => new EcPrivateKey('text', null, null, more), TypeError);
+  }
+});
+
 test('finds keys equal or different by each part, to its last byte', () => {
   const other = oid('1.2.840.10045.3.1.6');
   const [scalar, point] = [bytes('00'.repeat(32)), bytes('00'.repeat(65))];
@@ -801,7 +814,7 @@ test('draws a text that is longer than the room for most', () => {
   const input = new Uint8Array(4 + 3 * count).map((_, at) => [4, 1, 9][(at + 2) % 3]);
   input.set([0x30, 0x82, 0x60, 0]);
   const { text } = sec1.draw(input, { all: true });
-  assert(text.length > 24 * input.length + 4096);
+  assert(text.length > 8 * input.length + 4096);
   const lines = text.split('\n');
   assert.equal(lines[0], lineOf(0, '30 82 60 00', 3 * count, 'SEQUENCE'));
   for (let at = 0; at < count; at += 1) {
@@ -824,6 +837,20 @@ test('throws the refusal of each call that draws', () => {
     }
   }
   assert.equal(sec1.draw(bytes('0500')).rows.length, 1);
+});
+
+test('throws where memory has no room for a text', () => {
+  const call = calls.sec1_picture_draw;
+  calls.sec1_picture_draw = (...given) => {
+    new DataView(memory.buffer).setBigUint64(Number(given[7]), (1n << 32n) + 5n, true);
+    return 7;
+  };
+  try {
+    assert.throws(() => sec1.draw(bytes('0500')), RangeError);
+  } finally {
+    calls.sec1_picture_draw = call;
+  }
+  assertWiped();
 });
 
 // ---- the package
