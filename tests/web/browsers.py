@@ -1,10 +1,12 @@
-"""Two browsers without a screen, driven as a person drives them: by files, keys and the clipboard.
-Chromium is spoken to by its DevTools protocol over a pipe, Firefox by Marionette.
+"""Browsers without a screen. Chromium and Firefox are driven as a person drives them, by files,
+keys and the clipboard: the one by its DevTools protocol over a pipe, the other by Marionette.
+WebKitGTK is driven by scripts that make the events of a person.
 """
 import base64
 import json
 import os
 import pathlib
+import shutil
 import socket
 import socketserver
 import subprocess
@@ -86,6 +88,17 @@ class Browser:
 
     def paste(self):
         self.press("v", "paste")
+
+    def drop(self, path):
+        """Drops a file onto the page, where only a script can make the events."""
+        data = json.dumps(base64.b64encode(pathlib.Path(path).read_bytes()).decode())
+        name = json.dumps(pathlib.Path(path).name)
+        self.run(
+            "(() => { const dataTransfer = new DataTransfer();"
+            f"const bytes = Uint8Array.from(atob({data}), (it) => it.charCodeAt(0));"
+            f"dataTransfer.items.add(new File([bytes], {name}));"
+            "for (const kind of ['dragenter', 'dragover', 'drop']) { document.body.dispatchEvent("
+            "new DragEvent(kind, { dataTransfer, bubbles: true, cancelable: true })); } })()")
 
 
 class Chromium(Browser):
@@ -351,17 +364,6 @@ class Firefox(Browser):
     def choose(self, path):
         self.ask("WebDriver:ElementSendKeys", id=self.element("#file"), text=str(path))
 
-    def drop(self, path):
-        """Drops a file onto the page. Marionette has no drop: a script makes its events."""
-        data = json.dumps(base64.b64encode(pathlib.Path(path).read_bytes()).decode())
-        name = json.dumps(pathlib.Path(path).name)
-        self.run(
-            "(() => { const dataTransfer = new DataTransfer();"
-            f"const bytes = Uint8Array.from(atob({data}), (it) => it.charCodeAt(0));"
-            f"dataTransfer.items.add(new File([bytes], {name}));"
-            "for (const kind of ['dragenter', 'dragover', 'drop']) { document.body.dispatchEvent("
-            "new DragEvent(kind, { dataTransfer, bubbles: true, cancelable: true })); } })()")
-
     def size(self, width, height, scale=1):
         self.ask("WebDriver:SetWindowRect", width=width, height=height)
 
@@ -389,5 +391,66 @@ class Firefox(Browser):
             self.ask("Marionette:Quit", flags=["eForceQuit"])
         except (Failed, OSError):
             self.process.kill()
+        self.process.wait()
+        self.proxy.shutdown()
+
+
+class WebKit(Browser):
+    name = "webkit"
+    # What its window is made with: Debian's Python, which has the modules for it.
+    PYTHON = "/usr/bin/python3"
+
+    @classmethod
+    def is_there(cls):
+        """Returns whether there is what its window needs."""
+        words = [cls.PYTHON, "-c", "import gi; gi.require_version('WebKit2', '4.1')"]
+        try:
+            found = subprocess.run(words, stderr=subprocess.DEVNULL, check=False).returncode == 0
+        except OSError:
+            found = False
+        return found and all(map(shutil.which, ("xvfb-run", "xauth")))
+
+    def start(self):
+        proxy = f"http://127.0.0.1:{self.proxy.server_address[1]}"
+        words = ["xvfb-run", "-a", self.PYTHON, "-B", HERE / "webkit.py", proxy]
+        # Its own sandbox can't be made by every user.
+        more = {"HOME": str(self.room), "WEBKIT_DISABLE_SANDBOX_THIS_IS_DANGEROUS": "1"}
+        with open(self.room / "said", "wb") as said:
+            self.process = subprocess.Popen(
+                words, stdin=subprocess.PIPE, stdout=subprocess.PIPE, stderr=said,
+                env=os.environ | more, start_new_session=True)
+
+    def ask(self, **given):
+        self.process.stdin.write(json.dumps(given).encode() + b"\n")
+        self.process.stdin.flush()
+        line = self.process.stdout.readline()
+        if not line:
+            raise Failed("webkit has ended")
+        told = json.loads(line)
+        if "error" in told:
+            raise Failed(f"{given}: {told['error']}")
+        return told.get("value")
+
+    def open(self, url):
+        self.ask(open=url)
+
+    def run(self, expression):
+        return self.ask(run=expression)
+
+    def press(self, key, command=None):
+        self.run("document.activeElement.dispatchEvent(new KeyboardEvent('keydown', "
+                 f"{{ key: {json.dumps(key)}, bubbles: true, cancelable: true }}))")
+
+    def click(self, selector):
+        self.run(f"document.querySelector({json.dumps(selector)}).click()")
+
+    def choose(self, path):
+        self.drop(path)
+
+    def complaints(self):
+        return [f"asked for {host}" for host in self.proxy.asked]
+
+    def close(self):
+        self.process.stdin.close()
         self.process.wait()
         self.proxy.shutdown()
