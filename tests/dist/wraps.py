@@ -42,7 +42,8 @@ def added(linked, module, index):
 def main():
     linked, module = (wasm.Module(pathlib.Path(it).read_bytes()) for it in sys.argv[1:])
     heads = [[(it.params, it.results, it.locals) for it in m.functions] for m in (linked, module)]
-    constants = [m.data[begin:end] for m in (linked, module) for _, begin, end in m.segments]
+    constants = [[(place, m.data[begin:end]) for place, begin, end in m.segments]
+                 for m in (linked, module)]
     if heads[0] != heads[1] or constants[0] != constants[1] or linked.exports != module.exports:
         sys.exit("other functions, constants or exports")
     places = [it for index in range(len(module.functions)) for it in added(linked, module, index)]
