@@ -251,7 +251,8 @@ FAULTS = [
     ("module.js", "await WebAssembly.compile(MAGIC);", "await WebAssembly.compile(bytes);"),
     ("module.js", "byte !== bytes[at]", "byte > bytes[at]"),
     ("module.js", "is damaged, or this", "is damaged: this"),
-    ("module.js", "(FILES)).readFileSync(url)", "(FILES)).readFileSync(url).subarray(1)"),
+    ("module.js", "fs.readFileSync(url)", "fs.readFileSync(url).subarray(1)"),
+    ("module.js", " ?? await import(FILES);", ";"),
 ]
 
 

@@ -1,7 +1,7 @@
 // The proved module, compiled. It is read from the file beside this one, in browsers by `fetch`.
 
 const url = new URL('./sec1.wasm', import.meta.url);
-// The name is no constant, so that no tool that packs for browsers looks for the module.
+// A name that no tool that packs for browsers takes for a module to be packed.
 const FILES = 'node:fs';
 /** The first bytes of each module, which are one without content (WebAssembly 2.0, section 5.5). */
 const MAGIC = Uint8Array.of(0, 0x61, 0x73, 0x6d, 1, 0, 0, 0);
@@ -9,7 +9,9 @@ const MAGIC = Uint8Array.of(0, 0x61, 0x73, 0x6d, 1, 0, 0, 0);
 /** Returns the bytes of the module. */
 async function source() {
   if (url.protocol === 'file:' && globalThis.process?.versions?.node) {
-    return (await import(FILES)).readFileSync(url);
+    // Node has the first from 20.16 on.
+    const fs = process.getBuiltinModule?.(FILES) ?? await import(FILES);
+    return fs.readFileSync(url);
   }
   const response = await fetch(url);
   if (!response.ok) throw new Error(`${url}: ${response.status} ${response.statusText}`);

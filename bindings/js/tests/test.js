@@ -905,7 +905,9 @@ function saidAtImport(module, options = [], before = '') {
 
 test('says why the module cannot be compiled', () => {
   const module = read('../sec1.wasm');
-  assert.deepEqual(saidAtImport(module), [0, '']);
+  for (const before of ['', 'delete process.getBuiltinModule']) {
+    assert.deepEqual(saidAtImport(module, [], before), [0, '']);
+  }
   const link = Buffer.from('../../dist/sec1.wasm');
   for (const file of [link, Buffer.alloc(0), module.subarray(1)]) {
     const [status, said] = saidAtImport(file);
