@@ -13,7 +13,8 @@ instruction is missing, or stands elsewhere.
 import pathlib
 import sys
 
-import wasm
+sys.dont_write_bytecode = True
+import wasm  # noqa: E402
 
 WRAP = b"\xa7"
 # The type of a block that takes and leaves nothing (WebAssembly 2.0, section 5.4.1).
