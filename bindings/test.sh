@@ -307,7 +307,7 @@ js() {
     export npm_config_offline=true npm_config_cache="$work/npm" npm_config_update_notifier=false
     export npm_config_fund=false npm_config_audit=false
     if ! node -e 'process.exit(parseInt(process.versions.node) < 18 ? 1 : 0)'; then
-        skip 24 "JavaScript: node is older than 18"
+        skip 25 "JavaScript: node is older than 18"
         return
     fi
     copied "$repository"
@@ -392,14 +392,24 @@ browsers() {
         [ -z "$port" ] || break
         sleep 0.1
     done
-    for browser in chromium firefox-esr; do
-        if command -v $browser >/dev/null; then
+    for browser in chromium firefox-esr webkit; do
+        if is_there $browser; then
             check "$browser reads and writes keys, and computes the same" reads_and_writes $browser \
                 "http://127.0.0.1:$port/tests/page.html"
         else
-            skip 1 "$browser is missing (Debian: apt-get install $browser)"
+            local packages=$browser
+            [ $browser != webkit ] || packages="python3-gi gir1.2-webkit2-4.1 xvfb xauth"
+            skip 1 "$browser is missing (Debian: apt-get install $packages)"
         fi
     done
+}
+
+# Whether there is a browser. WebKitGTK is one in a window of tests/web/webkit.py.
+is_there() { # BROWSER
+    if [ "$1" != webkit ]; then command -v "$1" >/dev/null; else
+        command -v xvfb-run >/dev/null && command -v xauth >/dev/null &&
+            /usr/bin/python3 -c 'import gi; gi.require_version("WebKit2", "4.1")' 2>"$work/output"
+    fi
 }
 
 # Whether a browser asks the server for what the page asks for when all went well.
@@ -411,12 +421,22 @@ reads_and_writes() { # BROWSER URL
     fi
     mkdir -p "$work/$1"
     : >"$work/served"
-    HOME=$work/$1 timeout 100 "$1" "${options[@]}" "$2" >"$work/$1.said" 2>&1 &
+    if [ "$1" = webkit ]; then
+        mkfifo "$work/asked"
+        WEBKIT_DISABLE_SANDBOX_THIS_IS_DANGEROUS=1 HOME=$work/$1 timeout 100 xvfb-run -a \
+            /usr/bin/python3 -B "$top/tests/web/webkit.py" <"$work/asked" >"$work/$1.said" 2>&1 &
+        # Its window stays until what it reads from is closed.
+        exec 9>"$work/asked"
+        echo "{\"open\": \"$2\"}" >&9
+    else
+        HOME=$work/$1 timeout 100 "$1" "${options[@]}" "$2" >"$work/$1.said" 2>&1 &
+    fi
     for _ in {1..200}; do
         if grep -q 'GET /\(read-and-wrote-keys\|failed\)-.* ' "$work/served"; then break; fi
         sleep 0.5
     done
-    kill $! && wait $!
+    if [ "$1" = webkit ]; then exec 9>&-; else kill $!; fi
+    wait $!
     cat "$work/served"
     grep -q "GET /read-and-wrote-keys-${sum/ calls: /-} " "$work/served"
 }
@@ -447,7 +467,7 @@ for name in ${1:-rust python js}; do
     python) if has python3 && has cc; then part python; fi ;;
     js)
         if command -v node >/dev/null && command -v npm >/dev/null; then part js; else
-            skip 24 "JavaScript: node or npm is missing (Debian: apt-get install nodejs npm)"
+            skip 25 "JavaScript: node or npm is missing (Debian: apt-get install nodejs npm)"
         fi
         ;;
     esac

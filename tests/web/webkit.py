@@ -1,6 +1,6 @@
 """A window of WebKitGTK: reads a line of JSON at a time, and answers each by one.
 
-  webkit.py PROXY   PROXY is the URL of what all requests to a network go to
+  webkit.py [PROXY]   PROXY is the URL of what all requests to a network go to
 
 {"open": URL} is answered when the page is there, and {"run": EXPRESSION} with its value. It needs a
 display, and the modules that /usr/bin/python3 has (Debian: python3-gi, gir1.2-webkit2-4.1).
@@ -48,10 +48,11 @@ def asked(channel, _, view):
 
 
 def main():
-    proxy = WebKit2.NetworkProxySettings.new(sys.argv[1], None)
     context = WebKit2.WebContext.new_ephemeral()
-    context.get_website_data_manager().set_network_proxy_settings(
-        WebKit2.NetworkProxyMode.CUSTOM, proxy)
+    for url in sys.argv[1:]:
+        proxy = WebKit2.NetworkProxySettings.new(url, None)
+        context.get_website_data_manager().set_network_proxy_settings(
+            WebKit2.NetworkProxyMode.CUSTOM, proxy)
     window, view = Gtk.Window(), WebKit2.WebView.new_with_context(context)
     window.add(view)
     window.set_default_size(1280, 800)
