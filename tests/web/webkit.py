@@ -6,6 +6,7 @@
 display, and the modules that /usr/bin/python3 has (Debian: python3-gi, gir1.2-webkit2-4.1).
 """
 import json
+import os
 import sys
 
 import gi
@@ -14,11 +15,14 @@ gi.require_version("Gtk", "3.0")
 gi.require_version("WebKit2", "4.1")
 from gi.repository import GLib, Gtk, WebKit2  # noqa: E402
 
+# Its own standard output, which the processes that it starts don't have.
+ANSWERS = os.fdopen(os.dup(1), "w")
+os.dup2(2, 1)
 RUN = "const value = await (%s); return JSON.stringify({ value: value ?? null });"
 
 
 def answer(text):
-    print(text, flush=True)
+    print(text, file=ANSWERS, flush=True)
 
 
 def ran(view, result, _):
