@@ -22,8 +22,8 @@ LEVELS = {
     "der_view::values::arcs::split_subidentifier": 20,
     # five digits of 7 bits in 32, and then 0
     "sec1_der::object_identifier::builder::Content::push_marked": 6,
-    # it has no part of its own, so that any number is right
-    "der_view::line::Line::push_code": 1,
+    # it has no part of its own
+    "der_view::line::Line::push_code": 0,
 }
 # Instructions on the one global, which is the stack pointer, and on locals.
 GET, SET, POINTER, CONSTANT, TEE = 0x23, 0x24, (0,), 0x42, 0x22
@@ -63,8 +63,10 @@ class Stack:
         if index not in self.known:
             inner = self.calls[index] - {index}
             deepest = max((self.used(it, (*around, index)) for it in inner), default=0)
-            own = self.frames[index] * (LEVELS[name] if index in self.calls[index] else 1)
-            self.known[index] = own + deepest
+            levels = LEVELS[name] if index in self.calls[index] else 1
+            if self.frames[index] and not levels:
+                sys.exit(f"{name} has a part of the stack, and calls itself")
+            self.known[index] = levels * self.frames[index] + deepest
         return self.known[index]
 
 
