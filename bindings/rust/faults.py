@@ -266,7 +266,6 @@ FAULTS = [
     ("picture.rs", "#[derive(Clone, Debug, Eq, PartialEq)]", "impl PartialEq for Picture {\n    fn eq(&self, other: &Self) -> bool {\n        self.text.len() == other.text.len()\n    }\n}\n#[derive(Clone, Debug)]"),
     ("curve.rs", "#[derive(Clone, Copy, Eq, Hash, PartialEq)]", "impl PartialEq for Curve {\n    fn eq(&self, other: &Self) -> bool {\n        self.field_len() == other.field_len()\n    }\n}\n#[derive(Clone, Copy)]"),
     ("written.rs", "buf.get(..len).ok_or(", "buf.get(1..len).ok_or("),
-    ("written.rs", "Err((status, _)) => return Err(error_of(status)),", "Err((_, len)) => len,"),
     ("public_key.rs", "parts.public_key).map_err", "parts.curve).map_err"),
     ("public_key.rs", "true => Error::PointEncoding,\n        false => error", "true => error.into(),\n        false => error"),
     ("public_key.rs", "field_len() == Size::USIZE", "field_len() <= Size::USIZE"),

@@ -257,10 +257,15 @@ fn refuses_public_keys_and_signatures() {
     };
     refused(0, 0x31, ErrorKind::Tag, 0);
     refused(22, 0x3E, ErrorKind::Curve, 2);
+    refused(23, 4, ErrorKind::Tag, 23);
     refused(1, der[1] + 1, ErrorKind::Truncated, 1);
     let mut damaged = der.clone();
     damaged[26] = 9;
     assert_eq!(EcPublicKey::from_der(&damaged), Err(sec1::Error::PointEncoding));
+    // The identity has the same encoding over each field.
+    let identity = EcPublicKey { curve, public_key: &[0] };
+    assert!(identity.point::<U32>().is_ok());
+    assert_eq!(identity.point::<U48>(), Err(sec1::Error::PointEncoding));
     // Another curve, another length, no curve of the table.
     let p384 = Curve::new("P-384").unwrap().identifier();
     let other = EcPublicKey { curve: p384, ..key };
