@@ -1,5 +1,4 @@
--- The rules of certificates and containers say a kind for all that they refuse. Further crates cite
--- these laws.
+-- The rules of the structures say a kind for all that they refuse. Further crates cite these laws.
 use Rattle.std.proofs.Common.{[], ◌∷◌}
 use Rattle.sec1_der.specs.Contents.{bit_string_fault, byte_fault, value_unless}
 use Rattle.sec1_der.specs.Faults.{Fault, SaysKinds, no_fault, element_fault, end_fault}
@@ -8,7 +7,7 @@ use Rattle.sec1_der.proofs.KindLaws.{test_says}
 use Rattle.der_types.specs.AnyElements.{all_tags, any_element_fault}
 use Rattle.der_types.specs.Contents.{is_boolean}
 use Rattle.der_types.specs.Defaults.{other_fault}
-use Rattle.der_types.specs.Integers.{is_integer}
+use Rattle.der_types.specs.Integers.{is_integer, is_unsigned}
 use Rattle.der_types.specs.ObjectIdentifiers.{is_object_identifier}
 use Rattle.der_types.specs.Sequences.{sequence_fault}
 use Rattle.der_types.specs.Sequences.{set_fault}
@@ -17,13 +16,14 @@ use Rattle.der_types.proofs.KindLaws.{any_element_says, choice_says, optional_pa
 use Rattle.der_types.proofs.KindLaws.{set_says}
 use Rattle.pkix.specs.Records.{identifier_fault, algorithm_fault, public_key_fault, time_fault, validity_fault}
 use Rattle.pkix.specs.Records.{attribute_fault, names_fault, extension_fault, tbs_fault, certificate_fault}
-use Rattle.pkix.specs.Records.{key_attribute_fault, private_key_fault}
+use Rattle.pkix.specs.Records.{key_attribute_fault, private_key_fault, asymmetric_key_fault, signature_fault}
+use Rattle.pkix.specs.Records.{unsigned_fault}
 use Rattle.pkix.specs.Versions.{is_later_version}
 
 identifier_says : SaysKinds identifier_fault
 identifier_says = test_says is_object_identifier
 
-algorithm_says : SaysKinds algorithm_fault
+pub algorithm_says : SaysKinds algorithm_fault
 algorithm_says =
     element_says 0x06 identifier_fault _ identifier_says
     (optional_part_says all_tags any_element_fault end_fault (any_element_says end_fault end_says) end_says)
@@ -41,23 +41,23 @@ time_says rest says =
     (element_says 0x18 (λ general. value_unless (is_generalized_time general)) rest
     (test_says is_generalized_time) says)
 
-validity_says : SaysKinds validity_fault
+pub validity_says : SaysKinds validity_fault
 validity_says = time_says (time_fault end_fault) (time_says end_fault end_says)
 
-attribute_says : SaysKinds attribute_fault
+pub attribute_says : SaysKinds attribute_fault
 attribute_says = element_says 0x06 identifier_fault _ identifier_says (any_element_says end_fault end_says)
 
-names_say : SaysKinds names_fault
+pub names_say : SaysKinds names_fault
 names_say = sequence_says 0x31 (set_fault 0x30 attribute_fault) (set_says 0x30 attribute_fault attribute_says)
 
-extension_says : SaysKinds extension_fault
+pub extension_says : SaysKinds extension_fault
 extension_says =
     element_says 0x06 identifier_fault _ identifier_says
     (optional_says 0x01 (other_fault (0x00 ∷ []) (λ boolean. value_unless (is_boolean boolean))) _
     (other_says (0x00 ∷ []) (λ boolean. value_unless (is_boolean boolean)) (test_says is_boolean))
     (element_says 0x04 no_fault end_fault none_says end_says))
 
-tbs_says : SaysKinds tbs_fault
+pub tbs_says : SaysKinds tbs_fault
 tbs_says =
     optional_says 0xA0 (element_fault 0x02 (λ version. value_unless (is_later_version version)) end_fault) _
     (element_says 0x02 (λ version. value_unless (is_later_version version)) end_fault
@@ -81,7 +81,7 @@ certificate_says =
     (element_says 0x30 algorithm_fault _ algorithm_says
     (element_says 0x03 bit_string_fault end_fault bits_says end_says))
 
-key_attribute_says : SaysKinds key_attribute_fault
+pub key_attribute_says : SaysKinds key_attribute_fault
 key_attribute_says =
     element_says 0x06 identifier_fault _ identifier_says (element_says 0x31 no_fault end_fault none_says end_says)
 
@@ -92,3 +92,17 @@ private_key_says =
     (element_says 0x04 no_fault _ none_says
     (optional_says 0xA0 (set_fault 0x30 key_attribute_fault) end_fault
     (set_says 0x30 key_attribute_fault key_attribute_says) end_says)))
+
+pub asymmetric_key_says : SaysKinds asymmetric_key_fault
+asymmetric_key_says =
+    element_says 0x02 (byte_fault 1) _ (byte_says 1)
+    (element_says 0x30 algorithm_fault _ algorithm_says
+    (element_says 0x04 no_fault _ none_says
+    (optional_says 0xA0 (set_fault 0x30 key_attribute_fault) _
+    (set_says 0x30 key_attribute_fault key_attribute_says)
+    (optional_says 0x81 bit_string_fault end_fault bits_says end_says))))
+
+pub signature_says : SaysKinds signature_fault
+signature_says =
+    element_says 0x02 unsigned_fault _ (test_says is_unsigned)
+    (element_says 0x02 unsigned_fault end_fault (test_says is_unsigned) end_says)

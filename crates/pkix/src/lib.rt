@@ -5,6 +5,7 @@ mod certificate;
 mod extension;
 mod in_place;
 mod keys;
+pub mod laws;
 mod name;
 mod private_key;
 mod public_key;

@@ -2,11 +2,11 @@
 //! is determined by its bytes. Each law is the contract of a function, which does nothing else.
 ghost use Rattle.std.specs.Option.{option_or};
 ghost use Rattle.std.specs.Prelude.{◌≡◌, ◌≢◌, ◌↔◌, ◌≤◌, ◌++◌, [], ℕ, Bool, List, length, Some};
-ghost use Rattle.std.specs.Prelude.{None};
+ghost use Rattle.std.specs.Prelude.{◌<◌, ◌∷◌, None};
 ghost use Rattle.sec1_der.specs.Contents.{bit_string_fault, byte_fault, identifier_fault};
 ghost use Rattle.sec1_der.specs.Contents.{value_unless, whole_bits_fault, whole_bits_field_fault};
 ghost use Rattle.sec1_der.specs.Elements.{element, header, max_length, IsElement, IsHeader};
-ghost use Rattle.sec1_der.specs.Elements.{IsProperPrefix};
+ghost use Rattle.sec1_der.specs.Elements.{IsProperPrefix, length_octets};
 ghost use Rattle.sec1_der.specs.Errors.{header_fault};
 ghost use Rattle.sec1_der.specs.Faults.{Fault, any_fault, element_fault, end_fault, no_fault};
 ghost use Rattle.sec1_der.specs.Faults.{document_fault, optional_fault, tree_fault, IsFaultOf};
@@ -109,11 +109,19 @@ pub fn said_kinds()
     ensures test { (test : List ℕ → Bool) → SaysKinds (λ bytes. value_unless (test bytes)) }
     ensures version { (n : ℕ) → SaysKinds (byte_fault n) }
     ensures bits { SaysKinds bit_string_fault }
-    ensures whole_bits { SaysKinds whole_bits_fault × SaysKinds whole_bits_field_fault }
+    ensures whole_bits { SaysKinds whole_bits_fault }
+    ensures whole_bits_field { SaysKinds whole_bits_field_fault }
     ensures identifier { SaysKinds identifier_fault }
     // whole inputs
     ensures tree { SaysKinds tree_fault }
     ensures document { SaysKinds document_fault }
+{}
+
+/// A length below 128 is encoded as one byte, itself (X.690 section 8.1.3.4), so that the bytes of
+/// short elements can be computed.
+#[tactic(auto, unfolding(crate::specs::Elements::length_octets))]
+pub fn short_lengths()
+    ensures { (n : ℕ) → n < 128 → length_octets n ≡ n ∷ [] }
 {}
 
 /// Bytes that begin with no header are refused by the kind of the header's fault, whatever rule a
