@@ -1,3 +1,4 @@
 mod CurveLemmas
 mod InPlaceLemmas
 pub mod KindLaws
+pub mod LengthLemmas

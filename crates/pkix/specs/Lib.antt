@@ -2,3 +2,4 @@ pub mod EcKeys
 pub mod InPlace
 pub mod Records
 pub mod Versions
+pub mod TbsParts

@@ -10,7 +10,7 @@ use crate::in_place::{ReadInPlace, read_part, read_record};
 use der_types::{Any, ObjectIdentifierRef, OptionalPart};
 use sec1_der::{
     BackWriter, DecodePart, Distinct, EncodePart, Length, Part, Record, Required, Result,
-    SliceReader, UniquePart, component_len,
+    SliceReader, UniquePart, component_len, known_encoded_len,
 };
 
 /// An AlgorithmIdentifier (RFC 5280 section 4.1.1.2). Its parameters are any element, NULL among
@@ -68,6 +68,10 @@ impl Part for AlgorithmIdentifier<'_> {
 impl EncodePart for AlgorithmIdentifier<'_> {
     fn part_len(&self) -> Result<Length> {
         component_len(self)
+    }
+
+    fn known_part_len(&self) -> usize {
+        known_encoded_len(self)
     }
 
     fn prepend_part(&self, writer: &mut BackWriter) {

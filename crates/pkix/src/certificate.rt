@@ -9,11 +9,13 @@ ghost use Rattle.sec1_der.specs.Readers.{ReadsElement};
 ghost use Rattle.pkix.specs.Records.{tbs_content, tbs_fault};
 
 use crate::in_place::{ReadInPlace, read_part, read_record, read_whole};
+use crate::tbs_parts::{Additions, Names};
 use crate::{AlgorithmIdentifier, Extension, LaterVersion, Name, SubjectPublicKeyInfo, Validity};
 use der_types::{Bits, Implicit, Integer, SequenceOf};
 use sec1_der::{
     BackWriter, Context0, Context3, DecodePart, Distinct, EncodePart, Explicit, Length, Optional,
     Part, Primitive1, Primitive2, Record, Required, Result, SliceReader, UniquePart, component_len,
+    known_encoded_len,
 };
 
 /// A TBSCertificate (RFC 5280 section 4.1.2).
@@ -47,19 +49,7 @@ impl<'a> Record for TbsCertificate<'a> {
             Optional<Explicit<Context0, LaterVersion>>,
             (Required<Integer<'a>>, AlgorithmIdentifier<'a>),
         ),
-        (
-            (Required<Name<'a>>, (Validity<'a>, Required<Name<'a>>)),
-            (
-                SubjectPublicKeyInfo<'a>,
-                (
-                    (
-                        Optional<Implicit<Primitive1, Bits<'a>>>,
-                        Optional<Implicit<Primitive2, Bits<'a>>>,
-                    ),
-                    Optional<Explicit<Context3, SequenceOf<'a, Extension<'a>>>>,
-                ),
-            ),
-        ),
+        (Names<'a>, (SubjectPublicKeyInfo<'a>, Additions<'a>)),
     );
 
     ghost parts = { λ value. (
@@ -85,8 +75,9 @@ impl<'a> Record for TbsCertificate<'a> {
 
     fn from_parts(pairs: Self::Parts) -> Self {
         let ((version, (serial_number, signature)), (names, rest)) = pairs;
-        let (issuer, (validity, subject)) = names;
-        let (public_key, ((issuer_unique_id, subject_unique_id), extensions)) = rest;
+        let (issuer, (validity, subject)) = names.0;
+        let (public_key, additions) = rest;
+        let ((issuer_unique_id, subject_unique_id), extensions) = additions.0;
         TbsCertificate {
             version: version.0,
             serial_number: serial_number.0,
@@ -127,16 +118,16 @@ impl<'a> Record for TbsCertificate<'a> {
                 ),
             ),
             (
-                (
+                Names((
                     Required(self.issuer.reborrow()),
                     (self.validity.reborrow(), Required(self.subject.reborrow())),
-                ),
+                )),
                 (
                     self.public_key.reborrow(),
-                    (
+                    Additions((
                         (Optional(issuer_unique_id), Optional(subject_unique_id)),
                         Optional(extensions),
-                    ),
+                    )),
                 ),
             ),
         )
@@ -162,6 +153,10 @@ impl Part for TbsCertificate<'_> {
 impl EncodePart for TbsCertificate<'_> {
     fn part_len(&self) -> Result<Length> {
         component_len(self)
+    }
+
+    fn known_part_len(&self) -> usize {
+        known_encoded_len(self)
     }
 
     fn prepend_part(&self, writer: &mut BackWriter) {

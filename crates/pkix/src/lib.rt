@@ -10,6 +10,7 @@ mod name;
 mod private_key;
 mod public_key;
 mod signature;
+mod tbs_parts;
 mod validity;
 mod version;
 

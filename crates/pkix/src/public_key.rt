@@ -12,7 +12,7 @@ use crate::in_place::{ReadInPlace, read_part, read_record, read_whole};
 use der_types::Bits;
 use sec1_der::{
     BackWriter, DecodePart, Distinct, EncodePart, Length, Part, Record, Required, Result,
-    SliceReader, UniquePart, component_len,
+    SliceReader, UniquePart, component_len, known_encoded_len,
 };
 
 /// A SubjectPublicKeyInfo (RFC 5280 section 4.1).
@@ -65,6 +65,10 @@ impl Part for SubjectPublicKeyInfo<'_> {
 impl EncodePart for SubjectPublicKeyInfo<'_> {
     fn part_len(&self) -> Result<Length> {
         component_len(self)
+    }
+
+    fn known_part_len(&self) -> usize {
+        known_encoded_len(self)
     }
 
     fn prepend_part(&self, writer: &mut BackWriter) {

@@ -10,7 +10,7 @@ use crate::in_place::{ReadInPlace, read_part, read_record};
 use der_types::{Choice, GeneralizedTime, UtcTime};
 use sec1_der::{
     BackWriter, DecodePart, Distinct, EncodePart, Length, Part, Record, Required, Result,
-    SliceReader, UniquePart, component_len,
+    SliceReader, UniquePart, component_len, known_encoded_len,
 };
 
 /// A Time (RFC 5280 section 4.1).
@@ -63,6 +63,10 @@ impl Part for Validity<'_> {
 impl EncodePart for Validity<'_> {
     fn part_len(&self) -> Result<Length> {
         component_len(self)
+    }
+
+    fn known_part_len(&self) -> usize {
+        known_encoded_len(self)
     }
 
     fn prepend_part(&self, writer: &mut BackWriter) {
