@@ -32,7 +32,7 @@ use crate::rows::Rows;
 use crate::text::{Block, Encoding, Found, Note, Source, Sources, text_len};
 pub use facts::Facts;
 use lines::row_line;
-use sec1::EcPrivateKey;
+use sec1::BorrowedKey;
 pub use verdict::{Reading, Subject, Verdict};
 
 /// The hexadecimal digits.
@@ -146,7 +146,7 @@ fn draw_bytes<W: Output>(
 pub fn is_key(bytes: &[u8]) -> bool
     ensures { IsKey bytes.now result }
 {
-    EcPrivateKey::try_from(bytes).is_ok()
+    BorrowedKey::try_from(bytes).is_ok()
 }
 
 /// Writes the rows of bytes.

@@ -92,7 +92,7 @@ pub key_found_with : (key : Key) (P : List ℕ → Type 0) → IsSomeAnd (elemen
 key_found_with key P h = found_with key P (element_of 0x30 (key_content key)) refl h
 
 -- An element that ends too early is refused as Truncated: the law `cut_elements` says it.
-abbrev CutElements : Type 0
+abbrev pub CutElements : Type 0
 CutElements = (inside rest : Fault) (tag : ℕ) (content bytes : List ℕ) → length content ≤ max_length
     → IsProperPrefix bytes (element tag content) → element_fault tag inside rest bytes ≡ Some (Some Truncated)
 

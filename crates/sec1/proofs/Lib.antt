@@ -5,5 +5,6 @@ pub mod ByteOrderLemmas
 pub mod EncodedPointLemmas
 pub mod HexLemmas
 pub mod KeyLemmas
+pub mod KeyReadingLemmas
 pub mod CoordinateLemmas
 pub mod StreamLemmas

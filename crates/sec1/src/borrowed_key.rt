@@ -18,8 +18,8 @@ use std::marker::Model;
 /// An EC private key that borrows the curve's identifier too (SEC1 v2.0 Appendix C.4, RFC 5915
 /// section 3). A contract sees its three parts.
 ///
-/// An [`EcPrivateKey`](crate::EcPrivateKey) holds a copy of the identifier, and is read and written
-/// by this type. A program that looks at a key, or writes it again, needs no copy.
+/// An [`EcPrivateKey`](crate::EcPrivateKey) holds a copy of the identifier, and is written by this
+/// type. A program that looks at a key, or writes it again, needs no copy.
 #[derive(Drop)]
 pub struct BorrowedKey<'a> {
     /// The bytes of the private key.

@@ -10,6 +10,7 @@ ghost use Rattle.sec1.specs.ReadsKey.{ReadsKey};
 ghost use Rattle.sec1.specs.Errors.{IsAsn1, HasNoEncodingOr};
 
 use crate::borrowed_key::BorrowedKey;
+use crate::in_place::{ReadInPlace, read_in_place};
 use crate::{EcParameters, Error, Result};
 use sec1_der as der;
 use sec1_der::{
@@ -78,9 +79,11 @@ impl ValueContent for EcPrivateKey<'_> {
 
 impl<'a> DecodeValue<'a> for EcPrivateKey<'a> {
     fn decode_value(reader: &mut SliceReader<'a>) -> der::Result<Self> {
-        match BorrowedKey::decode_value(reader) {
-            Ok(key) => Ok(key.into()),
-            Err(e) => Err(e),
+        let content = reader.read_rest()?;
+        let mut key = EcPrivateKey::empty();
+        match key.read_content(content) {
+            Ok(()) => Ok(key),
+            Err(e) => Err(reader.fail(e.kind)),
         }
     }
 }
@@ -138,27 +141,12 @@ impl<'a> TryFrom<&'a [u8]> for EcPrivateKey<'a> {
     // Inlined, so that a refusal doesn't pass a whole key's place through memory.
     #[inline(always)]
     fn try_from(bytes: &'a [u8]) -> Result<EcPrivateKey<'a>> {
-        match BorrowedKey::try_from(bytes) {
-            Ok(key) => Ok(key.into()),
-            Err(e) => Err(e),
-        }
-    }
-}
-
-/// Copies the identifier of the curve. The private key and the public key stay borrowed.
-impl<'a> From<BorrowedKey<'a>> for EcPrivateKey<'a> {
-    ghost from_gives = { λ borrowed key. key ≡ borrowed };
-
-    fn from(key: BorrowedKey<'a>) -> EcPrivateKey<'a> {
-        let parameters = match &key.curve {
-            Some(curve) => Some(EcParameters::NamedCurve(curve.to_identifier())),
-            None => None,
-        };
-        EcPrivateKey {
-            private_key: key.private_key,
-            parameters,
-            public_key: key.public_key,
-        }
+        EcPrivateKey::content_injective();
+        der::laws::trees_unique();
+        der::laws::cut_elements();
+        let mut key = EcPrivateKey::empty();
+        read_in_place(&mut key, bytes)?;
+        Ok(key)
     }
 }
 
@@ -291,5 +279,38 @@ impl<'a> EcPrivateKey<'a> {
             },
             public_key: self.public_key,
         }
+    }
+
+    /// Returns a key without bytes and optional fields: a place to read a key into.
+    fn empty() -> EcPrivateKey<'a>
+        ensures { (result.parameters ≡ None) × (result.public_key ≡ None) }
+    {
+        EcPrivateKey {
+            private_key: &[],
+            parameters: None,
+            public_key: None,
+        }
+    }
+}
+
+impl<'a> ReadInPlace<'a> for EcPrivateKey<'a> {
+    ghost is_empty = { λ key. (key.parameters ≡ None) × (key.public_key ≡ None) };
+
+    #[inline(never)]
+    fn read_content(&mut self, content: &'a [u8]) -> der::Result<()> {
+        let BorrowedKey {
+            private_key,
+            curve,
+            public_key,
+        } = BorrowedKey::decode_value(&mut SliceReader::new(content))?;
+        self.private_key = private_key;
+        // What is absent isn't stored.
+        if let Some(curve) = curve {
+            self.parameters = Some(EcParameters::NamedCurve(curve.to_identifier()));
+        }
+        if let Some(bytes) = public_key {
+            self.public_key = Some(bytes);
+        }
+        Ok(())
     }
 }

@@ -1,12 +1,12 @@
 //! Keys that are looked at and written again without a copy of any part.
-ghost use Rattle.std.specs.Prelude.{◌≡◌, ◌≤◌, ◌++◌, Ok, Some, IfOk, IfErr, List, ℕ};
+ghost use Rattle.std.specs.Prelude.{◌≡◌, ◌≤◌, ◌↔◌, ◌++◌, Ok, Some, None, IfOk, IfNone, IsTrue, List, ℕ};
 ghost use Rattle.std.specs.Prelude.{drop, length};
-ghost use Rattle.sec1.specs.Der.{IsReadingFault};
-ghost use Rattle.sec1.specs.Errors.{IsAsn1Where};
+ghost use Rattle.std.specs.Option.{option_map};
+ghost use Rattle.sec1.specs.KeyFaults.{key_fault};
 ghost use Rattle.sec1.specs.Keys.{IsKeyOf, Key};
 
-use sec1::der::IdentifierRef;
-use sec1::{BorrowedKey, EcPrivateKey, Result};
+use sec1::der::{ErrorKind, IdentifierRef};
+use sec1::{BorrowedKey, EcPrivateKey, Error, Result};
 
 /// Reads a key, and writes it again at the beginning of a buffer. Returns the number of its bytes,
 /// which are those that were read.
@@ -41,12 +41,25 @@ pub fn length_of_key<'a>(
     key.encoded_len()
 }
 
-/// Reads a key that holds its curve's identifier: the same one, and the same refusals.
-pub fn owned_key(bytes: &[u8]) -> Result<EcPrivateKey<'_>>
-    ensures found { IfOk result (λ key. IsKeyOf key bytes.now) }
-    ensures only { (key : Key) → IsKeyOf key bytes.now → result ≡ Ok key }
-    ensures kinds { IfErr result (IsAsn1Where IsReadingFault) }
+/// Returns `true` if the bytes are a key's: the same that an `EcPrivateKey` is read from.
+pub fn is_read_as_either(bytes: &[u8]) -> bool
+    ensures { IsTrue result ↔ ((key : Key) × IsKeyOf key bytes.now) }
 {
-    let key = BorrowedKey::try_from(bytes)?;
-    Ok(EcPrivateKey::from(key))
+    match EcPrivateKey::try_from(bytes) {
+        Ok(_) => BorrowedKey::try_from(bytes).is_ok(),
+        Err(_) => false,
+    }
+}
+
+/// Returns the reason why the bytes aren't a key's; `None` if they are.
+pub fn refusal_of_key(bytes: &[u8]) -> Option<ErrorKind>
+    ensures found { IfNone result ((key : Key) × IsKeyOf key bytes.now) }
+    ensures only { (key : Key) → IsKeyOf key bytes.now → result ≡ None }
+    ensures kind { option_map (λ kind. Some kind) result ≡ key_fault bytes.now }
+{
+    match BorrowedKey::try_from(bytes) {
+        Ok(_) => None,
+        Err(Error::Asn1(e)) => Some(e.kind),
+        Err(_) => unreachable!(),
+    }
 }
