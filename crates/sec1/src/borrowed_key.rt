@@ -113,13 +113,6 @@ impl Distinct for BorrowedKey<'_> {
 /// length isn't in the form of DER; Value if the version isn't 1, the curve's identifier isn't
 /// valid, or the public key isn't whole bytes; TrailingData if bytes follow the last part of an
 /// element or of the input.
-///
-/// # Examples
-///
-/// ```
-/// let key = BorrowedKey::try_from(bytes)?;
-/// Ok(key.private_key.len())
-/// ```
 impl<'a> TryFrom<&'a [u8]> for BorrowedKey<'a> {
     type Error = Error;
 
@@ -161,13 +154,6 @@ impl<'a> BorrowedKey<'a> {
     ///
     /// [`Error::Asn1`] of Overlength if the content of an element would be longer than 268,435,455
     /// bytes, then of Buffer if the slice is too short. The whole slice is unchanged then.
-    ///
-    /// # Examples
-    ///
-    /// ```
-    /// let key = BorrowedKey::try_from(bytes)?;
-    /// let n = key.encode_to_slice(buffer)?;
-    /// ```
     pub fn encode_to_slice(&self, buffer: &mut [u8]) -> Result<usize>
         ensures exact { MatchResult result
             (λ n. (n ≤ length buffer.new) × Exists (IsKeyOf self.now) (λ bytes.

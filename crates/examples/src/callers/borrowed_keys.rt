@@ -1,6 +1,6 @@
 //! Keys that are looked at and written again without a copy of any part.
-ghost use Rattle.std.specs.Prelude.{◌≡◌, ◌≤◌, ◌↔◌, ◌++◌, Ok, Some, None, IfOk, IfNone, IsTrue, List, ℕ};
-ghost use Rattle.std.specs.Prelude.{drop, length};
+ghost use Rattle.std.specs.Prelude.{◌≡◌, ◌≤◌, ◌↔◌, ◌++◌, Ok, Some, None, IfOk, IfNone, IsTrue};
+ghost use Rattle.std.specs.Prelude.{List, ℕ, drop, length};
 ghost use Rattle.std.specs.Option.{option_map};
 ghost use Rattle.sec1.specs.KeyFaults.{key_fault};
 ghost use Rattle.sec1.specs.Keys.{IsKeyOf, Key};

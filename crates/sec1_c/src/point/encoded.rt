@@ -37,8 +37,8 @@ pub fn status_of(bytes: &[u8], field_len: usize) -> u32
     OK
 }
 
-/// Returns 0 if both are the encodings of points; otherwise the number that says why the first isn't
-/// one, or else the second.
+/// Returns 0 if both are the encodings of points; otherwise the number that says why the first, or
+/// else the second, isn't one.
 #[tactic(auto, using(crate::proofs::PointLemmas::encoded))]
 pub fn status_of_both(first: &[u8], second: &[u8], field_len: usize) -> u32
     ensures points { (p q : Point) → IsFieldLength field_len
