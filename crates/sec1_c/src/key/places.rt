@@ -1,6 +1,6 @@
 //! The places of a key's parts: each is found from the end of the bytes, by the lengths of the
 //! fields after it.
-ghost use Rattle.std.specs.Prelude.{◌≡◌, ◌≤◌, ◌∷◌, length, Option, List, ℕ, IfSome};
+ghost use Rattle.std.specs.Prelude.{◌≡◌, ◌≤◌, ◌∷◌, length, IfSome};
 ghost use Rattle.std.specs.Option.{option_map};
 ghost use Rattle.sec1.specs.Der.{element, max_length};
 ghost use Rattle.sec1.specs.Keys.{IsKeyOf};
