@@ -139,7 +139,7 @@ def indented(lines, by="  "):
 def statement(it):
     """The lines of a statement."""
     kind, parts = it.kind, it.parts
-    if kind == "set":
+    if kind in ("let", "set"):
         return [f"{parts[0]} = {converted(parts[1])};"]
     if kind == "store":
         return [f"store{parts[0]}({converted(parts[1])}, {lower(parts[2], parts[0])});"]

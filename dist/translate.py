@@ -102,11 +102,12 @@ class Block:
 class Statement:
     """Something to do, by its kind:
 
+    let     name, expression             a new variable, for the rest of its block, gets the number
     set     name, expression             the variable gets the number
     store   bits, address, expression    the lower bits of the number are written into memory
     move    to, from, size               so many bytes are moved, which may overlap
     fill    to, byte, size               so many bytes are set
-    call    name or None, function, expressions    the variable gets the result
+    call    name or None, function, expressions    a new variable gets the result, if there is one
     if      expression, Statement        it is done if the number isn't 0
     switch  expression, [(numbers, Statement)], Statement    the last is done at any other number
     jump    Block
@@ -163,7 +164,7 @@ class Translation:
             else:
                 self.skip(op)
         function = self.function
-        function.written = {it.parts[0] for it in function.body if it.kind in ("set", "call")}
+        function.written = {it.parts[0] for it in function.body if it.kind == "set"}
         used = self.used()
         own = [(it.value, it.bits) for it in self.locals[len(function.params):]]
         function.variables = [it for it in own if it[0] in used]
@@ -232,7 +233,7 @@ class Translation:
     def named(self, expression):
         """A variable that has the number of an expression, as it is now."""
         variable = self.temporary(expression.bits)
-        self.say("set", variable.value, expression)
+        self.say("let", variable.value, expression)
         return variable
 
     def settle(self, is_changed):
