@@ -1,5 +1,5 @@
-//! Refuses targets that the assembly isn't for. With the feature `system`, finds the installed
-//! library instead, as the README says.
+//! Chooses what the functions are compiled of: by the target, or by `SEC1_LIBRARY`, as the README
+//! says.
 
 use std::path::{Path, PathBuf};
 use std::process::Command;
@@ -7,24 +7,36 @@ use std::{env, fs};
 
 fn main() -> Result<(), String> {
     println!("cargo::rerun-if-changed=build.rs");
-    match env::var_os("CARGO_FEATURE_SYSTEM") {
-        Some(_) => link(),
-        None => supported(),
+    println!("cargo::rerun-if-env-changed=SEC1_LIBRARY");
+    println!("cargo::rustc-check-cfg=cfg(sec1_library, values(\"assembly\", \"rust\"))");
+    let automatic = if has_assembly() { "assembly" } else { "rust" };
+    let library = env::var("SEC1_LIBRARY").unwrap_or_else(|_| automatic.into());
+    match library.as_str() {
+        "assembly" if has_assembly() => {}
+        "rust" if target("POINTER_WIDTH") == "64" => {}
+        "installed" => return link(),
+        "rust" => return Err(refusal("libsec1 is for targets with pointers of 64 bits")),
+        "assembly" => return Err(refusal("the assembly is for Linux on x86-64 and aarch64")),
+        _ => return Err(format!("SEC1_LIBRARY is {library}, not assembly, rust or installed")),
     }
+    println!("cargo::rustc-cfg=sec1_library=\"{library}\"");
+    Ok(())
 }
 
-/// Checks that there is assembly for the target.
-fn supported() -> Result<(), String> {
-    let target = |name| env::var(format!("CARGO_CFG_TARGET_{name}")).unwrap_or_default();
+/// Returns what cargo says of the target.
+fn target(name: &str) -> String {
+    env::var(format!("CARGO_CFG_TARGET_{name}")).unwrap_or_default()
+}
+
+/// Returns `true` if there is assembly for the target. Android is no Linux for it.
+fn has_assembly() -> bool {
     let is = |arch, endian| target("ARCH") == arch && target("ENDIAN") == endian;
     let is_processor = is("x86_64", "little") || is("aarch64", "little");
-    if is_processor && target("POINTER_WIDTH") == "64" && target("OS") == "linux" {
-        return Ok(());
-    }
-    Err(format!(
-        "sec1 is for Linux on x86-64 and aarch64 (little endian, pointers of 64 bits), not for {}",
-        env::var("TARGET").unwrap_or_default()
-    ))
+    is_processor && target("POINTER_WIDTH") == "64" && target("OS") == "linux"
+}
+
+fn refusal(reason: &str) -> String {
+    format!("{reason}, not for {}", env::var("TARGET").unwrap_or_default())
 }
 
 /// Links the installed library.

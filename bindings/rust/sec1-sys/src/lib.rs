@@ -2,8 +2,12 @@
 #![no_std]
 #![allow(non_camel_case_types)]
 
-#[cfg(not(feature = "system"))]
+#[cfg(sec1_library = "assembly")]
 mod assembly;
+#[cfg(sec1_library = "rust")]
+#[rustfmt::skip]
+#[path = "sec1.rs"]
+mod translated;
 
 /// Success.
 pub const SEC1_OK: u32 = 0;
