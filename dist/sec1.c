@@ -52,7 +52,7 @@ struct address {
 #define TURNED32(number) __builtin_bswap32(number)
 #define TURNED64(number) __builtin_bswap64(number)
 #define STORED(pointer, count, size) turn(pointer, (count) * sizeof *(pointer), size)
-static void turn(void *objects, size_t len, size_t size)
+__attribute__((__noinline__)) static void turn(void *objects, size_t len, size_t size)
 {
   uint8_t *number = (uint8_t *)objects, byte;
   size_t i;

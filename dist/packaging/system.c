@@ -2,9 +2,9 @@
  * that system, and which format its objects have. */
 #include "../sec1.h"
 
-#if defined __linux__ && !defined __ANDROID__ && !defined __TINYC__ && defined __x86_64__
+#if defined __linux__ && !defined __ANDROID__ && defined __x86_64__
 SYSTEM proved_in_x86_64
-#elif defined __linux__ && !defined __ANDROID__ && !defined __TINYC__ && defined __AARCH64EL__
+#elif defined __linux__ && !defined __ANDROID__ && defined __AARCH64EL__
 SYSTEM proved_in_aarch64
 #else
 SYSTEM proved_in_c
