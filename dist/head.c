@@ -32,6 +32,10 @@ uint32_t sec1_version(void)
  * turned round before the call, and again after it, so that what isn't stored stays as it is. No
  * linker writes an address that way, so the constants have addresses of their own, the last of all,
  * where no object of a program is. */
+#if defined __GNUC__ && !defined __clang__
+/* For GCC any address might be one of a constant, and what is written there too long. */
+#pragma GCC diagnostic ignored "-Wstringop-overflow"
+#endif
 #define CONSTANT(place) (0xffffffffffff0000ull + (place))
 #define TO(place) {{(place) & 255, (place) >> 8, 255, 255, 255, 255, 255, 255}}
 struct address {
