@@ -5,7 +5,7 @@
 # also where a tool is missing; what needs one that tests/tools calls optional is skipped.
 set -uo pipefail
 # The library is that of dist/.
-unset SEC1_LIB_DIR CARGO_TARGET_DIR
+unset SEC1_LIB_DIR SEC1_LIBRARY CARGO_TARGET_DIR
 here=$(cd "$(dirname "$0")" && pwd)
 top=$(dirname "$here")
 passed=0 failed=0 skipped=0
@@ -69,6 +69,9 @@ rust() {
     cd "$crate/sec1" || return
     check "the packed crate passes its tests" cargo test --features std "${packed[@]}"
     check "the packed crate has its examples without std" cargo test "${packed[@]}"
+    # What stands in for the assembly elsewhere. The long tests are of the crate's own code.
+    check "it passes its tests over sec1.rs, without assembly" env SEC1_LIBRARY=rust \
+        cargo test --release --features std --tests "${packed[@]}"
     on_aarch64 "${packed[@]}"
     check "the example of the packed crate is built" \
         cargo build --quiet --example view --features std "${packed[@]}"
@@ -76,7 +79,12 @@ rust() {
         python3 -B "$top/tests/dump/programs.py" --several "$CARGO_TARGET_DIR/debug/examples/view"
     cd "$work/rust" || return
     lints
-    refuses "another processor is refused" "not for riscv64gc" other_target
+    check "riscv64 has sec1.rs" eval 'other_target riscv64 64 | grep -qx "cargo::rustc-cfg=sec1_library=\"rust\""'
+    refuses "a target of 32 bits is refused" "libsec1 is for targets with pointers of 64 bits, not for riscv32" \
+        other_target riscv32 32
+    refuses "another word for the library is refused" "SEC1_LIBRARY is x, not" \
+        env SEC1_LIBRARY=x cargo build --locked
+    check "every feature at once" cargo build --locked --all-features
     installed
     as_dependency
     check "unsafe code stands in one module" \
@@ -114,17 +122,18 @@ lints() {
 }
 
 # Runs the build script as cargo does for another processor.
-other_target() {
+other_target() { # PROCESSOR BITS
     local script
     script=$(find "$CARGO_TARGET_DIR/debug/build" -path '*bridgeacacia-sec1-sys*' -name build-script-build |
         head -n 1)
-    CARGO_CFG_TARGET_ARCH=riscv64 CARGO_CFG_TARGET_ENDIAN=little CARGO_CFG_TARGET_POINTER_WIDTH=64 \
-        CARGO_CFG_TARGET_OS=linux TARGET=riscv64gc-unknown-linux-gnu "$script"
+    CARGO_CFG_TARGET_ARCH=$1 CARGO_CFG_TARGET_ENDIAN=little CARGO_CFG_TARGET_POINTER_WIDTH=$2 \
+        CARGO_CFG_TARGET_OS=linux TARGET="$1gc-unknown-linux-gnu" "$script"
 }
 
-# The feature `system`: puts the library where pkg-config finds it.
+# SEC1_LIBRARY=installed: puts the library where pkg-config finds it.
 installed() {
-    local version machine build=(cargo build --locked -p bridgeacacia-sec1-sys --features system)
+    local version machine build=(cargo build --locked -p bridgeacacia-sec1-sys)
+    export SEC1_LIBRARY=installed
     version=$(sed -n 's/^version = "\(.*\)"$/\1/p' Cargo.toml)
     machine=$(uname -m)
     describe() { # FOLDER VERSION
@@ -141,10 +150,11 @@ installed() {
         describe "$work/other" 9.9.9
         check "an installed library is found by pkg-config" \
             env PKG_CONFIG_PATH="$work/installed" \
-            cargo test --locked -p bridgeacacia-sec1 --test wiping --features std,system
+            cargo test --locked -p bridgeacacia-sec1 --test wiping --features std
         refuses "an installed library of another version is refused" \
             "no library: install libsec1" env PKG_CONFIG_PATH="$work/other" "${build[@]}"
     fi
+    unset SEC1_LIBRARY
 }
 
 # Programs in empty folders, which depend on the packed crate by its path, and on this repository by

@@ -14,7 +14,7 @@ uint32_t sec1_version(void)
 #define ALIGNED(declared) declared __attribute__((__aligned__(16)))
 #endif
 /* Ends the program. The proofs say that it isn't called. */
-#ifdef __GNUC__
+#if defined __GNUC__ || defined __clang__
 #define trap() __builtin_trap()
 #else
 #include <stdlib.h>
@@ -111,7 +111,7 @@ static inline void fill(uint64_t to, uint32_t byte, uint64_t size)
 /* How many zeros are above the highest one of a number, and below its lowest one. */
 static inline uint64_t clz64(uint64_t number)
 {
-#ifdef __GNUC__
+#if defined __GNUC__ || defined __clang__
   return number ? (uint64_t)__builtin_clzll(number) : 64;
 #else
   uint64_t count = 0;
@@ -122,7 +122,7 @@ static inline uint64_t clz64(uint64_t number)
 }
 static inline uint64_t ctz64(uint64_t number)
 {
-#ifdef __GNUC__
+#if defined __GNUC__ || defined __clang__
   return number ? (uint64_t)__builtin_ctzll(number) : 64;
 #else
   uint64_t count = 0;

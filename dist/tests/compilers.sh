@@ -76,14 +76,16 @@ refused() { # COMPILER..: how often the header itself is refused
 has gcc && expect "gcc -m32" "$(refused gcc -m32)" 1
 has gcc && expect "gcc -mx32" "$(refused gcc -mx32)" 1
 if has clang; then
-    for target in x86_64-linux-gnu aarch64-linux-gnu aarch64-linux-musl x86_64-unknown-freebsd; do
+    for target in x86_64-linux-gnu aarch64-linux-gnu aarch64_be-linux-gnu aarch64-linux-android \
+        riscv64-linux-gnu s390x-linux-gnu powerpc64le-linux-gnu aarch64-none-elf \
+        x86_64-unknown-freebsd arm64-apple-macos x86_64-w64-mingw32 aarch64-windows-msvc; do
         expect "clang for $target" "$(refused clang --target=$target)" 0
     done
-    for target in aarch64_be-linux-gnu i686-linux-gnu arm-linux-gnueabihf riscv64-linux-gnu \
-        arm64-apple-macos x86_64-apple-macos x86_64-w64-mingw32 aarch64-windows-msvc; do
+    for target in i686-linux-gnu arm-linux-gnueabihf riscv32-none-elf i686-w64-mingw32 \
+        wasm32-unknown-unknown; do
         expect "clang for $target" "$(refused clang --target=$target)" 1
     done
-    echo "clang: 12 machines"
+    echo "clang: 17 machines"
 fi
 echo "$passed passed, $failed failed"
 [[ $failed -eq 0 ]]

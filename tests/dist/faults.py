@@ -1,0 +1,80 @@
+#!/usr/bin/env python3
+"""Plants one fault at a time into what writes sec1.c, and runs dist/tests/calls.c over what it
+writes then, which has to fail, or the file can't be written or compiled: see bindings/plant.py.
+
+  tests/dist/faults.py [FIRST [STEP]]    each STEP-th fault from FIRST on, by default all of them
+
+The module is the one that crates/sec1_c/build.sh links; MODULE names another. `memcpy` in the place
+of `memmove` isn't among the faults: no call moves memory that overlaps, as tests/dist/run fuzz shows.
+"""
+import os
+import pathlib
+import shutil
+import sys
+
+sys.dont_write_bytecode = True
+HERE = pathlib.Path(__file__).resolve().parent
+sys.path.insert(0, str(HERE.parents[1] / "bindings"))
+import plant  # noqa: E402
+
+DIST = plant.TOP / "dist"
+MODULE = pathlib.Path(os.environ.get("MODULE", plant.TOP / "crates/sec1_c/out/sec1.wasm")).resolve()
+FAULTS = [
+    # numbers
+    ("to_c.py", '{32: "u", 64: "ull"}[bits] if is_typed', '{32: "u", 64: "u"}[bits] if is_typed'),
+    ("to_c.py", 'return f"({TYPES[it.bits]})({SIGNED[it.value]}){operand(parts[0])}"', 'return f"({TYPES[it.bits]}){operand(parts[0])}"'),
+    ("to_c.py", 'if sign == "s":\n        return f"{signed(a)} {SIGNS[what]} {signed(b)}"', 'if sign == "never":\n        return ""'),
+    ("to_c.py", 'return f"({TYPES[it.bits]})({signed(a)} >> {amount})"', 'return f"{operand(a)} >> {amount}"'),
+    ("to_c.py", '"lt": "<"', '"lt": "<="'),
+    ("to_c.py", '{operand(parts[1])} : {operand(parts[2])}', '{operand(parts[2])} : {operand(parts[1])}'),
+    ("to_c.py", 'f"(uint{bits}_t){operand(it)}"', 'f"(uint8_t){operand(it)}"'),
+    ("translate.py", 'Expression("wrap", 32, None, tuple(parts))', 'Expression("wrap", 64, None, tuple(parts))'),
+    ("translate.py", 'number(b.value & mask.value, b.bits) if b.is_number', 'number(b.value & 31, b.bits) if b.is_number'),
+    ("translate.py", '"lt_s": "ge_s", "lt_u": "ge_u"', '"lt_s": "ge_s", "lt_u": "gt_u"'),
+    ("translate.py", 'width = int(re.sub(r"\\D", "", kind.replace("_i32", "32")))', "width = 8"),
+    # memory
+    ("to_c.py", 'return f"load{it.value}({converted(it.parts[0])})"', 'return f"load{max(it.value, 16)}({converted(it.parts[0])})"'),
+    ("translate.py", "        if is_signed:\n", "        if False:\n"),
+    ("translate.py", "        return added(base, offset)", "        return base"),
+    ("translate.py", 'return Expression("add", 64, None, (self.program.constant(offset), base))', "return self.program.constant(offset)"),
+    ("translate.py", "return end - at == 10 and", "return end - at == 9 and"),
+    ("translate.py", "runs[-1][1].append(to)", "runs[-1][1].append(to + 8)"),
+    ("translate.py", "self.function.frame = parts[1].value", "self.function.frame = 16"),
+    ("head.c", "  memset(POINTER(to), (int)byte, (size_t)size);", "  memset(POINTER(to), 0 * (int)byte, (size_t)size);"),
+    ("head.c", "memmove(POINTER(to), POINTER(from), (size_t)size);", "memmove(POINTER(to), POINTER(from), (size_t)size - (size > 0));"),
+    # the order of what is computed
+    ("translate.py", "        self.settle(lambda it: name in it.reads)\n", ""),
+    ("translate.py", "            self.settle(lambda it: not it.is_fixed)\n", ""),
+    ("translate.py", 'def settle_loads(self):\n        self.settle(lambda it: it.loads)', "def settle_loads(self):\n        pass"),
+    ("translate.py", 'a, b, test = self.pop(3)\n            self.push(Expression("select", a.bits, None, (test, a, b)))', 'test, b, a = self.pop(3)\n            self.push(Expression("select", a.bits, None, (test, a, b)))'),
+    # locals, jumps and calls
+    ("translate.py", "self.stack.append(self.known.get(args[0], self.locals[args[0]]))\n        elif code in (SET, TEE)", "self.stack.append(self.locals[max(args[0] - 1, 0)])\n        elif code in (SET, TEE)"),
+    ("translate.py", "block = self.blocks[-1 - depth]", "block = self.blocks[max(-2 - depth, -len(self.blocks))]"),
+    ("translate.py", "is_target", "is_target"),
+    ("to_c.py", "parts[0].is_used and parts[0].is_loop == (kind == \"begin\")", "parts[0].is_used and kind == \"end\""),
+    ("to_c.py", "names = [f\"{name} = 0\" for name, its", "names = [f\"{name} = 1\" for name, its"),
+    ("translate.py", "if it == target]", "if it >= target]"),
+    ("translate.py", 'return Statement("return", self.stack[-1] if', 'return Statement("return", self.stack[0] if'),
+    ("translate.py", "return calls[2]\n", "return calls[2] + 2\n"),
+    ("to_c.py", 'return comparison(it) if it.is_test else load(it) if it.kind == "load" else text(it)', 'return comparison(it) if it.is_test else f"{operand(it)} & 1"'),
+]
+FAULTS = [it for it in FAULTS if it[1] != it[2]]
+
+
+def copy(folder):
+    """Copies what writes sec1.c, and what is compiled with it."""
+    for path in (*DIST.glob("*.py"), DIST / "head.c", DIST / "sec1.h"):
+        shutil.copy(path, folder)
+    plant.passes(folder, ["gcc", "-std=c11", "-O1", "-I.", "-c", "-o", "calls.o", str(DIST / "tests/calls.c")], 120)
+    return folder
+
+
+def run(folder):
+    """Returns whether sec1.c is written and compiled, and passes its tests."""
+    command = f'''python3 -B to_c.py "{MODULE}" sec1.h kit >sec1.c && gcc -std=c99 -w -O0 -c sec1.c &&
+        gcc -o calls calls.o sec1.o && exec ./calls'''
+    return plant.passes(folder, ["sh", "-c", command], 120)[0]
+
+
+if __name__ == "__main__":
+    sys.exit(plant.main(FAULTS, copy, run))
