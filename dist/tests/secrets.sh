@@ -3,7 +3,7 @@
 # of a private key: secrets.sh ARCHIVE. The program is built by each compiler, with optimization,
 # which takes the bodies of the small functions from sec1.h, and without, which calls those of the
 # archive. The last line is `N passed, M failed`, or `N passed, M failed, 1 skipped` where valgrind
-# is missing. CC is a compiler in place of gcc.
+# is missing. CC is a compiler in place of gcc, and COMPILERS are those in place of both.
 set -uo pipefail
 archive=$(realpath "$1")
 cd "$(dirname "$0")/.."
@@ -35,7 +35,7 @@ if ! command -v valgrind >"$work/said" ||
     skip "valgrind is missing (Debian: apt-get install valgrind)"
     finish
 fi
-for compiler in ${CC:-gcc} clang; do
+for compiler in ${COMPILERS:-${CC:-gcc} clang}; do
     command -v "$compiler" >"$work/said" || continue
     for level in -O0 -O2; do
         check "$compiler $level compiles secrets.c" built "$compiler" "$level" "$archive"
