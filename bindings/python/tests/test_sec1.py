@@ -4,13 +4,17 @@ import ctypes
 import dataclasses
 import doctest
 import importlib.metadata
+import inspect
 import pathlib
 import pickle
+import pydoc
 import random
 import subprocess
 import sys
 import tempfile
+import threading
 import unittest
+import weakref
 from unittest import mock
 
 import sec1
@@ -100,9 +104,305 @@ class Keys(unittest.TestCase):
 
     def test_an_end_of_line_is_no_part(self):
         der = sec1.EcPrivateKey(b"\x09").to_der()
-        for behind in (b"\n", b"\r\n", b" ", b"\0"):
-            with self.assertRaises(sec1.TrailingDataError):
-                sec1.EcPrivateKey.from_der(der + behind)
+        for read in (sec1.EcPrivateKey.from_der, sec1.EcPrivateKey.from_der_or_pkcs8):
+            for behind in (b"\n", b"\r\n", b" ", b"\0"):
+                with self.assertRaises(sec1.TrailingDataError):
+                    read(der + behind)
+
+
+class Liar(bytes):
+    """Bytes that say something else of themselves than what they are."""
+
+    def __len__(self):
+        return 400_000_000
+
+    def __getitem__(self, _):
+        return b"a part"
+
+    def __iter__(self):
+        return iter(b"others")
+
+    def __bool__(self):
+        return False
+
+
+class LyingText(str):
+    def encode(self, *_):
+        return Liar(b"5")
+
+    def __len__(self):
+        return 400_000_000
+
+
+class LyingNumber(int):
+    def __index__(self):
+        return 32
+
+    def __ge__(self, _):
+        return True
+
+    __gt__ = __le__ = __lt__ = __ge__
+
+
+class LyingIdentifier(sec1.ObjectIdentifier):
+    content = property(lambda self: Liar(b"\x2a\x03"))
+
+
+class LyingPoint(sec1.Point):
+    encoding = property(lambda self: Liar(b"\x02\x09"))
+
+
+class Liars(unittest.TestCase):
+    """No value makes the library read beyond what it was given."""
+
+    key = sec1.EcPrivateKey(b"\x07" * 32, sec1.ObjectIdentifier(b"\x2a\x03"), b"\x02" * 33)
+    calls = {
+        "EcPrivateKey": (lambda data: sec1.EcPrivateKey(data, None, data).to_der(), b"\x09"),
+        "EcPrivateKey.from_der": (sec1.EcPrivateKey.from_der, key.to_der()),
+        "EcPrivateKey.from_der_or_pkcs8": (sec1.EcPrivateKey.from_der_or_pkcs8, key.to_der()),
+        "ObjectIdentifier": (sec1.ObjectIdentifier, b"\x2a\x03"),
+        "Point": (lambda data: sec1.Point(data, 2), b"\x02\x01\x02"),
+        "Point.from_coordinates": (lambda data: sec1.Point.from_coordinates(data, data), b"\x01\x02"),
+        "certificate_public_key": (sec1.certificate_public_key, b"\x30\x03\x02\x01\x05"),
+        "check_tree": (sec1.check_tree, b"\x30\x03\x02\x01\x05"),
+        "document_length": (sec1.document_length, b"\x30\x82\x01\x00"),
+        "draw": (sec1.draw, b"00000"),
+    }
+
+    def returned(self, call, data):
+        """What a call returns or raises."""
+        try:
+            return call(data)
+        except sec1.Error as error:
+            return type(error), error.offset
+
+    def test_bytes(self):
+        for name, (call, data) in self.calls.items():
+            self.assertEqual(self.returned(call, Liar(data)), self.returned(call, data), name)
+        for value in (sec1.EcPrivateKey(Liar(b"\x01"), None, Liar(b"\x02")), sec1.Point(Liar(b"\x02\x01"), 1)):
+            parts = [value.encoding] if isinstance(value, sec1.Point) else [value.private_key, value.public_key]
+            self.assertEqual([type(part) for part in parts], [bytes] * len(parts))
+
+    def test_each_call_that_takes_bytes_is_tried(self):
+        found = []
+        for name in sec1.__all__:
+            it = getattr(sec1, name)
+            methods = [it.__init__, *vars(it).values()] if inspect.isclass(it) else [it]
+            for method in methods:
+                method = getattr(method, "__func__", method)
+                if inspect.isfunction(method) and not method.__name__.startswith("_of"):
+                    taken = [text for key, text in method.__annotations__.items() if key != "return"]
+                    if any("bytes" in text for text in taken) and method.__name__ != "_with":
+                        called = "" if not inspect.isclass(it) or method.__name__ == "__init__" else "." + method.__name__
+                        found.append(name + called)
+        self.assertEqual(sorted({*found} - {"EcPrivateKey._read"}), sorted(self.calls))
+
+    def test_texts_and_numbers(self):
+        identifier = sec1.ObjectIdentifier.from_text(LyingText("1.2.3"))
+        self.assertEqual((type(identifier.content), identifier.content), (bytes, b"\x2a\x03"))
+        self.assertEqual(sec1.Curve.from_name(LyingText("P-256")), sec1.Curve.from_name("P-256"))
+        self.assertEqual(sec1.Point.from_hex(LyingText("0209"), 1), sec1.Point(b"\x02\x09", 1))
+        point = sec1.Point(b"\x02\x09", LyingNumber(1))
+        self.assertEqual((type(point.field_length), point.field_length), (int, 1))
+        for wrong in (-1, 67, (1 << 64) + 1):
+            with self.assertRaises(sec1.FieldLengthError):
+                sec1.Point(b"\x02\x09", LyingNumber(wrong))
+        x = y = b"\x01\x02"
+        for truth in (True, 1, 1 << 64, "0", "x", [0]):
+            self.assertEqual(sec1.Point.from_coordinates(x, y, truth).encoding, b"\x02\x01\x02")
+            self.assertEqual(sec1.Point(b"\x02\xab", 1).hex(truth), "02ab")
+            self.assertEqual(sec1.draw(b"\x04\x01\x09", truth), sec1.draw(b"\x04\x01\x09", True))
+        for lie in (False, 0, None, "", []):
+            self.assertEqual(sec1.Point.from_coordinates(x, y, lie).encoding, b"\x04\x01\x02\x01\x02")
+            self.assertEqual(sec1.Point(b"\x02\xab", 1).hex(lie), "02AB")
+            self.assertEqual(sec1.draw(b"\x04\x01\x09", lie), sec1.draw(b"\x04\x01\x09"))
+
+    def test_values_of_other_classes(self):
+        lying, honest = LyingIdentifier(b"\x2a\x03"), sec1.ObjectIdentifier(b"\x2a\x03")
+        written = [sec1.EcPrivateKey(b"\x09", curve).to_der() for curve in (lying, honest)]
+        self.assertEqual((written[0], str(lying)), (written[1], "1.2.3"))
+        with self.assertRaises(sec1.CurveError):
+            sec1.Curve(lying)
+        lying, honest = LyingPoint(b"\x02\x09", 1), sec1.Point(b"\x02\x09", 1)
+        self.assertEqual((lying, honest.compress(), lying.hex()), (honest, lying.compress(), honest.hex()))
+        self.assertEqual((lying.tag, honest < lying), (2, False))
+        LyingPoint.encoding = property(lambda self: 5)
+        with self.assertRaises(TypeError):
+            lying.hex()
+
+
+class Values(unittest.TestCase):
+    """What holds of each value."""
+
+    identifier = sec1.ObjectIdentifier.from_text("1.2.840.10045.3.1.7")
+    made = [
+        lambda: sec1.ObjectIdentifier.from_text("1.2.840.10045.3.1.7"),
+        lambda: sec1.Curve.from_name("P-256"),
+        lambda: sec1.EcPrivateKey(bytes(32), Values.identifier, b"\x01"),
+        lambda: sec1.EcPrivateKey.from_der(sec1.EcPrivateKey(b"\x09").to_der()),
+        lambda: sec1.Point(b"\x02" * 33, 32),
+        lambda: sec1.Point.from_coordinates(b"\x01", b"\x02").compress(),
+        lambda: sec1.draw(b"\x05\x00"),
+    ]
+
+    def test_no_value_changes(self):
+        for make in self.made:
+            value = make()
+            for name in [field.name for field in dataclasses.fields(value)] + ["other"]:
+                with self.assertRaises(dataclasses.FrozenInstanceError):
+                    setattr(value, name, b"")
+                with self.assertRaises(dataclasses.FrozenInstanceError):
+                    delattr(value, name)
+            self.assertEqual(value, make())
+
+    def test_copies_are_equal(self):
+        for make in self.made:
+            value, again = make(), make()
+            copies = [again, copy.copy(value), copy.deepcopy(value), dataclasses.replace(value)]
+            copies += [pickle.loads(pickle.dumps(value, number)) for number in range(pickle.HIGHEST_PROTOCOL + 1)]
+            for one in copies:
+                self.assertEqual((type(one), one, hash(one), repr(one)), (type(value), value, hash(value), repr(value)))
+            self.assertIs(weakref.ref(value)(), value)
+        key = sec1.EcPrivateKey(b"\x01", None, b"\x02")
+        self.assertEqual(dataclasses.replace(key, public_key=None), sec1.EcPrivateKey(b"\x01"))
+
+    def test_a_wrong_type_is_named(self):
+        for call, wrong, text in (
+            (sec1.ObjectIdentifier.from_text, 5, "a text is expected, not int"),
+            (sec1.Curve.from_name, b"P-256", "a text is expected, not bytes"),
+            (sec1.Curve, "P-256", "an ObjectIdentifier is expected, not str"),
+            (lambda it: sec1.Point(b"\0", it), True, "the length of field elements is a number, not a bool"),
+        ):
+            with self.assertRaises(TypeError) as caught:
+                call(wrong)
+            self.assertEqual(str(caught.exception), text)
+
+    def test_classes_below_make_their_own(self):
+        class Own:
+            def __init__(self, *parts):
+                super().__init__(*parts)
+                made.append(type(self))
+
+        class Key(Own, sec1.EcPrivateKey):
+            pass
+
+        class Identifier(Own, sec1.ObjectIdentifier):
+            pass
+
+        class Point(Own, sec1.Point):
+            pass
+
+        made = []
+        der = sec1.EcPrivateKey(b"\x01").to_der()
+        for make, kind in (
+            (lambda: Key.from_der(der), Key),
+            (lambda: Key.from_der_or_pkcs8(der), Key),
+            (lambda: Identifier.from_text("1.2.3"), Identifier),
+            (lambda: Point.from_hex("0209", 1), Point),
+            (lambda: Point.from_coordinates(b"\x01", b"\x02"), Point),
+            (lambda: Point.identity(1), Point),
+        ):
+            made.clear()
+            value = make()
+            self.assertEqual((type(value), made), (kind, [kind]))
+            self.assertEqual((type(copy.copy(value)), made), (kind, [kind] * 2))
+
+    def test_changed_buffers_change_no_value(self):
+        data = bytearray(b"\x02\x09")
+        point, key = sec1.Point(data, 1), sec1.EcPrivateKey(data, None, data)
+        data[1] = 5
+        self.assertEqual((point.encoding, key.private_key, key.public_key), (b"\x02\x09",) * 3)
+        self.assertEqual(sec1.Point(memoryview(b"\x02x\x09x")[::2], 1), point)
+
+    def test_no_place_is_read_after_it_is_given_back(self):
+        class Scribbled(list):
+            def append(self, place):
+                room, _, parts, _, length, _ = place
+                room.raw, parts[:], length.value = b"?" * len(room), [7] * len(parts), 7
+                super().append(place)
+
+        identifier = sec1.ObjectIdentifier(b"\x2a\x03")
+        key = sec1.EcPrivateKey(b"\x09", identifier, b"\x05")
+        der = key.to_der()
+        with mock.patch.multiple(sec1, places=Scribbled()), mock.patch.multiple(sec1._library, places=Scribbled()):
+            for _ in range(2):
+                self.assertEqual(sec1.ObjectIdentifier.from_text("1.2.3"), identifier)
+                self.assertEqual((sec1.EcPrivateKey.from_der(der), key.to_der()), (key, der))
+                self.assertEqual(str(identifier), "1.2.3")
+                with self.assertRaises(sec1.TruncatedError) as caught:
+                    sec1.EcPrivateKey.from_der(der[:-1])
+                self.assertEqual(caught.exception.offset, 1)
+
+    def test_no_two_calls_have_one_place(self):
+        """A call within another, as a thread or a signal makes it, has a place of its own."""
+        identifier = sec1.ObjectIdentifier(b"\x2a\x03")
+        key, other = (sec1.EcPrivateKey(part, identifier, part) for part in (b"\x09", b"another"))
+        for names, name, make in (
+            (vars(sec1), "identifier_from_text", lambda it: sec1.ObjectIdentifier.from_text(f"1.2.{it.private_key[0]}")),
+            (vars(sec1), "key_read_at", lambda it: sec1.EcPrivateKey.from_der(it.to_der())),
+            (sec1._library._FUNCTIONS, "sec1_key_write", lambda it: it.to_der()),
+        ):
+            expected, real, inner = (make(key), make(other)), names[name], []
+
+            def within(*arguments):
+                status = real(*arguments)
+                if not inner:
+                    inner.append(None)
+                    inner[0] = make(other)
+                return status
+
+            with mock.patch.dict(names, {name: within}):
+                self.assertEqual((make(key), inner[0]), expected, name)
+
+    def test_threads(self):
+        """Calls that are made at once have places of their own."""
+        texts = [f"1.2.{arc}" for arc in (1, 128, 16384, 1 << 21)] * 2
+        wrong, interval = [], sys.getswitchinterval()
+
+        def make(text):
+            identifier = sec1.ObjectIdentifier.from_text(text)
+            der = sec1.EcPrivateKey(text.encode(), identifier).to_der()
+            point = sec1.Point.from_coordinates(text.encode(), text.encode())
+            offset = 1 if len(text) % 2 else len(der)
+            for _ in range(500):
+                key, error = sec1.EcPrivateKey.from_der(der), None
+                try:
+                    sec1.EcPrivateKey.from_der(der[:-1] if len(text) % 2 else der + b"\0")
+                except sec1.Error as caught:
+                    error = caught
+                same = sec1.ObjectIdentifier.from_text(text) == identifier == key.curve, str(identifier) == text
+                if not (*same, key.to_der() == der, point.compress().x == text.encode(), error.offset == offset) == (True,) * 5:
+                    wrong.append(text)
+
+        threads = [threading.Thread(target=make, args=(text,)) for text in texts]
+        sys.setswitchinterval(1e-6)
+        for thread in threads:
+            thread.start()
+        for thread in threads:
+            thread.join()
+        sys.setswitchinterval(interval)
+        self.assertEqual(wrong, [])
+
+    def test_what_was_written_is_overwritten(self):
+        """No place that a call has written a key into keeps a byte of it."""
+        made, make = [], ctypes.create_string_buffer
+
+        def kept(size):
+            made.append(make(size))
+            return made[-1]
+
+        with mock.patch.object(ctypes, "create_string_buffer", kept):
+            for length in (1, 32, 200, 300, 70000):
+                self.assertIn(b"k" * length, sec1.EcPrivateKey(b"k" * length).to_der())
+        self.assertEqual(len(made), 2)
+        rooms = [place[0] for place in sec1._library.places]
+        self.assertGreater(len(rooms), 0)
+        for room in (*made, *rooms):
+            self.assertNotIn(b"k", room.raw)
+
+    def test_help_names_no_file_as_a_module(self):
+        contents = pydoc.plain(pydoc.render_doc(sec1)).split("PACKAGE CONTENTS")[1].split("CLASSES")[0]
+        self.assertNotIn("libsec1", contents)
 
 
 def accepts(data, length):
@@ -349,6 +649,8 @@ class Others(unittest.TestCase):
         for kind, (status, text) in expected.items():
             self.assertEqual((kind.status, kind().status, str(kind())), (status, status, text))
             self.assertEqual((str(kind(7)), kind(7).offset), (f"{text} at byte 7", 7))
+            self.assertEqual((str(kind(0)), kind(offset=0).offset), (f"{text} at byte 0", 0))
+            self.assertEqual((repr(kind(7)), kind(7).args), (f"{kind.__name__}('{text} at byte 7')", (f"{text} at byte 7",)))
             self.assertTrue(issubclass(kind, sec1.Error) and issubclass(kind, ValueError))
             again = pickle.loads(pickle.dumps(kind(7)))
             self.assertEqual((type(again), again.offset), (kind, 7))

@@ -7,9 +7,11 @@ import operator
 from ctypes import byref, c_int32, c_size_t
 from dataclasses import dataclass, field
 from enum import IntEnum
-from typing import Any, ClassVar, Optional, Tuple
+from typing import Any, ClassVar, List, Optional, Tuple
 
 from . import _library
+from ._library import ROOM, SIZES, KeyParts, given, new_place, number, places
+from ._library import identifier_check, identifier_from_text, key_read_at, point_check
 
 __version__ = "0.2.0"
 
@@ -48,11 +50,12 @@ class Error(ValueError):
     calls: of the tag byte, of the first byte of the length or of the content that is refused, of the first
     byte after the last part, or the number of bytes if they end before a tag."""
 
+    __slots__ = ("offset",)
     text = "the library broke its contract"
     status: ClassVar[Optional[int]] = None
 
     def __init__(self, offset: Optional[int] = None) -> None:
-        super().__init__(self.text if offset is None else f"{self.text} at byte {offset}")
+        self.args = (self.text if offset is None else f"{self.text} at byte {offset}",)
         self.offset = offset
 
     def __reduce__(self) -> Any:
@@ -134,30 +137,33 @@ class OtherCurveError(Error):
 
 _ERRORS = {kind.status: kind for kind in Error.__subclasses__()}
 for _kind in Error.__subclasses__():
-    _kind.text = _library.written("sec1_status_to_text", _kind.status)[1][:-1].decode("ascii")
+    _kind.text = _library.written("sec1_status_to_text", number(_kind.status))[1][:-1].decode("ascii")  # type: ignore[arg-type]
 
 
 def _bytes(data: bytes) -> bytes:
     """Returns `bytes` as they are, and any other buffer as a copy. Anything else is a TypeError."""
-    return data if isinstance(data, bytes) else bytes(memoryview(data))
+    # A class below `bytes` may say anything of its length and its parts.
+    return data if type(data) is bytes else bytes(memoryview(data))
 
 
 def _text(text: str) -> bytes:
     """Returns a text in UTF-8. Anything but a text is a TypeError."""
     if not isinstance(text, str):
         raise TypeError(f"a text is expected, not {type(text).__name__}")
-    return text.encode("utf-8", "surrogatepass")
+    return _encode(text, "utf-8", "surrogatepass")
 
 
 def _length(field_length: int) -> int:
     """Returns the length of field elements. Anything but a whole number is a TypeError."""
-    if isinstance(field_length, bool):
-        raise TypeError("the length of field elements is a number, not a bool")
-    number = operator.index(field_length)
+    if type(field_length) is not int:
+        if isinstance(field_length, bool):
+            raise TypeError("the length of field elements is a number, not a bool")
+        # A class below `int` may say anything of how its numbers compare.
+        field_length = int.__index__(operator.index(field_length))
     # A negative number, or one of more than 64 bits, would become another one in C.
-    if not 0 <= number < 1 << 64:
+    if not 0 <= field_length < 1 << 64:
         raise FieldLengthError
-    return number
+    return field_length
 
 
 def _identifier(identifier: ObjectIdentifier) -> ObjectIdentifier:
@@ -173,7 +179,7 @@ def _check(status: int, fault_at: Optional[str] = None, data: bytes = b"") -> No
         return
     offset = c_size_t()
     if fault_at is not None:
-        _library.call(fault_at, data, len(data), byref(offset))
+        _library.call(fault_at, *given(data), byref(offset))
     raise _ERRORS.get(status, Error)(None if fault_at is None else offset.value)
 
 
@@ -196,26 +202,57 @@ class Tag(IntEnum):
     HYBRID_ODD = 7
 
 
+_encode, _new = str.encode, object.__new__
+
+
 @functools.total_ordering
-@dataclass(frozen=True)
+@dataclass(frozen=True, init=False)
 class ObjectIdentifier:
     """An object identifier (X.690 section 8.19), by its content. `str` returns its dotted text. Identifiers are
     ordered by their arcs.
 
     Raises ValueContentError if the bytes aren't the content of an identifier."""
 
+    __slots__ = ("content", "__weakref__")
     content: bytes
 
-    def __post_init__(self) -> None:
-        content = _bytes(self.content)
-        _check(_library.call("sec1_identifier_check", content, len(content)))
-        object.__setattr__(self, "content", content)
+    def __init__(self, content: bytes) -> None:
+        content = _bytes(content)
+        _check(identifier_check(content, SIZES[len(content)]))
+        _set_content(self, content)
+
+    @classmethod
+    def _of(cls, content: bytes) -> ObjectIdentifier:
+        """Returns the identifier with a content that the library has checked or written."""
+        if cls is not ObjectIdentifier:
+            return cls(content)
+        self = _new(cls)
+        _set_content(self, content)
+        return self
 
     @classmethod
     def from_text(cls, text: str) -> ObjectIdentifier:
         """Returns the identifier with this dotted text, or raises ValueContentError."""
-        data = _text(text)
-        return cls(_written("sec1_identifier_from_text", data, len(data)))
+        # What `_text`, `_written` and `_of` do, which would take as long again to be called.
+        try:
+            data = _encode(text)
+        except (TypeError, UnicodeEncodeError):
+            data = _text(text)
+        try:
+            place = places.pop()
+        except IndexError:
+            place = new_place()
+        room, out, _, _, length, stored = place
+        if status := identifier_from_text(data, SIZES[len(data)], out, ROOM, stored):
+            places.append(place)
+            raise _ERRORS.get(status, Error)
+        content = room[: length.value]
+        places.append(place)
+        if cls is not ObjectIdentifier:
+            return cls(content)
+        self = _new(cls)
+        _set_content(self, content)
+        return self
 
     @property
     def arcs(self) -> Tuple[int, ...]:
@@ -227,12 +264,17 @@ class ObjectIdentifier:
             return NotImplemented
         return self.arcs < other.arcs
 
+    def __reduce__(self) -> Any:
+        return type(self), (self.content,)
+
     def __str__(self) -> str:
-        text = _written("sec1_identifier_to_text", self.content, len(self.content))
-        return text[:-1].decode("ascii")
+        return _written("sec1_identifier_to_text", *given(self.content))[:-1].decode("ascii")
 
     def __repr__(self) -> str:
         return f"ObjectIdentifier.from_text({str(self)!r})"
+
+
+_set_content = vars(ObjectIdentifier)["content"].__set__
 
 
 @dataclass(frozen=True)
@@ -245,9 +287,9 @@ class Curve:
     field_length: int = field(init=False)
 
     def __post_init__(self) -> None:
-        content, length = _identifier(self.identifier).content, c_size_t()
-        _check(_library.call("sec1_curve_field_len", content, len(content), byref(length)))
-        name = _written("sec1_curve_name", content, len(content))
+        content, length = given(_identifier(self.identifier).content), c_size_t()
+        _check(_library.call("sec1_curve_field_len", *content, byref(length)))
+        name = _written("sec1_curve_name", *content)
         object.__setattr__(self, "name", name[:-1].decode("ascii"))
         object.__setattr__(self, "field_length", length.value)
 
@@ -255,8 +297,7 @@ class Curve:
     def from_name(cls, name: str) -> Curve:
         """Returns the curve with this name, such as secp256r1, P-256 or prime256v1, or raises CurveError.
         The case of letters counts."""
-        data = _text(name)
-        return cls(ObjectIdentifier(_written("sec1_curve_from_name", data, len(data))))
+        return cls(ObjectIdentifier._of(_written("sec1_curve_from_name", *given(_text(name)))))
 
     def __repr__(self) -> str:
         return f"Curve.from_name({self.name!r})"
@@ -265,20 +306,24 @@ class Curve:
         return self.name
 
 
-@dataclass(frozen=True)
+@dataclass(frozen=True, init=False)
 class EcPrivateKey:
     """A private key (RFC 5915 section 3). Its `repr` doesn't show the private key."""
 
-    private_key: bytes = field(repr=False)
-    curve: Optional[ObjectIdentifier] = None
-    public_key: Optional[bytes] = None
+    __slots__ = ("private_key", "curve", "public_key", "__weakref__")
+    private_key: bytes
+    curve: Optional[ObjectIdentifier]
+    public_key: Optional[bytes]
 
-    def __post_init__(self) -> None:
-        object.__setattr__(self, "private_key", _bytes(self.private_key))
-        if self.curve is not None:
-            _identifier(self.curve)
-        if self.public_key is not None:
-            object.__setattr__(self, "public_key", _bytes(self.public_key))
+    def __init__(
+        self,
+        private_key: bytes,
+        curve: Optional[ObjectIdentifier] = None,
+        public_key: Optional[bytes] = None,
+    ) -> None:
+        _set_private_key(self, _bytes(private_key))
+        _set_curve(self, None if curve is None else _identifier(curve))
+        _set_public_key(self, None if public_key is None else _bytes(public_key))
 
     @classmethod
     def from_der(cls, data: bytes) -> EcPrivateKey:
@@ -286,7 +331,21 @@ class EcPrivateKey:
 
         Raises TruncatedError, TagError, LengthError, TrailingDataError or ValueContentError, the first
         fault from left to right."""
-        return cls._read("sec1_key_read", "sec1_key_fault_at", data)
+        # As in `ObjectIdentifier.from_text`.
+        if type(data) is not bytes:
+            data = _bytes(data)
+        try:
+            place = places.pop()
+        except IndexError:
+            place = new_place()
+        _, _, parts, stored, fault, fault_at = place
+        if status := key_read_at(data, SIZES[len(data)], stored, fault_at):
+            offset = fault.value
+            places.append(place)
+            raise _ERRORS.get(status, Error)(offset)
+        found = parts[:]
+        places.append(place)
+        return cls._with(data, found)
 
     @classmethod
     def from_der_or_pkcs8(cls, data: bytes) -> EcPrivateKey:
@@ -296,56 +355,106 @@ class EcPrivateKey:
         Raises what `from_der` raises, of the key or of the container; CurveError, at the container's
         algorithm, if that names no curve of the table; OtherCurveError if the key in it names another
         curve."""
-        return cls._read("sec1_private_key_read", "sec1_private_key_fault_at", data)
+        data, parts = _bytes(data), KeyParts()
+        _check(_library.call("sec1_private_key_read", *given(data), byref(parts)), "sec1_private_key_fault_at", data)
+        return cls._with(data, parts[:])
 
     @classmethod
-    def _read(cls, read: str, fault_at: str, data: bytes) -> EcPrivateKey:
-        data, parts = _bytes(data), _library.KeyParts()
-        _check(_library.call(read, data, len(data), byref(parts)), fault_at, data)
-        curve = parts.curve.of(data)
-        return cls(
-            parts.private_key.of(data) or b"",
-            None if curve is None else ObjectIdentifier(curve),
-            parts.public_key.of(data),
-        )
+    def _with(cls, data: bytes, parts: List[int]) -> EcPrivateKey:
+        """Returns the key whose parts the library has found at these places: each has its offset, its length, and
+        whether it is present."""
+        at, length, _, curve_at, curve_length, has_curve, public_at, public_length, has_public = parts
+        private_key = data[at : at + length]
+        curve = ObjectIdentifier._of(data[curve_at : curve_at + curve_length]) if has_curve else None
+        public_key = data[public_at : public_at + public_length] if has_public else None
+        if cls is not EcPrivateKey:
+            return cls(private_key, curve, public_key)
+        self = _new(cls)
+        _set_private_key(self, private_key)
+        _set_curve(self, curve)
+        _set_public_key(self, public_key)
+        return self
 
     def to_der(self) -> bytes:
         """Returns the DER encoding, or raises OverlengthError."""
         curve = b"" if self.curve is None else self.curve.content
-        public_key = self.public_key or b""
-        parts = (self.private_key, len(self.private_key), curve, len(curve), public_key, len(public_key))
-        return _written("sec1_key_write", *parts, int(self.public_key is not None))
+        parts = (*given(self.private_key), *given(curve), *given(self.public_key or b""))
+        return _written("sec1_key_write", *parts, number(self.public_key is not None))
+
+    def __reduce__(self) -> Any:
+        return type(self), (self.private_key, self.curve, self.public_key)
+
+    def __repr__(self) -> str:
+        return f"{type(self).__qualname__}(curve={self.curve!r}, public_key={self.public_key!r})"
+
+
+_set_private_key = vars(EcPrivateKey)["private_key"].__set__
+_set_curve = vars(EcPrivateKey)["curve"].__set__
+_set_public_key = vars(EcPrivateKey)["public_key"].__set__
 
 
 @functools.total_ordering
-@dataclass(frozen=True, eq=False)
+@dataclass(frozen=True, init=False, eq=False)
 class Point:
     """A point in its encoding, over a field whose elements have `field_length` bytes.
 
     Points over one field are ordered by tag, then by coordinates as whole numbers. It isn't tested that
     a point lies on a curve. Raises PointEncodingError or FieldLengthError."""
 
+    __slots__ = ("encoding", "field_length", "_parts", "__weakref__")
     encoding: bytes
     field_length: int
-    tag: Tag = field(init=False, repr=False)
-    x: Optional[bytes] = field(init=False, repr=False)
-    y: Optional[bytes] = field(init=False, repr=False)
 
-    def __post_init__(self) -> None:
-        data, parts, length = _bytes(self.encoding), _library.PointParts(), _length(self.field_length)
-        _check(_library.call("sec1_point_read", data, len(data), length, byref(parts)))
-        object.__setattr__(self, "encoding", data)
-        object.__setattr__(self, "field_length", length)
-        object.__setattr__(self, "tag", Tag(parts.tag))
-        object.__setattr__(self, "x", parts.x.of(data))
-        object.__setattr__(self, "y", parts.y.of(data))
+    def __init__(self, encoding: bytes, field_length: int) -> None:
+        data, length = _bytes(encoding), _length(field_length)
+        _check(point_check(data, SIZES[len(data)], SIZES[length]))
+        _set_encoding(self, data)
+        _set_field_length(self, length)
+
+    @classmethod
+    def _of(cls, encoding: bytes, field_length: int) -> Point:
+        """Returns the point with an encoding that the library has written."""
+        if cls is not Point:
+            return cls(encoding, field_length)
+        self = _new(cls)
+        _set_encoding(self, encoding)
+        _set_field_length(self, field_length)
+        return self
+
+    @property
+    def tag(self) -> Tag:
+        """The first byte of the encoding."""
+        return self._read()[0]
+
+    @property
+    def x(self) -> Optional[bytes]:
+        """The coordinate x, or None for the point at infinity."""
+        return self._read()[1]
+
+    @property
+    def y(self) -> Optional[bytes]:
+        """The coordinate y, or None where the encoding doesn't have it."""
+        return self._read()[2]
+
+    def _read(self) -> Tuple[Tag, Optional[bytes], Optional[bytes]]:
+        """Returns the tag and the coordinates, which are looked for when they are first asked for."""
+        found: Tuple[Tag, Optional[bytes], Optional[bytes]]
+        try:
+            found = _get_parts(self)
+        except AttributeError:
+            data, parts = self.encoding, _library.PointParts()
+            _check(_library.call("sec1_point_read", *given(data), number(self.field_length), byref(parts)))
+            found = Tag(parts.tag), parts.x.of(data), parts.y.of(data)
+            _set_parts(self, found)
+        return found
 
     @classmethod
     def from_coordinates(cls, x: bytes, y: bytes, compress: bool = False) -> Point:
         """Returns the uncompressed point with these coordinates, or its compressed form, or raises
         FieldLengthError."""
         x, y = _bytes(x), _bytes(y)
-        return cls(_written("sec1_point_from_coordinates", x, len(x), y, len(y), int(compress)), len(x))
+        form = number(bool(compress))
+        return cls._of(_written("sec1_point_from_coordinates", *given(x), *given(y), form), len(x))
 
     @classmethod
     def identity(cls, field_length: int) -> Point:
@@ -357,13 +466,12 @@ class Point:
         """Returns the point with this hexadecimal text, whose letters are all of one case, or raises
         PointEncodingError or FieldLengthError."""
         data, length = _text(text), _length(field_length)
-        return cls(_written("sec1_point_from_hex", data, len(data), length), length)
+        return cls._of(_written("sec1_point_from_hex", *given(data), number(length)), length)
 
     def hex(self, lower_case: bool = False) -> str:
         """Returns the encoding in hexadecimal."""
-        length = len(self.encoding)
-        text = _written("sec1_point_to_hex", self.encoding, length, self.field_length, int(lower_case))
-        return text[:-1].decode("ascii")
+        form = number(self.field_length), number(bool(lower_case))
+        return _written("sec1_point_to_hex", *given(self.encoding), *form)[:-1].decode("ascii")
 
     def compress(self) -> Point:
         """Returns the compressed form of an uncompressed or hybrid point, any other as it is."""
@@ -374,13 +482,13 @@ class Point:
         return self._form("sec1_point_to_hybrid")
 
     def _form(self, name: str) -> Point:
-        form = _written(name, self.encoding, len(self.encoding), self.field_length)
-        return Point(form, self.field_length)
+        length = self.field_length
+        return Point._of(_written(name, *given(self.encoding), number(length)), length)
 
     def _order(self, other: Point) -> int:
-        order, first, second = c_int32(), self.encoding, other.encoding
-        arguments = (first, len(first), second, len(second), self.field_length, byref(order))
-        _check(_library.call("sec1_point_compare", *arguments))
+        order = c_int32()
+        points = (*given(self.encoding), *given(other.encoding))
+        _check(_library.call("sec1_point_compare", *points, number(self.field_length), byref(order)))
         return order.value
 
     def __eq__(self, other: object) -> bool:
@@ -396,6 +504,14 @@ class Point:
     def __hash__(self) -> int:
         return hash((self.encoding, self.field_length))
 
+    def __reduce__(self) -> Any:
+        return type(self), (self.encoding, self.field_length)
+
+
+_set_encoding = vars(Point)["encoding"].__set__
+_set_field_length = vars(Point)["field_length"].__set__
+_get_parts, _set_parts = vars(Point)["_parts"].__get__, vars(Point)["_parts"].__set__
+
 
 def certificate_public_key(data: bytes) -> bytes:
     """Returns the SubjectPublicKeyInfo in a certificate (RFC 5280 section 4.1), which is all of the bytes. No
@@ -404,7 +520,7 @@ def certificate_public_key(data: bytes) -> bytes:
     Raises TruncatedError, TagError, LengthError, TrailingDataError or ValueContentError, the first fault
     from left to right."""
     data, part = _bytes(data), _library.Part()
-    status = _library.call("sec1_certificate_read_public_key", data, len(data), byref(part))
+    status = _library.call("sec1_certificate_read_public_key", *given(data), byref(part))
     _check(status, "sec1_certificate_fault_at", data)
     return part.of(data) or b""
 
@@ -414,7 +530,7 @@ def check_tree(data: bytes) -> int:
 
     Raises TruncatedError, TagError, LengthError, TrailingDataError or DepthError."""
     data, count = _bytes(data), c_size_t()
-    _check(_library.call("sec1_tree_check", data, len(data), byref(count)), "sec1_tree_fault_at", data)
+    _check(_library.call("sec1_tree_check", *given(data), byref(count)), "sec1_tree_fault_at", data)
     return count.value
 
 
@@ -422,7 +538,7 @@ def document_length(data: bytes) -> Optional[int]:
     """Returns the length, header and content together, that the header at the beginning announces, or
     None if the bytes don't begin with a whole header. The content may be cut, and bytes may follow it."""
     data, length = _bytes(data), c_size_t()
-    _library.call("sec1_document_len", data, len(data), byref(length))
+    _library.call("sec1_document_len", *given(data), byref(length))
     return length.value or None
 
 
@@ -440,6 +556,6 @@ def draw(data: bytes, show_all: bool = False) -> Picture:
     base64 encodes. Each byte is in one row. No content of what may be a private key is shown, unless
     `show_all` is true."""
     data = _bytes(data)
-    status, text, is_key = _library.drawn(data, int(bool(show_all)))
+    status, text, is_key = _library.drawn(data, bool(show_all))
     _check(status)
     return Picture(text.decode("ascii"), is_key == 1)

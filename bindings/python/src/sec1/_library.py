@@ -1,13 +1,17 @@
-"""The functions of libsec1.so over `bytes`, in the types of sec1.h.
+"""The functions of the library over `bytes`, in the types of sec1.h.
 
 A pointer and the length after it come from one object, which stays alive during the call, and what is
-written is a buffer that was made for the call: that is all that sec1.h asks of a caller."""
+written is a place that no other call has meanwhile: that is all that sec1.h asks of a caller.
+
+ctypes isn't told the types of the arguments: to convert them would take longer than the library takes to
+read a key. So each argument is what `given`, `number` or `byref` returns, or a constant made of these."""
 from __future__ import annotations
 
 import ctypes
 import pathlib
-from ctypes import POINTER, Structure, byref, c_char, c_char_p, c_int32, c_size_t, c_uint32
-from typing import Any, Optional
+import sys
+from ctypes import Structure, byref, c_char, c_size_t, c_uint32
+from typing import Any, Dict, List, Optional, Tuple
 
 BUFFER = 7
 
@@ -22,78 +26,98 @@ class Part(Structure):
         return data[self.offset : self.offset + self.len] if self.present else None
 
 
-class KeyParts(Structure):
-    """The places of a private key's parts."""
-
-    _fields_ = [("private_key", Part), ("curve", Part), ("public_key", Part)]
-
-
 class PointParts(Structure):
     """The tag of a point, and the places of its coordinates."""
 
     _fields_ = [("tag", c_size_t), ("x", Part), ("y", Part)]
 
 
-_sec1 = ctypes.CDLL(str(pathlib.Path(__file__).with_name("libsec1.so")))
-_BYTES = [c_char_p, c_size_t]
-_OUT = [POINTER(c_char), c_size_t, POINTER(c_size_t)]
-for _name, _types in {
-    "sec1_key_read": [*_BYTES, POINTER(KeyParts)],
-    "sec1_key_write": [*_BYTES, *_BYTES, *_BYTES, c_size_t, *_OUT],
-    "sec1_point_read": [*_BYTES, c_size_t, POINTER(PointParts)],
-    "sec1_key_fault_at": [*_BYTES, POINTER(c_size_t)],
-    "sec1_private_key_read": [*_BYTES, POINTER(KeyParts)],
-    "sec1_private_key_fault_at": [*_BYTES, POINTER(c_size_t)],
-    "sec1_certificate_read_public_key": [*_BYTES, POINTER(Part)],
-    "sec1_certificate_fault_at": [*_BYTES, POINTER(c_size_t)],
-    "sec1_point_compress": [*_BYTES, c_size_t, *_OUT],
-    "sec1_point_from_coordinates": [*_BYTES, *_BYTES, c_size_t, *_OUT],
-    "sec1_point_identity": _OUT,
-    "sec1_point_to_hex": [*_BYTES, c_size_t, c_size_t, *_OUT],
-    "sec1_point_from_hex": [*_BYTES, c_size_t, *_OUT],
-    "sec1_identifier_check": _BYTES,
-    "sec1_curve_field_len": [*_BYTES, POINTER(c_size_t)],
-    "sec1_curve_name": [*_BYTES, *_OUT],
-    "sec1_curve_from_name": [*_BYTES, *_OUT],
-    "sec1_tree_fault_at": [*_BYTES, POINTER(c_size_t)],
-    "sec1_point_to_hybrid": [*_BYTES, c_size_t, *_OUT],
-    "sec1_point_compare": [*_BYTES, *_BYTES, c_size_t, POINTER(c_int32)],
-    "sec1_identifier_to_text": [*_BYTES, *_OUT],
-    "sec1_identifier_from_text": [*_BYTES, *_OUT],
-    "sec1_tree_check": [*_BYTES, POINTER(c_size_t)],
-    "sec1_document_len": [*_BYTES, POINTER(c_size_t)],
-    "sec1_picture_draw": [*_BYTES, c_size_t, POINTER(c_char), c_size_t, *_OUT, POINTER(c_size_t)],
-    "sec1_status_to_text": [c_size_t, *_OUT],
-}.items():
-    getattr(_sec1, _name).argtypes, getattr(_sec1, _name).restype = _types, c_uint32
+_NAME = {"darwin": "libsec1.dylib", "win32": "sec1.dll"}.get(sys.platform, "libsec1.so.0")
+_PATH = str(pathlib.Path(__file__).with_name(_NAME))
+# The calls of which each takes less time than to let other threads run meanwhile.
+_QUICK = """sec1_key_read_at sec1_identifier_check sec1_identifier_from_text sec1_identifier_to_text
+    sec1_point_check sec1_point_read sec1_point_compare sec1_point_compress sec1_point_to_hybrid
+    sec1_point_from_coordinates sec1_point_identity sec1_point_to_hex sec1_point_from_hex
+    sec1_curve_field_len sec1_curve_name sec1_curve_from_name sec1_status_to_text""".split()
+_OTHERS = """sec1_key_write sec1_private_key_read sec1_private_key_fault_at sec1_certificate_read_public_key
+    sec1_certificate_fault_at sec1_tree_check sec1_tree_fault_at sec1_document_len sec1_picture_draw""".split()
+_FUNCTIONS: Dict[str, Any] = {}
+for _calls, _names in ((ctypes.PyDLL(_PATH), _QUICK), (ctypes.CDLL(_PATH), _OTHERS)):
+    for _name in _names:
+        _FUNCTIONS[_name] = getattr(_calls, _name)
+        _FUNCTIONS[_name].restype = c_uint32
+key_read_at = _FUNCTIONS["sec1_key_read_at"]
+identifier_check = _FUNCTIONS["sec1_identifier_check"]
+identifier_from_text = _FUNCTIONS["sec1_identifier_from_text"]
+point_check = _FUNCTIONS["sec1_point_check"]
+
+
+class _Sizes(dict[int, Any]):
+    """Each number as C takes it."""
+
+    def __missing__(self, size: int) -> Any:
+        return c_size_t.from_param(size)
+
+
+# Those of most keys and points are made before.
+SIZES = _Sizes((size, c_size_t.from_param(size)) for size in range(512))
+# The length that an object of this type has, whatever a class below it says of its own.
+length_of = bytes.__len__
+number = SIZES.__getitem__
+
+
+def given(data: bytes) -> Tuple[bytes, Any]:
+    """Returns a pointer to the bytes, and their length. Anything but `bytes` is a TypeError."""
+    return data, SIZES[length_of(data)]
+
+
+# What calls write into: 270 bytes, the places of a key's three parts, and a number, each with a pointer to it.
+# Whoever takes a place from the list has it alone until it is back there.
+Place = Tuple[Any, Any, Any, Any, Any, Any]
+places: List[Place] = []
+ROOM = SIZES[270]
+KeyParts = c_size_t * 9
+
+
+def new_place() -> Place:
+    """Returns one more place."""
+    room, parts, stored = (c_char * 270)(), KeyParts(), c_size_t()
+    return room, byref(room), parts, byref(parts), stored, byref(stored)
 
 
 def call(name: str, *arguments: Any) -> int:
     """Calls a function, and returns its status."""
-    return int(getattr(_sec1, name)(*arguments))
+    return int(_FUNCTIONS[name](*arguments))
 
 
-def written(name: str, *arguments: Any) -> "tuple[int, bytes]":
-    """Returns the status, and what the function writes: in 270 bytes, or in as many as it asks for."""
-    length, room = c_size_t(), 270
-    while True:
-        buffer = ctypes.create_string_buffer(room)
-        status = call(name, *arguments, buffer, room, byref(length))
-        if status == BUFFER and length.value > room:
-            room = length.value
-            continue
-        return status, buffer.raw[: length.value] if status == 0 else b""
+def written(name: str, *arguments: Any) -> Tuple[int, bytes]:
+    """Returns the status, and what the function writes: in 270 bytes, or in as many as it asks for. Where it
+    was written it is overwritten."""
+    function = _FUNCTIONS[name]
+    try:
+        place = places.pop()
+    except IndexError:
+        place = new_place()
+    room, out, _, _, length, stored = place
+    status = function(*arguments, out, ROOM, stored)
+    if status == BUFFER:
+        room = ctypes.create_string_buffer(length.value)
+        status = function(*arguments, byref(room), number(length.value), stored)
+    data = room[: length.value] if status == 0 else b""
+    room.raw = bytes(len(room))
+    places.append(place)
+    return status, data
 
 
-def drawn(data: bytes, show_all: int) -> "tuple[int, bytes, int]":
+def drawn(data: bytes, show_all: bool) -> Tuple[int, bytes, int]:
     """Returns the status, the text of a picture, and whether some part of the bytes is a key. What was
     decoded, and the text, are overwritten in the memory that was theirs."""
     length, is_key, most = c_size_t(), c_size_t(), 4096
     while True:
-        room = ctypes.create_string_buffer(2 * len(data) + 2 + most)
+        room = ctypes.create_string_buffer(2 * length_of(data) + 2 + most)
         text = ctypes.create_string_buffer(most)
-        given = (data, len(data), show_all, room, len(room), text, most, byref(length), byref(is_key))
-        status = call("sec1_picture_draw", *given)
+        into = (byref(room), number(len(room)), byref(text), number(most), byref(length), byref(is_key))
+        status = call("sec1_picture_draw", *given(data), number(show_all), *into)
         found = text.raw[: length.value] if status == 0 else b""
         for buffer in (room, text):
             ctypes.memset(buffer, 0, len(buffer))
