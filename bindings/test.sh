@@ -257,25 +257,96 @@ python() {
         PIP_NO_INDEX=1 "$bin/pip" install "$packed"/bridgeacacia_sec1-*.tar.gz
     check "the module passes the tests of the source archive" \
         "$bin/python" -I "$work/source/tests/test_sec1.py"
-    refuses "without a compiler there is no wheel" "none-such" \
+    refuses "without a compiler there is no wheel" "there is no C compiler none-such" \
         env CC=none-such "$bin/pip" wheel --no-deps -w "$packed/again" "$here/python"
+    cp "$work/output" "$work/said"
+    check "it says no more than that" eval '! grep Traceback "$work/said"'
     refuses "a folder without the library is refused" "no libsec1.so in $work/none" \
         env SEC1_LIB_DIR="$work/none" "$bin/pip" wheel --no-deps -w "$packed/again" "$here/python"
     check "pip installs the wheel" "$bin/pip" install --force-reinstall "$wheel"
     check "the wheel has the library, the types and the licences inside" "$bin/python" -I -c \
         'import importlib.metadata, sec1
 files = [str(file) for file in importlib.metadata.files("bridgeacacia-sec1")]
-wanted = ["sec1/libsec1.so", "sec1/py.typed", "LICENSE-MIT", "LICENSE-APACHE", "licences.txt"]
+wanted = ["sec1/libsec1.so.0", "sec1/py.typed", "LICENSE-MIT", "LICENSE-APACHE", "licences.txt"]
 assert all(any(file.endswith(name) for file in files) for name in wanted), files
 assert sec1.EcPrivateKey.from_der(sec1.EcPrivateKey(b"\1").to_der()).private_key == b"\1"'
     if has readelf; then
         check "the library needs no newer glibc than its tag says" \
-            is_manylinux "$("$bin/python" -I -c 'import sec1; print(sec1.__path__[0])')/libsec1.so"
+            is_manylinux "$("$bin/python" -I -c 'import sec1; print(sec1.__path__[0])')/libsec1.so.0"
     fi
     check "python -m sec1 draws what a second reader draws" \
         python3 -B "$top/tests/dump/programs.py" "$bin/python -I -m sec1"
+    python_without_links
+    python_elsewhere
+    python_for_windows
     check "no file is left in the repository" \
         test -z "$(find "$here/python" -name '__pycache__' -o -name '*.egg-info' -o -name build)"
+}
+
+# Makes the packages of a clone without links, as git makes it on Windows: each is a file that has a
+# path. pip before 21.3 copies the folder alone, so that its links lead nowhere.
+python_without_links() {
+    local repository=$work/linked clone=$work/unlinked
+    copied "$repository" python
+    git -C "$repository" init -q && git -C "$repository" add -A &&
+        git -C "$repository" -c user.name=t -c user.email=t@example.com commit -q -m .
+    check "git clones it without links" \
+        git clone -q -c core.symlinks=false "$repository" "$clone"
+    check "the assembly is a path there" says "../../../dist/sec1-$(uname -m).s" \
+        cat "$clone/bindings/python/library/sec1-$(uname -m).s"
+    mkdir "$work/unlinked-packed"
+    check "the source archive is made there" eval \
+        'here=$clone/bindings sdist "$work/unlinked-packed"'
+    check "pip makes a wheel there" \
+        "$bin/pip" wheel --no-deps -w "$work/unlinked-packed" "$clone/bindings/python"
+    check "both have the same bytes" eval 'cmp "$packed"/*.tar.gz "$work"/unlinked-packed/*.tar.gz &&
+        cmp "$packed"/*manylinux*.whl "$work"/unlinked-packed/*.whl'
+    rm "$clone/dist/sec1.h"
+    refuses "a path that leads nowhere is refused" \
+        "sec1.h is a link to ../../../dist/sec1.h, which isn't here" \
+        "$bin/pip" wheel --no-deps -w "$work/unlinked-packed" "$clone/bindings/python"
+    cp -R "$here/python" "$work/alone"
+    refuses "a copy of the folder alone is refused" "pip before 21.3 copies the folder" \
+        "$bin/pip" wheel --no-deps -w "$work/unlinked-packed" "$work/alone"
+}
+
+# Makes the wheel as for a system that there is no assembly for, and runs its tests here.
+python_elsewhere() {
+    printf '#!/bin/sh\n%s\n' '[ "$1" = -dumpmachine ] && exec echo elsewhere-linux-gnu' 'exec cc "$@"' \
+        >"$work/elsewhere"
+    chmod +x "$work/elsewhere"
+    mkdir "$work/of-c"
+    check "where there is no assembly, pip makes a wheel of sec1.c" env CC="$work/elsewhere" \
+        "$bin/pip" wheel --no-deps -w "$work/of-c" "$here/python"
+    check "it has the name of that system" test -s "$work"/of-c/*_elsewhere.whl
+    python3 -m zipfile -e "$work"/of-c/*.whl "$work/of-c/there"
+    check "its module passes the tests" env PYTHONPATH="$work/of-c/there" \
+        python3 -s "$work/source/tests/test_sec1.py"
+}
+
+# Makes the wheel for Windows by mingw, and has a program read a key by its library under wine. There
+# is no Python for Windows here.
+python_for_windows() {
+    local compiler=x86_64-w64-mingw32-gcc wine=/usr/lib/wine there=$work/windows
+    if ! command -v $compiler >/dev/null; then
+        skip 3 "$compiler is missing (Debian: gcc-mingw-w64-x86-64)"
+        return
+    fi
+    mkdir "$there"
+    check "pip makes a wheel for Windows by mingw" env CC=$compiler \
+        "$bin/pip" wheel --no-deps -w "$there" "$here/python"
+    check "it has the name of that system" test -s "$there"/*-py3-none-win_amd64.whl
+    python3 -m zipfile -e "$there"/*.whl "$there"
+    if [ ! -x $wine/wine64 ]; then
+        skip 1 "$wine/wine64 is missing (Debian: wine64)"
+        return
+    fi
+    export WINEPREFIX=$there/wine WINEDEBUG=-all
+    $compiler -Wall -Wextra -I"$top/dist" -o "$there/windows.exe" "$here/python/tests/windows.c"
+    cp "$top/dist/examples/p256.der" "$there"
+    check "its library reads a key under wine" says $'0: 32 at 7, 8 at 43, 65 at 56; cut: 1\r' \
+        eval '(cd "$there" && $wine/wine64 windows.exe p256.der)'
+    $wine/wineserver64 -k >"$work/output" 2>&1
 }
 
 # Prints the program of a number in README.md of the package for JavaScript.
@@ -284,11 +355,11 @@ readme() { # NUMBER
         /^```$/ { next } at == n'
 }
 
-# Copies the package for JavaScript, with all that its links lead to, into a folder.
-copied() { # FOLDER
-    local file
-    mkdir -p "$1/bindings" && cp -R "$here/js" "$1/bindings" || return
-    find "$here/js" -type l | while read -r file; do
+# Copies a package, by default that for JavaScript, with all that its links lead to, into a folder.
+copied() { # FOLDER [PACKAGE]
+    local file package=$here/${2:-js}
+    mkdir -p "$1/bindings" && cp -R "$package" "$1/bindings" || return
+    find "$package" -type l | while read -r file; do
         file=$(realpath "$file")
         mkdir -p "$1/$(dirname "${file#"$top"/}")" && cp "$file" "$1/${file#"$top"/}"
     done
