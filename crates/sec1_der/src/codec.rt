@@ -95,8 +95,8 @@ fn element_len<T: EncodeValue + Tagged>(value: &T) -> Option<usize>
     }
 }
 
-/// Returns the length in bytes of the DER encoding of a value that has one, such as a value that was
-/// read. What its reader examined isn't examined again.
+/// Returns the length in bytes of the DER encoding of a value that has one, as each value has that
+/// was read. What its reader examined isn't examined again.
 pub fn known_encoded_len<T: EncodeValue + Tagged>(value: &T) -> usize
     requires { IsSome (element_of T.tag_byte (T.content value.now)) }
     ensures { IsTrue (is_tag T.tag_byte) × (result ≤ max_length + 6)

@@ -36,8 +36,8 @@ pub trait EncodePart: Part {
     fn part_len(&self) -> Result<Length>
         ensures { Measures (within_limit (Self.bytes self.now)) result };
 
-    /// Returns the length in bytes of a part that has an encoding of at most 268,435,455 bytes, such
-    /// as one that was read.
+    /// Returns the length in bytes of a part that has an encoding of at most 268,435,455 bytes, as
+    /// each part has that was read.
     ///
     /// A type whose [`part_len`](EncodePart::part_len) examines the value, or one that contains
     /// other parts, overrides this, so that what was examined isn't examined again.
