@@ -14,7 +14,9 @@ pub mod reading;
 // Elements, types and records of DER.
 pub mod content_info;
 pub mod elements;
+pub mod first_elements;
 pub mod found;
+pub mod known_lengths;
 pub mod numbers;
 pub mod open_kinds;
 pub mod own_record;

@@ -38,7 +38,7 @@ returns-in_err-total-clause-only c = λ numbers is.
 
 pub loop-number-preserved : goal.loop-number-preserved
 loop-number-preserved c = record {
-  checked = c.in-Some.ensures.checked;
+  checked = c.in-Some.ensures.checked c.loop-number.invariant.checked;
   fits = omega (arith, c.in_ok-total.ensures);
   read = λ left is.
       let before = c.in-Some.ensures.values left is in
