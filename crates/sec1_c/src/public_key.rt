@@ -105,8 +105,5 @@ fn field_len_of(key: &Bits) -> usize
     requires { IsSome (element_of 0x03 (bit_string_content key.now)) }
     ensures { result ≡ key_field_len key.now.bytes }
 {
-    match der::encoded_len(key) {
-        Ok(len) => len,
-        Err(_) => unreachable!(),
-    }
+    der::known_encoded_len(key)
 }
