@@ -2,7 +2,8 @@
 //! in a record of one's own. What is held need not be known to have been read.
 ghost use Rattle.std.specs.Prelude.{◌≡◌, ◌↔◌, ◌++◌, [], ℕ, List, Some, None, refl};
 ghost use Rattle.std.specs.Prelude.{IfOk, IfSome, IfNone, IsSome, IsSomeAnd, IsOkAnd};
-ghost use Rattle.pkix.specs.Records.{attribute_fault, certificate_content, certificate_fault};
+ghost use Rattle.pkix.specs.Records.{attribute_content, attribute_fault};
+ghost use Rattle.pkix.specs.Records.{certificate_content, certificate_fault};
 ghost use Rattle.pkix.specs.Records.{extension_content, extension_fault};
 ghost use Rattle.pkix.specs.declared.certificate.Certificate.{Certificate};
 ghost use Rattle.der_types.specs.Contents.{content_if};
@@ -26,9 +27,14 @@ pub fn first_names<'a>(certificate: &Certificate<'a>) -> Option<RelativeDistingu
     certificate.tbs_certificate.subject.elements().next()
 }
 
-/// Returns the first attribute of the subject's name, if there is one.
-pub fn first_attribute<'a>(certificate: &Certificate<'a>) -> Option<AttributeTypeAndValue<'a>> {
-    first_names(certificate)?.elements().next()
+/// Returns the first attribute of a set of a name, if there is one.
+pub fn first_attribute<'a>(
+    names: &RelativeDistinguishedName<'a>,
+) -> Option<AttributeTypeAndValue<'a>>
+    ensures found { IfSome result (λ first. IsSomeAnd (element_of 0x30 (attribute_content first))
+        (λ bytes. (rest : List ℕ) × (names.now ≡ bytes ++ rest))) }
+{
+    names.elements().next()
 }
 
 /// Returns the first extension, if there is one.
