@@ -4,3 +4,4 @@ pub mod EvenOctets
 pub mod KeyReading
 pub mod KeyStores
 pub mod Numbers
+pub mod Secrets

@@ -10,6 +10,7 @@ pub mod named_curves;
 pub mod point_arrays;
 pub mod points;
 pub mod reading;
+pub mod texts;
 
 // Elements, types and records of DER.
 pub mod content_info;
@@ -20,6 +21,7 @@ pub mod known_lengths;
 pub mod numbers;
 pub mod open_kinds;
 pub mod own_record;
+pub mod whole_elements;
 
 // What any input is.
 pub mod pictures;
@@ -28,6 +30,7 @@ pub mod unseen_keys;
 // By which kind bytes are refused, and what a refusal leaves.
 pub mod failed_readers;
 pub mod header_kinds;
+pub mod said_kinds;
 
 // Streams and writers.
 pub mod prepending;
