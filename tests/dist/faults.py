@@ -4,8 +4,10 @@ writes then, which has to fail, or the file can't be written or compiled: see bi
 
   tests/dist/faults.py [FIRST [STEP]]    each STEP-th fault from FIRST on, by default all of them
 
-The module is the one that crates/sec1_c/build.sh links; MODULE names another. `memcpy` in the place
-of `memmove` isn't among the faults: no call moves memory that overlaps, as tests/dist/run fuzz shows.
+The module is the one that crates/sec1_c/build.sh links; MODULE names another. Not among the faults
+are `memcpy` in the place of `memmove`, since no call moves memory that overlaps, as tests/dist/run
+fuzz shows; and what changes nothing of this module, where a number never waits on the stack while a
+block begins, or while memory is written that it was read from.
 """
 import os
 import pathlib
@@ -38,20 +40,16 @@ FAULTS = [
     ("translate.py", "return end - at == 10 and", "return end - at == 9 and"),
     ("translate.py", "runs[-1][1].append(to)", "runs[-1][1].append(to + 8)"),
     ("translate.py", "self.function.frame = parts[1].value", "self.function.frame = 16"),
-    ("head.c", "  memset(POINTER(to), (int)byte, (size_t)size);", "  memset(POINTER(to), 0 * (int)byte, (size_t)size);"),
+    ("head.c", "  memset(POINTER(to), (int)byte, (size_t)size);", "  memset(POINTER(to), (int)byte, (size_t)size / 2);"),
     ("head.c", "memmove(POINTER(to), POINTER(from), (size_t)size);", "memmove(POINTER(to), POINTER(from), (size_t)size - (size > 0));"),
     # the order of what is computed
     ("translate.py", "        self.settle(lambda it: name in it.reads)\n", ""),
-    ("translate.py", "            self.settle(lambda it: not it.is_fixed)\n", ""),
-    ("translate.py", 'def settle_loads(self):\n        self.settle(lambda it: it.loads)', "def settle_loads(self):\n        pass"),
     ("translate.py", 'a, b, test = self.pop(3)\n            self.push(Expression("select", a.bits, None, (test, a, b)))', 'test, b, a = self.pop(3)\n            self.push(Expression("select", a.bits, None, (test, a, b)))'),
     # locals, jumps and calls
     ("translate.py", "self.stack.append(self.known.get(args[0], self.locals[args[0]]))\n        elif code in (SET, TEE)", "self.stack.append(self.locals[max(args[0] - 1, 0)])\n        elif code in (SET, TEE)"),
     ("translate.py", "block = self.blocks[-1 - depth]", "block = self.blocks[max(-2 - depth, -len(self.blocks))]"),
     ("to_c.py", "parts[0].is_used and parts[0].is_loop == (kind == \"begin\")", "parts[0].is_used and kind == \"end\""),
-    ("to_c.py", "names = [f\"{name} = 0\" for name, its", "names = [f\"{name} = 1\" for name, its"),
     ("translate.py", "if it == target]", "if it >= target]"),
-    ("translate.py", 'return Statement("return", self.stack[-1] if', 'return Statement("return", self.stack[0] if'),
     ("translate.py", "return calls[2]\n", "return calls[2] + 2\n"),
     ("to_c.py", 'return comparison(it) if it.is_test else load(it) if it.kind == "load" else text(it)', 'return comparison(it) if it.is_test else f"{operand(it)} & 1"'),
 ]
