@@ -172,6 +172,12 @@ as_dependency() {
     rm -rf "$repository/bindings/rust/target"
     git -C "$repository" init -q && git -C "$repository" add -A &&
         git -C "$repository" -c user.name=t -c user.email=t@example.com commit -q -m .
+    # As Git makes it on Windows: a file with a path in the place of a link.
+    check "a clone without links" git clone -q -c core.symlinks=false "$repository" "$work/without-links"
+    check "it has none" test -f "$work/without-links/bindings/rust/sec1-sys/src/sec1.rs" \
+        -a -z "$(find "$work/without-links" -type l)"
+    check "the crate is built there, of sec1.rs" env SEC1_LIBRARY=rust cargo build --locked --features std \
+        --manifest-path "$work/without-links/bindings/rust/sec1/Cargo.toml"
     program "$work/by-git"
     cd "$work/by-git" || return
     local add=(cargo add --quiet bridgeacacia-sec1 --rename sec1 --features alloc)

@@ -9,11 +9,12 @@ fn main() -> Result<(), String> {
     println!("cargo::rerun-if-changed=build.rs");
     println!("cargo::rerun-if-env-changed=SEC1_LIBRARY");
     println!("cargo::rustc-check-cfg=cfg(sec1_library, values(\"assembly\", \"rust\"))");
+    println!("cargo::rustc-check-cfg=cfg(sec1_without_links)");
     let automatic = if has_assembly() { "assembly" } else { "rust" };
     let library = env::var("SEC1_LIBRARY").unwrap_or_else(|_| automatic.into());
     match library.as_str() {
         "assembly" if has_assembly() => {}
-        "rust" if target("POINTER_WIDTH") == "64" => {}
+        "rust" if target("POINTER_WIDTH") == "64" => find_source(),
         "installed" => return link(),
         "rust" => return Err(refusal("libsec1 is for targets with pointers of 64 bits")),
         "assembly" => return Err(refusal("the assembly is for Linux on x86-64 and aarch64")),
@@ -21,6 +22,14 @@ fn main() -> Result<(), String> {
     }
     println!("cargo::rustc-cfg=sec1_library=\"{library}\"");
     Ok(())
+}
+
+/// Says whether `src/sec1.rs` is a link that has become a file with a path in it, as Git makes of it
+/// on Windows.
+fn find_source() {
+    if fs::metadata("src/sec1.rs").is_ok_and(|it| it.is_file() && it.len() < 100) {
+        println!("cargo::rustc-cfg=sec1_without_links");
+    }
 }
 
 /// Returns what cargo says of the target.

@@ -6,7 +6,8 @@
 mod assembly;
 #[cfg(sec1_library = "rust")]
 #[rustfmt::skip]
-#[path = "sec1.rs"]
+#[cfg_attr(not(sec1_without_links), path = "sec1.rs")]
+#[cfg_attr(sec1_without_links, path = "../../../../dist/sec1.rs")]
 mod translated;
 
 /// Success.
