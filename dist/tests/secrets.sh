@@ -3,7 +3,7 @@
 # of a private key: secrets.sh ARCHIVE. The program is built by each compiler, with optimization,
 # which takes the bodies of the small functions from sec1.h, and without, which calls those of the
 # archive. The last line is `N passed, M failed`, or `N passed, M failed, 1 skipped` where valgrind
-# is missing. CC is a compiler in place of gcc, and COMPILERS are those in place of both.
+# is missing. CC is a compiler in place of gcc. COMPILERS and LEVELS are others in place of these.
 set -uo pipefail
 archive=$(realpath "$1")
 cd "$(dirname "$0")/.."
@@ -37,7 +37,7 @@ if ! command -v valgrind >"$work/said" ||
 fi
 for compiler in ${COMPILERS:-${CC:-gcc} clang}; do
     command -v "$compiler" >"$work/said" || continue
-    for level in -O0 -O2; do
+    for level in ${LEVELS:--O0 -O2}; do
         check "$compiler $level compiles secrets.c" built "$compiler" "$level" "$archive"
         check "no branch and no address depends on a private byte: $compiler $level" \
             finds_nothing "$work/secrets"

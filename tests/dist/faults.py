@@ -56,10 +56,14 @@ FAULTS = [
 
 
 def copy(folder):
-    """Copies what writes sec1.c, and what is compiled with it."""
-    for path in (*DIST.glob("*.py"), DIST / "head.c", DIST / "sec1.h"):
+    """Copies what writes sec1.c, and compiles its tests, which end here where one fails."""
+    for path in (*DIST.glob("*.py"), DIST / "head.c", DIST / "sec1.h", DIST / "tests/draw.h"):
         shutil.copy(path, folder)
-    plant.passes(folder, ["gcc", "-std=c11", "-O1", "-I.", "-c", "-o", "calls.o", str(DIST / "tests/calls.c")], 120)
+    text = (DIST / "tests/calls.c").read_text(encoding="utf-8")
+    assert text.count("        failed++;\n") == 1
+    text = text.replace("        failed++;\n", "        exit(1);\n")
+    (folder / "calls.c").write_text(text, encoding="utf-8")
+    plant.passes(folder, "gcc -std=c11 -O1 -I. -c calls.c".split(), 120)
     return folder
 
 
