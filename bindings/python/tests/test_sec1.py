@@ -1,10 +1,12 @@
 """Tests of the module: worked examples, the stored keys of OpenSSL, and random inputs."""
+import array
 import copy
 import ctypes
 import dataclasses
 import doctest
 import importlib.metadata
 import inspect
+import operator
 import pathlib
 import pickle
 import pydoc
@@ -27,6 +29,7 @@ REFUSED = {
     "refused: TrailingData": sec1.TrailingDataError,
     "refused: Value": sec1.ValueContentError,
 }
+P256 = sec1.ObjectIdentifier.from_text("1.2.840.10045.3.1.7")
 
 
 class Keys(unittest.TestCase):
@@ -156,13 +159,19 @@ class Liars(unittest.TestCase):
     """No value makes the library read beyond what it was given."""
 
     key = sec1.EcPrivateKey(b"\x07" * 32, sec1.ObjectIdentifier(b"\x2a\x03"), b"\x02" * 33)
+    on_p256 = sec1.EcPrivateKey(b"\x07" * 32, P256, b"\x02" * 33)
     calls = {
         "EcPrivateKey": (lambda data: sec1.EcPrivateKey(data, None, data).to_der(), b"\x09"),
         "EcPrivateKey.from_der": (sec1.EcPrivateKey.from_der, key.to_der()),
         "EcPrivateKey.from_der_or_pkcs8": (sec1.EcPrivateKey.from_der_or_pkcs8, key.to_der()),
+        "EcPrivateKey.from_pkcs8_der": (sec1.EcPrivateKey.from_pkcs8_der, on_p256.to_pkcs8_der()),
+        "EcPublicKey": (lambda data: sec1.EcPublicKey(P256, data).to_der(), b"\x02" * 33),
+        "EcPublicKey.from_der": (sec1.EcPublicKey.from_der, sec1.EcPublicKey(P256, b"\x02" * 33).to_der()),
         "ObjectIdentifier": (sec1.ObjectIdentifier, b"\x2a\x03"),
         "Point": (lambda data: sec1.Point(data, 2), b"\x02\x01\x02"),
         "Point.from_coordinates": (lambda data: sec1.Point.from_coordinates(data, data), b"\x01\x02"),
+        "Signature": (lambda data: sec1.Signature(data, data).to_der(), b"\x01"),
+        "Signature.from_der": (sec1.Signature.from_der, sec1.Signature(b"\x01", b"\x02").to_der()),
         "certificate_public_key": (sec1.certificate_public_key, b"\x30\x03\x02\x01\x05"),
         "check_tree": (sec1.check_tree, b"\x30\x03\x02\x01\x05"),
         "document_length": (sec1.document_length, b"\x30\x82\x01\x00"),
@@ -183,6 +192,18 @@ class Liars(unittest.TestCase):
             parts = [value.encoding] if isinstance(value, sec1.Point) else [value.private_key, value.public_key]
             self.assertEqual([type(part) for part in parts], [bytes] * len(parts))
 
+    def test_other_buffers_and_other_types(self):
+        """Any buffer is as good as bytes, also one with gaps; a number is none, and no count of zeros."""
+        for name, (call, data) in self.calls.items():
+            gaps = bytes(2 * len(data))
+            gaps = memoryview(bytes(byte for pair in zip(data, gaps) for byte in pair))[::2]
+            for buffer in (bytearray(data), memoryview(data), gaps, array.array("B", data)):
+                self.assertEqual(self.returned(call, buffer), self.returned(call, data), name)
+            for wrong in (0, 32, "text", [1, 2], (), None):
+                if (name, wrong) != ("EcPrivateKey", None):
+                    with self.assertRaises(TypeError, msg=name):
+                        call(wrong)
+
     def test_each_call_that_takes_bytes_is_tried(self):
         found = []
         for name in sec1.__all__:
@@ -195,7 +216,7 @@ class Liars(unittest.TestCase):
                     if any("bytes" in text for text in taken) and method.__name__ != "_with":
                         called = "" if not inspect.isclass(it) or method.__name__ == "__init__" else "." + method.__name__
                         found.append(name + called)
-        self.assertEqual(sorted({*found} - {"EcPrivateKey._read"}), sorted(self.calls))
+        self.assertEqual(sorted({*found}), sorted(self.calls))
 
     def test_texts_and_numbers(self):
         identifier = sec1.ObjectIdentifier.from_text(LyingText("1.2.3"))
@@ -234,12 +255,15 @@ class Liars(unittest.TestCase):
 class Values(unittest.TestCase):
     """What holds of each value."""
 
-    identifier = sec1.ObjectIdentifier.from_text("1.2.840.10045.3.1.7")
     made = [
         lambda: sec1.ObjectIdentifier.from_text("1.2.840.10045.3.1.7"),
         lambda: sec1.Curve.from_name("P-256"),
-        lambda: sec1.EcPrivateKey(bytes(32), Values.identifier, b"\x01"),
+        lambda: sec1.EcPrivateKey(bytes(32), P256, b"\x01"),
         lambda: sec1.EcPrivateKey.from_der(sec1.EcPrivateKey(b"\x09").to_der()),
+        lambda: sec1.EcPublicKey(P256, b"\x02" * 33),
+        lambda: sec1.EcPublicKey.from_der(sec1.EcPublicKey(P256, b"\x02" * 33).to_der()),
+        lambda: sec1.Signature(b"\x01", b"\x02"),
+        lambda: sec1.Signature.from_der(sec1.Signature(b"\x01", b"\x02").to_der()),
         lambda: sec1.Point(b"\x02" * 33, 32),
         lambda: sec1.Point.from_coordinates(b"\x01", b"\x02").compress(),
         lambda: sec1.draw(b"\x05\x00"),
@@ -265,6 +289,41 @@ class Values(unittest.TestCase):
             self.assertIs(weakref.ref(value)(), value)
         key = sec1.EcPrivateKey(b"\x01", None, b"\x02")
         self.assertEqual(dataclasses.replace(key, public_key=None), sec1.EcPrivateKey(b"\x01"))
+
+    def test_each_name_is_told(self):
+        """`__all__` has each class and function of the module, and each class of values is tried here."""
+        made = [name for name, it in vars(sec1).items() if getattr(it, "__module__", "") == "sec1"]
+        self.assertEqual(sorted(name for name in made if name[0] != "_"), sec1.__all__)
+        kinds = {name for name in sec1.__all__ if dataclasses.is_dataclass(getattr(sec1, name))}
+        self.assertEqual(kinds, {type(make()).__name__ for make in self.made})
+
+    def test_values_of_other_classes_are_not_compared(self):
+        """Another class may know better: `==` and the order say so, and Python asks it."""
+        class Knows:
+            __eq__ = __lt__ = __le__ = __gt__ = __ge__ = lambda *_: True
+            __ne__ = lambda *_: False
+
+        for make in self.made:
+            value = make()
+            for other in (5, None, "text", b"\x2a", object()):
+                self.assertIs(value.__eq__(other), NotImplemented)
+                self.assertFalse(value == other)
+            self.assertTrue(value == Knows() and not value != Knows())
+            if isinstance(value, (sec1.Point, sec1.ObjectIdentifier)):
+                for compare in (operator.lt, operator.le, operator.gt, operator.ge):
+                    self.assertIs(compare(value, Knows()), True)
+                    for other in (5, "1.2", b"\x02", None):
+                        with self.assertRaises(TypeError):
+                            compare(value, other)
+
+    def test_the_order_of_points(self):
+        """By tag, then by x, then by y, as whole numbers; all six comparisons agree."""
+        points = [sec1.Point(bytes.fromhex(it), 2) for it in
+                  "00 020001 020100 030000 0400010000 0400010001 0400010100 0400020000 050000 0600000000".split()]
+        for i, first in enumerate(points):
+            for j, second in enumerate(points):
+                order = (first < second, first <= second, first == second, first >= second, first > second)
+                self.assertEqual(order, (i < j, i <= j, i == j, i >= j, i > j))
 
     def test_a_wrong_type_is_named(self):
         for call, wrong, text in (
@@ -292,11 +351,23 @@ class Values(unittest.TestCase):
         class Point(Own, sec1.Point):
             pass
 
+        class PublicKey(Own, sec1.EcPublicKey):
+            pass
+
+        class Signature(Own, sec1.Signature):
+            pass
+
         made = []
+        container = sec1.EcPrivateKey(b"\x01", P256).to_pkcs8_der()
+        public_key = sec1.EcPublicKey(P256, b"\x02" * 33).to_der()
+        signature = sec1.Signature(b"\x01", b"\x02").to_der()
         der = sec1.EcPrivateKey(b"\x01").to_der()
         for make, kind in (
             (lambda: Key.from_der(der), Key),
             (lambda: Key.from_der_or_pkcs8(der), Key),
+            (lambda: Key.from_pkcs8_der(container), Key),
+            (lambda: PublicKey.from_der(public_key), PublicKey),
+            (lambda: Signature.from_der(signature), Signature),
             (lambda: Identifier.from_text("1.2.3"), Identifier),
             (lambda: Point.from_hex("0209", 1), Point),
             (lambda: Point.from_coordinates(b"\x01", b"\x02"), Point),
@@ -310,8 +381,10 @@ class Values(unittest.TestCase):
     def test_changed_buffers_change_no_value(self):
         data = bytearray(b"\x02\x09")
         point, key = sec1.Point(data, 1), sec1.EcPrivateKey(data, None, data)
-        data[1] = 5
-        self.assertEqual((point.encoding, key.private_key, key.public_key), (b"\x02\x09",) * 3)
+        public_key, signature = sec1.EcPublicKey(P256, data), sec1.Signature(data, data)
+        identifier, data[1] = sec1.ObjectIdentifier(data), 5
+        parts = point.encoding, key.private_key, key.public_key, public_key.public_key, signature.r, signature.s
+        self.assertEqual((*parts, identifier.content), (b"\x02\x09",) * 7)
         self.assertEqual(sec1.Point(memoryview(b"\x02x\x09x")[::2], 1), point)
 
     def test_no_place_is_read_after_it_is_given_back(self):
@@ -509,6 +582,18 @@ class Others(unittest.TestCase):
             identifier = sec1.ObjectIdentifier.from_text(text)
             self.assertEqual(str(identifier), text)
             self.assertEqual(sec1.ObjectIdentifier(identifier.content), identifier)
+            self.assertEqual(identifier.arcs, tuple(map(int, text.split("."))))
+        self.assertEqual(sec1.ObjectIdentifier.from_text("1.2.4294967295").arcs, (1, 2, 4294967295))
+        # A half of a surrogate pair isn't dropped.
+        for read, text in (
+            (sec1.ObjectIdentifier.from_text, "1.2"),
+            (sec1.Curve.from_name, "P-256"),
+            (lambda it: sec1.Point.from_hex(it, 1), "0209"),
+        ):
+            read(text)
+            for half in "\ud800\udfff":
+                with self.assertRaises(sec1.Error):
+                    read(text + half)
         for text in ("", "1", "1.40", "3.1", "1.02", "1.+2", "1.2 ", "1.\u0662", "1.2\0", "1.\ud800"):
             with self.assertRaises(sec1.ValueContentError):
                 sec1.ObjectIdentifier.from_text(text)

@@ -1,5 +1,6 @@
-"""Reads and writes EC private keys in DER (RFC 5915) and points of elliptic curves (SEC1 v2.0 section
-2.3.3). A library that is proved to meet its contracts decides what is accepted and what is written."""
+"""Reads and writes EC private keys in DER (RFC 5915), also in PKCS #8 (RFC 5958), public keys (RFC 5480),
+signatures of ECDSA (RFC 3279) and points of elliptic curves (SEC1 v2.0 section 2.3.3). A library that is proved to
+meet its contracts decides what is accepted and what is written."""
 from __future__ import annotations
 
 import functools
@@ -21,6 +22,7 @@ __all__ = [
     "CurveError",
     "DepthError",
     "EcPrivateKey",
+    "EcPublicKey",
     "Error",
     "FieldLengthError",
     "LengthError",
@@ -30,6 +32,7 @@ __all__ = [
     "Picture",
     "Point",
     "PointEncodingError",
+    "Signature",
     "Tag",
     "TagError",
     "TrailingDataError",
@@ -46,9 +49,10 @@ class Error(ValueError):
     """A refusal. Each kind of refusal is a subclass, whose `status` is its number in `enum sec1_status` of
     sec1.h.
 
-    `offset` is that of the first fault in the bytes of a key, a certificate or a tree, and None for other
-    calls: of the tag byte, of the first byte of the length or of the content that is refused, of the first
-    byte after the last part, or the number of bytes if they end before a tag."""
+    `offset` is that of the first fault in the DER that was read, and None for calls that read none: of the
+    tag byte, of the first byte of the length or of the content that is refused, of the first byte after the
+    last part, or the number of bytes if they end before a tag. For CurveError it is that of the algorithm,
+    and for PointEncodingError that of the key's BIT STRING."""
 
     __slots__ = ("offset",)
     text = "the library broke its contract"
@@ -123,7 +127,7 @@ class FieldLengthError(Error):
 
 
 class CurveError(Error):
-    """No curve of the library's table has this identifier or this name."""
+    """No curve of the library's table has this identifier or this name, or an algorithm isn't id-ecPublicKey."""
 
     status = 11
 
@@ -188,6 +192,18 @@ def _written(name: str, *arguments: Any) -> bytes:
     status, data = _library.written(name, *arguments)
     _check(status)
     return data
+
+
+def _read(name: str, parts: Any, data: bytes) -> None:
+    """Stores the places of the parts that a call reads, or raises."""
+    _check(_library.call(f"sec1_{name}_read", *given(data), byref(parts)), f"sec1_{name}_fault_at", data)
+
+
+def _pair(name: str, data: bytes) -> Tuple[bytes, bytes]:
+    """Returns the two parts that a call reads, which are always present, or raises."""
+    parts = _library.Pair()
+    _read(name, parts, data)
+    return parts[0].of(data) or b"", parts[1].of(data) or b""
 
 
 class Tag(IntEnum):
@@ -356,8 +372,17 @@ class EcPrivateKey:
         algorithm, if that names no curve of the table; OtherCurveError if the key in it names another
         curve."""
         data, parts = _bytes(data), KeyParts()
-        _check(_library.call("sec1_private_key_read", *given(data), byref(parts)), "sec1_private_key_fault_at", data)
+        _read("private_key", parts, data)
         return cls._with(data, parts[:])
+
+    @classmethod
+    def from_pkcs8_der(cls, data: bytes) -> EcPrivateKey:
+        """Reads a key in its container alone, and raises as `from_der_or_pkcs8` does of containers."""
+        data, offset = _bytes(data), c_size_t()
+        # What isn't a container is refused here, also a key by itself.
+        if status := _library.call("sec1_private_key_info_fault_at", *given(data), byref(offset)):
+            raise _ERRORS.get(status, Error)(offset.value)
+        return cls.from_der_or_pkcs8(data)
 
     @classmethod
     def _with(cls, data: bytes, parts: List[int]) -> EcPrivateKey:
@@ -377,9 +402,18 @@ class EcPrivateKey:
 
     def to_der(self) -> bytes:
         """Returns the DER encoding, or raises OverlengthError."""
+        return self._written("sec1_key_write")
+
+    def to_pkcs8_der(self) -> bytes:
+        """Returns the container in DER, a PrivateKeyInfo without attributes. Raises CurveError if the table
+        doesn't have the curve, or there is none, or OverlengthError."""
+        return self._written("sec1_private_key_info_write")
+
+    def _written(self, name: str) -> bytes:
+        """Returns what a function writes of the parts, or raises."""
         curve = b"" if self.curve is None else self.curve.content
         parts = (*given(self.private_key), *given(curve), *given(self.public_key or b""))
-        return _written("sec1_key_write", *parts, number(self.public_key is not None))
+        return _written(name, *parts, number(self.public_key is not None))
 
     def __reduce__(self) -> Any:
         return type(self), (self.private_key, self.curve, self.public_key)
@@ -391,6 +425,85 @@ class EcPrivateKey:
 _set_private_key = vars(EcPrivateKey)["private_key"].__set__
 _set_curve = vars(EcPrivateKey)["curve"].__set__
 _set_public_key = vars(EcPrivateKey)["public_key"].__set__
+
+
+@dataclass(frozen=True)
+class EcPublicKey:
+    """A public key with its curve (RFC 5480 section 2). It isn't tested that the point lies on the curve."""
+
+    __slots__ = ("curve", "public_key", "__weakref__")
+    curve: ObjectIdentifier
+    public_key: bytes
+
+    def __post_init__(self) -> None:
+        _identifier(self.curve)
+        object.__setattr__(self, "public_key", _bytes(self.public_key))
+
+    @classmethod
+    def from_der(cls, data: bytes) -> EcPublicKey:
+        """Reads a key from its SubjectPublicKeyInfo in DER, which is all of the bytes.
+
+        Raises TruncatedError, TagError, LengthError, TrailingDataError or ValueContentError, the first
+        fault from left to right; CurveError if the algorithm isn't id-ecPublicKey with a curve of the table;
+        PointEncodingError if the key isn't a point over its field."""
+        curve, public_key = _pair("public_key", _bytes(data))
+        return cls(ObjectIdentifier._of(curve), public_key)
+
+    @property
+    def point(self) -> Point:
+        """The point. Raises CurveError or PointEncodingError for a key that was made of other parts."""
+        return Point(self.public_key, Curve(self.curve).field_length)
+
+    def to_der(self) -> bytes:
+        """Returns the SubjectPublicKeyInfo in DER. Raises CurveError if the table doesn't have the curve, or
+        PointEncodingError if the key isn't a point over its field."""
+        return _written("sec1_public_key_write", *given(self.curve.content), *given(self.public_key))
+
+    def __reduce__(self) -> Any:
+        return type(self), (self.curve, self.public_key)
+
+
+@dataclass(frozen=True, eq=False)
+class Signature:
+    """A signature of ECDSA (RFC 3279 section 2.2.3), by its two numbers in base 256, with or without bytes 0
+    in front. Signatures with the same numbers are equal. It isn't tested that these are below the order of
+    a curve."""
+
+    __slots__ = ("r", "s", "__weakref__")
+    r: bytes
+    s: bytes
+
+    def __post_init__(self) -> None:
+        object.__setattr__(self, "r", _bytes(self.r))
+        object.__setattr__(self, "s", _bytes(self.s))
+
+    @classmethod
+    def from_der(cls, data: bytes) -> Signature:
+        """Reads a signature from its DER encoding, which is all of the bytes. A number has a byte 0 in front
+        if bit 8 of the next byte is set.
+
+        Raises TruncatedError, TagError, LengthError, TrailingDataError or ValueContentError, the first
+        fault from left to right."""
+        return cls(*_pair("signature", _bytes(data)))
+
+    def to_der(self) -> bytes:
+        """Returns the DER encoding, or raises OverlengthError."""
+        return _written("sec1_signature_write", *given(self.r), *given(self.s))
+
+    def _numbers(self) -> Tuple[bytes, bytes]:
+        """Returns both numbers without bytes 0 in front."""
+        return self.r.lstrip(b"\0"), self.s.lstrip(b"\0")
+
+    def __eq__(self, other: object) -> bool:
+        if not isinstance(other, Signature):
+            return NotImplemented
+        return self._numbers() == other._numbers()
+
+    def __hash__(self) -> int:
+        return hash(self._numbers())
+
+    def __reduce__(self) -> Any:
+        return type(self), (self.r, self.s)
 
 
 @functools.total_ordering
@@ -514,8 +627,9 @@ _get_parts, _set_parts = vars(Point)["_parts"].__get__, vars(Point)["_parts"].__
 
 
 def certificate_public_key(data: bytes) -> bytes:
-    """Returns the SubjectPublicKeyInfo in a certificate (RFC 5280 section 4.1), which is all of the bytes. No
-    signature is verified, and no name, time or extension is judged.
+    """Returns the SubjectPublicKeyInfo in a certificate (RFC 5280 section 4.1), which is all of the bytes, of
+    any algorithm, for `EcPublicKey.from_der`. No signature is verified, and no name, time or extension is
+    judged.
 
     Raises TruncatedError, TagError, LengthError, TrailingDataError or ValueContentError, the first fault
     from left to right."""

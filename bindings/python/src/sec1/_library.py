@@ -26,6 +26,9 @@ class Part(Structure):
         return data[self.offset : self.offset + self.len] if self.present else None
 
 
+Pair = Part * 2
+
+
 class PointParts(Structure):
     """The tag of a point, and the places of its coordinates."""
 
@@ -39,7 +42,9 @@ _QUICK = """sec1_key_read_at sec1_identifier_check sec1_identifier_from_text sec
     sec1_point_check sec1_point_read sec1_point_compare sec1_point_compress sec1_point_to_hybrid
     sec1_point_from_coordinates sec1_point_identity sec1_point_to_hex sec1_point_from_hex
     sec1_curve_field_len sec1_curve_name sec1_curve_from_name sec1_status_to_text""".split()
-_OTHERS = """sec1_key_write sec1_private_key_read sec1_private_key_fault_at sec1_certificate_read_public_key
+_OTHERS = """sec1_key_write sec1_private_key_read sec1_private_key_fault_at sec1_private_key_info_fault_at
+    sec1_private_key_info_write sec1_public_key_read sec1_public_key_fault_at sec1_public_key_write
+    sec1_signature_read sec1_signature_fault_at sec1_signature_write sec1_certificate_read_public_key
     sec1_certificate_fault_at sec1_tree_check sec1_tree_fault_at sec1_document_len sec1_picture_draw""".split()
 _FUNCTIONS: Dict[str, Any] = {}
 for _calls, _names in ((ctypes.PyDLL(_PATH), _QUICK), (ctypes.CDLL(_PATH), _OTHERS)):
