@@ -576,6 +576,28 @@ def drawn_by_hand():
     return found
 
 
+def changed(data, at, value):
+    """The bytes with another one at this place."""
+    return data[:at] + bytes([value]) + data[at + 1 :]
+
+
+def element(tag, content):
+    """The element with this tag and this content, of less than 65,536 bytes (X.690 section 8.1)."""
+    size = len(content)
+    length = [size] if size < 128 else [0x81, size] if size < 256 else [0x82, *size.to_bytes(2, "big")]
+    return bytes([tag, *length]) + content
+
+
+def curve_of(algorithm, parameters):
+    """The identifier of the curve, if the algorithm is id-ecPublicKey over one of the table."""
+    if algorithm != "2a8648ce3d0201" or parameters[:2] != "06":
+        return None
+    try:
+        return sec1.Curve(sec1.ObjectIdentifier(bytes.fromhex(parameters[4:]))).identifier
+    except sec1.Error:
+        return None
+
+
 class Others(unittest.TestCase):
     def test_identifiers(self):
         for text in ("1.2.840.10045.3.1.7", "0.0", "2.999", "2.4294967215"):
@@ -690,6 +712,151 @@ class Others(unittest.TestCase):
             with self.assertRaises(error) as caught:
                 read(bytes.fromhex(data))
             self.assertEqual((type(caught.exception), caught.exception.offset), (error, offset))
+
+    def refused(self, call, error, offset=None):
+        """Checks that a call raises this error at this offset."""
+        with self.assertRaises(sec1.Error) as caught:
+            call()
+        self.assertEqual((type(caught.exception), caught.exception.offset), (error, offset))
+
+    def test_containers_alone(self):
+        named = "301306072a8648ce3d020106082a8648ce3d030107"
+        key = sec1.EcPrivateKey(b"\x07\x08", P256)
+        data = key.to_pkcs8_der()
+        self.assertEqual(data.hex(), f"3023020100{named}0409300702010104020708")
+        reads = sec1.EcPrivateKey.from_pkcs8_der, sec1.EcPrivateKey.from_der_or_pkcs8
+        for read in reads:
+            self.assertEqual(read(data), key)
+            for at, value, error, offset in (
+                (0, 0x31, sec1.TagError, 0),
+                (4, 2, sec1.ValueContentError, 4),
+                (25, 0x3E, sec1.CurveError, 5),
+                (28, 0x31, sec1.TagError, 28),
+                (32, 2, sec1.ValueContentError, 32),
+                (34, 3, sec1.TruncatedError, 34),
+            ):
+                self.refused(lambda: read(changed(data, at, value)), error, offset)
+            inside = sec1.EcPrivateKey(b"\x07", sec1.Curve.from_name("P-384").identifier).to_der()
+            other = element(0x30, bytes.fromhex(f"020100{named}") + element(4, inside))
+            # 28 bytes before the key, and in it 12 before the content of the identifier.
+            self.refused(lambda: read(other), sec1.OtherCurveError, 40)
+        # A key by itself is no container: after its version is no SEQUENCE.
+        self.refused(lambda: reads[0](sec1.EcPrivateKey(b"\x09").to_der()), sec1.TagError, 5)
+        for curve in (None, sec1.ObjectIdentifier.from_text("1.2.3")):
+            self.refused(sec1.EcPrivateKey(b"\x07", curve).to_pkcs8_der, sec1.CurveError)
+        with self.assertRaises(sec1.OverlengthError):
+            sec1.EcPrivateKey(bytes(1 << 28), P256).to_pkcs8_der()
+        # An empty public key and none are two keys.
+        for public_key in (None, b"", b"\x05"):
+            key = sec1.EcPrivateKey(b"\x01", P256, public_key)
+            self.assertEqual(reads[0](key.to_pkcs8_der()), key)
+
+    def test_public_keys(self):
+        point = b"\x03" + bytes(31) + b"\x08"
+        key = sec1.EcPublicKey(P256, point)
+        data = key.to_der()
+        self.assertEqual(data.hex(), "3039301306072a8648ce3d020106082a8648ce3d030107032200" + point.hex())
+        self.assertEqual((sec1.EcPublicKey.from_der(data), key.point), (key, sec1.Point(point, 32)))
+        self.assertEqual(repr(key), f"EcPublicKey(curve={P256!r}, public_key={point!r})")
+        for at, value, error, offset in (
+            (0, 0x31, sec1.TagError, 0),
+            (22, 0x3E, sec1.CurveError, 2),
+            (25, 1, sec1.PointEncodingError, 23),
+            (26, 9, sec1.PointEncodingError, 23),
+        ):
+            self.refused(lambda: sec1.EcPublicKey.from_der(changed(data, at, value)), error, offset)
+        for make in (lambda it: it.to_der(), lambda it: it.point):
+            self.refused(lambda: make(sec1.EcPublicKey(P256, point[1:])), sec1.PointEncodingError)
+            unknown = sec1.EcPublicKey(sec1.ObjectIdentifier.from_text("1.2.3"), point)
+            self.refused(lambda: make(unknown), sec1.CurveError)
+        p384 = sec1.Curve.from_name("P-384").identifier
+        keys = [key, sec1.EcPublicKey(p384, point), sec1.EcPublicKey(P256, point[:-1] + b"\x09")]
+        self.assertEqual(len({*keys, sec1.EcPublicKey(P256, bytearray(point))}), 3)
+        for wrong in ("1.2.3", P256.content, None):
+            with self.assertRaises(TypeError):
+                sec1.EcPublicKey(wrong, point)
+
+    def test_signatures(self):
+        data = bytes.fromhex("3006020101020109")
+        signature = sec1.Signature.from_der(data)
+        self.assertEqual((signature.r, signature.s, signature.to_der()), (b"\x01", b"\x09", data))
+        self.assertEqual(repr(signature), r"Signature(r=b'\x01', s=b'\t')")
+        self.refused(lambda: sec1.Signature.from_der(changed(data, 7, 0x80)), sec1.ValueContentError, 7)
+        self.refused(lambda: sec1.Signature.from_der(changed(data, 5, 3)), sec1.TagError, 5)
+        # Numbers are equal whatever bytes 0 are in front, and no bytes are 0.
+        for r, s in ((b"\0\0\1", b"\x09"), (b"\1", b"\0\x09")):
+            same = sec1.Signature(r, s)
+            self.assertEqual((same, hash(same), same.to_der()), (signature, hash(signature), data))
+            self.assertEqual((same.r, same.s), (r, s))
+        self.assertEqual(sec1.Signature(b"", b"\0"), sec1.Signature(b"\0\0", b""))
+        self.assertEqual(sec1.Signature(b"", b"\0").to_der().hex(), "3006020100020100")
+        for r, s in ((b"\x01", b"\x08"), (b"\x02", b"\x09"), (b"\x09", b"\x01"), (b"\x01\0", b"\x09"), (b"", b"")):
+            self.assertNotEqual(sec1.Signature(r, s), signature)
+        high = sec1.Signature(b"\x80", b"\x7f")
+        self.assertEqual((high.to_der().hex(), sec1.Signature.from_der(high.to_der()).r), ("3007020200800201" + "7f", b"\0\x80"))
+        with self.assertRaises(sec1.OverlengthError):
+            sec1.Signature(b"\1" * (1 << 28), b"").to_der()
+
+    def test_stored_structures_of_openssl(self):
+        """Each is read as OpenSSL tells its fields, and written as it was."""
+        lines = [(HERE / f"data/{name}.txt").read_text().splitlines() for name in ("containers", "containers_fields")]
+        stored, fields = ([line.split(" ") for line in of if not line.startswith("#")] for of in lines)
+        self.assertEqual(len(stored), len(fields))
+        count = dict.fromkeys(("private-key-info", "public-key-info", "certificate", "signature"), 0)
+        for (kind, digits), parts in zip(stored, fields):
+            data = bytes.fromhex(digits)
+            if kind == "private-key-info":
+                is_read = self.is_private_key(data, *parts[1:4])
+            elif kind == "signature":
+                is_read = self.is_signature(data, *parts)
+            elif kind == "public-key-info":
+                is_read = self.is_public_key(data, *parts)
+            else:
+                algorithm, parameters, bits = parts[7:10]
+                named = element(6, bytes.fromhex(algorithm)) + (b"" if parameters == "-" else bytes.fromhex(parameters))
+                wanted = element(0x30, element(0x30, named) + element(3, bytes.fromhex(bits)))
+                self.assertEqual(sec1.certificate_public_key(data), wanted)
+                is_read = self.is_public_key(wanted, algorithm, parameters, bits)
+            count[kind] += is_read
+        self.assertEqual([*count.values()], [24, 18, 99, 66])
+
+    def is_private_key(self, data, algorithm, parameters, contained):
+        """Compares a container with its fields. Returns whether it is of a key on a curve of the table."""
+        curve, inside = curve_of(algorithm, parameters), bytes.fromhex(contained)
+        reads = sec1.EcPrivateKey.from_pkcs8_der, sec1.EcPrivateKey.from_der_or_pkcs8
+        if curve is None:
+            # After the header, whose length takes more bytes from 128 on, and the version.
+            for read in reads:
+                self.refused(lambda: read(data), sec1.CurveError, 5 + max(0, data[1] - 128))
+            return False
+        key = sec1.EcPrivateKey.from_der(inside)
+        for read in reads:
+            self.assertEqual(read(data), sec1.EcPrivateKey(key.private_key, curve, key.public_key))
+            if key.curve is None:
+                self.assertEqual(read(data).to_pkcs8_der(), data)
+        with self.assertRaises(sec1.TagError):
+            reads[0](inside)
+        return True
+
+    def is_public_key(self, data, algorithm, parameters, bits):
+        """The same of a SubjectPublicKeyInfo."""
+        curve = curve_of(algorithm, parameters)
+        if curve is None:
+            with self.assertRaises(sec1.CurveError):
+                sec1.EcPublicKey.from_der(data)
+            return False
+        key = sec1.EcPublicKey.from_der(data)
+        self.assertEqual((key.curve, b"\0" + key.public_key), (curve, bytes.fromhex(bits)))
+        self.assertEqual((key.to_der(), key.point.encoding), (data, key.public_key))
+        return True
+
+    def is_signature(self, data, *numbers):
+        """The same of a signature."""
+        r, s = map(bytes.fromhex, numbers)
+        signature = sec1.Signature.from_der(data)
+        self.assertEqual([signature.r, signature.s], [b"\0" * (it[0] >> 7) + it for it in (r, s)])
+        self.assertEqual((signature.to_der(), sec1.Signature(r, s).to_der()), (data, data))
+        return True
 
     def test_certificates(self):
         """A certificate of version 1 for a key of Ed25519, as `openssl x509 -req -signkey` writes it."""
