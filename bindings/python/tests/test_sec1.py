@@ -7,6 +7,7 @@ import doctest
 import importlib.metadata
 import inspect
 import operator
+import os
 import pathlib
 import pickle
 import pydoc
@@ -989,7 +990,15 @@ class Others(unittest.TestCase):
                     sec1.draw(b"")
             self.assertEqual((type(caught.exception), caught.exception.offset), (kind, None))
 
-    def test_the_program(self):
+    def test_documentation(self):
+        self.assertEqual(doctest.testfile(str(HERE.parent / "README.md"), False).failed, 0)
+        self.assertGreater(doctest.testfile(str(HERE.parent / "README.md"), False).attempted, 15)
+
+
+class Program(unittest.TestCase):
+    """`python -m sec1`, as files, streams and memory are."""
+
+    def test_files_and_options(self):
         with tempfile.TemporaryDirectory() as folder:
             folder = pathlib.Path(folder)
             drawn = drawn_by_hand()
@@ -1021,9 +1030,151 @@ class Others(unittest.TestCase):
                 self.assertEqual((ran.returncode, ran.stdout.decode()), (status, text), words)
                 self.assertTrue(ran.stderr.decode().startswith(said) and bool(said) == bool(ran.stderr), ran.stderr)
 
-    def test_documentation(self):
-        self.assertEqual(doctest.testfile(str(HERE.parent / "README.md"), False).failed, 0)
-        self.assertGreater(doctest.testfile(str(HERE.parent / "README.md"), False).attempted, 15)
+    def ran(self, *words, shell='exec "$@"', **options):
+        """The status, the output and what is said of errors. The shell runs the program, whose streams it may change."""
+        command = ["sh", "-c", shell, "sh", sys.executable, "-m", "sec1", *map(str, words)]
+        options = {"stdin": subprocess.DEVNULL, "stdout": subprocess.PIPE, "stderr": subprocess.PIPE, **options}
+        ended = subprocess.run(command, **options)
+        return ended.returncode, *((it or b"").decode() for it in (ended.stdout, ended.stderr))
+
+    def setUp(self):
+        folder = tempfile.TemporaryDirectory()
+        self.addCleanup(folder.cleanup)
+        self.folder = pathlib.Path(folder.name)
+        self.key, self.none = self.folder / "key", self.folder / "none"
+        data, _, self.shown, _ = drawn_by_hand()[0]
+        self.key.write_bytes(data)
+
+    def test_closed_streams(self):
+        for closed, words, wanted in (
+            ("<&-", [], (2, "", "sec1: standard input: Bad file descriptor\n")),
+            ("<&-", ["-"], (2, "", "sec1: standard input: Bad file descriptor\n")),
+            ("<&-", [self.key], (0, self.shown, "")),
+            ("<&-", [self.key, "-", self.key],
+             (2, f"{self.key}:\n{self.shown}-:\n{self.key}:\n{self.shown}", "sec1: standard input: Bad file descriptor\n")),
+            (">&-", [self.key], (2, "", "sec1: standard output: Bad file descriptor\n")),
+            (">&-", ["--help"], (2, "", "sec1: standard output: Bad file descriptor\n")),
+            (">&-", [self.key, self.none], (2, "", "sec1: standard output: Bad file descriptor\n")),
+            (">/dev/full", [self.key], (2, "", "sec1: standard output: No space left on device\n")),
+            (">/dev/full", ["--help"], (2, "", "sec1: standard output: No space left on device\n")),
+            ("2>&-", [self.key], (0, self.shown, "")),
+            ("2>&-", [self.none, self.key], (2, f"{self.none}:\n", "")),
+            ("2>&-", ["--wrong"], (2, "", "")),
+            ("2>/dev/full", [self.none], (2, "", "")),
+            (">&- 2>&-", [self.key], (2, "", "")),
+            ("<&- >&- 2>&-", [], (2, "", "")),
+        ):
+            self.assertEqual(self.ran(*words, shell=f'exec "$@" {closed}'), wanted, (closed, words))
+
+    def test_a_pipe_that_nobody_reads(self):
+        reader, writer = os.pipe()
+        os.close(reader)
+        wanted = 2, "", "sec1: standard output: Broken pipe\n"
+        for words in ([self.key], ["--help"], [self.key, self.none]):
+            self.assertEqual(self.ran(*words, stdout=writer), wanted)
+        os.close(writer)
+
+    def test_an_input_without_an_end(self):
+        """It is read to one byte above the limit, which a file may have."""
+        most = self.folder / "most"
+        most.write_bytes(b"\x04\x83\xff\xff\xfa")
+        os.truncate(most, 16_777_215)
+        status, text, said = self.ran(most)
+        self.assertEqual((status, text.splitlines()[0], said), (1, "   0 04 83 FF FF FA 16777210  OCTET STRING, 16777210 bytes", ""))
+        os.truncate(most, 20_000_000)
+        told = "more than 16,777,215 bytes\n"
+        self.assertEqual(self.ran(most, self.key),
+                         (2, f"{most}:\n{self.key}:\n{self.shown}", f"sec1: {most}: {told}"))
+        with open(most, "rb", buffering=0) as file:
+            self.assertEqual(self.ran("-", stdin=file), (2, "", f"sec1: standard input: {told}"))
+            self.assertEqual(file.tell(), 16_777_216)
+        self.assertEqual(self.ran("/dev/zero"), (2, "", f"sec1: /dev/zero: {told}"))
+
+    def test_an_input_that_isn_t_there_yet(self):
+        reader, writer = os.pipe()
+        os.set_blocking(reader, False)
+        os.write(writer, b"30 06 02 01 01 04 01 09")
+        self.assertEqual(self.ran(stdin=reader), (2, "", "sec1: standard input: Resource temporarily unavailable\n"))
+        os.close(reader)
+        os.close(writer)
+
+    def test_an_input_in_pieces(self):
+        command = [sys.executable, "-m", "sec1"]
+        with subprocess.Popen(command, stdin=subprocess.PIPE, stdout=subprocess.PIPE) as program:
+            for at, byte in enumerate(self.key.read_bytes()):
+                program.stdin.write(bytes([byte]))
+                program.stdin.flush()
+            text = program.communicate()[0].decode()
+        self.assertEqual((program.returncode, text), (0, self.shown))
+
+    def test_no_memory(self):
+        """The next file is drawn, and the status is never that of a file without a key."""
+        command = """if True:
+            import sys, sec1.__main__ as program
+            kept, after = vars(program)[sys.argv[1]], int(sys.argv[2])
+            def fails(*arguments, **options):
+                global after
+                after -= 1
+                if after < 0:
+                    return kept(*arguments, **options)
+                raise MemoryError
+            setattr(program, sys.argv[1], fails)
+            sys.exit(program.main(sys.argv[3:]))"""
+        for name, words, text, said in (
+            ("draw", [self.key], "", f"sec1: {self.key}: out of memory\n"),
+            ("draw", [], "", "sec1: standard input: out of memory\n"),
+            ("content", [self.key], "", f"sec1: {self.key}: out of memory\n"),
+            ("content", [self.key, self.key], f"{self.key}:\n{self.key}:\n{self.shown}", f"sec1: {self.key}: out of memory\n"),
+            ("Parser", [self.key], "", "sec1: out of memory\n"),
+        ):
+            ended = subprocess.run([sys.executable, "-c", command, name, "1", *words], stdin=subprocess.DEVNULL, capture_output=True)
+            self.assertEqual((ended.returncode, ended.stdout.decode(), ended.stderr.decode()), (2, text, said), name)
+        large = self.folder / "large"
+        os.truncate(large.write_bytes(b"\x04\x83\xff\xff\xfa") and large, 16_777_215)
+        limited = 'ulimit -v 60000 && exec "$@"'
+        if self.ran(self.key, shell=limited)[0] == 0:
+            self.assertEqual(self.ran(large, shell=limited), (2, "", f"sec1: {large}: out of memory\n"))
+
+    def test_names_are_escaped(self):
+        name = self.folder / '\x1b[31m "\\ \n\x7f\u00e9\U0001f511'
+        shown = str(self.folder) + r'/\u{1B}[31m \"\\ \u{A}\u{7F}\u{E9}\u{1F511}'
+        told = f"sec1: {shown}: No such file or directory\n"
+        self.assertEqual(self.ran(name), (2, "", told))
+        self.assertEqual(self.ran(name, name), (2, f"{shown}:\n" * 2, told * 2))
+        name.write_bytes(self.key.read_bytes())
+        self.assertEqual(self.ran(name, name), (0, f"{shown}:\n{self.shown}" * 2, ""))
+        # A name that isn't UTF-8.
+        other = os.fsencode(self.folder) + b"/\xff"
+        ended = subprocess.run([sys.executable, "-m", "sec1", other], capture_output=True)
+        told = f"sec1: {self.folder}/" + r"\u{DCFF}: No such file or directory" + "\n"
+        self.assertEqual((ended.returncode, ended.stdout, ended.stderr.decode()), (2, b"", told))
+        status, text, said = self.ran("--\x1b[31m")
+        self.assertEqual((status, text), (2, ""))
+        self.assertTrue(said.endswith(r"sec1: unrecognized arguments: --\u{1B}[31m" + "\n"), said)
+
+    def test_what_is_printed_is_in_order(self):
+        told = f"sec1: {self.none}: No such file or directory\n"
+        text = f"{self.none}:\n{told}{self.key}:\n{self.shown}"
+        words = self.none, self.key, self.none
+        self.assertEqual(self.ran(*words, stderr=subprocess.STDOUT), (2, f"{text}{self.none}:\n{told}", ""))
+
+    def test_long_pictures(self):
+        long = self.folder / "long"
+        long.write_bytes(b"\x30\x83\x00\xff\xfe" + b"\x05\x00" * 32767)
+        text = sec1.draw(long.read_bytes()).text
+        self.assertGreater(len(text), 1_000_000)
+        self.assertEqual(self.ran(long), (1, text, ""))
+
+    def test_help(self):
+        status, text, said = self.ran("--help", self.none)
+        self.assertEqual((status, said), (0, ""))
+        for line in ("usage: python -m sec1 ", "--all", "show every content, private keys too"):
+            self.assertIn(line, text)
+        self.assertEqual(self.ran("-h"), (0, self.ran("--help")[1], ""))
+        for wrong in ("--al", "--none", "-x"):
+            status, text, said = self.ran(wrong, self.key)
+            self.assertEqual((status, text), (2, ""))
+            self.assertTrue(said.endswith(f"sec1: unrecognized arguments: {wrong}\n"), said)
 
 
 if __name__ == "__main__":
