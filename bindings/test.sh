@@ -282,6 +282,7 @@ assert sec1.EcPrivateKey.from_der(sec1.EcPrivateKey(b"\1").to_der()).private_key
     fi
     check "python -m sec1 draws what a second reader draws" \
         python3 -B "$top/tests/dump/programs.py" "$bin/python -I -m sec1"
+    python_types
     python_without_links
     python_elsewhere
     python_for_windows
@@ -314,6 +315,19 @@ python_without_links() {
     cp -R "$here/python" "$work/alone"
     refuses "a copy of the folder alone is refused" "pip before 21.3 copies the folder" \
         "$bin/pip" wheel --no-deps -w "$work/unlinked-packed" "$work/alone"
+}
+
+# Checks the types of the module, and that a program's are checked by them.
+python_types() {
+    if ! command -v mypy >/dev/null; then
+        skip 2 "mypy is missing (Debian: apt-get install mypy)"
+        return
+    fi
+    local check=(env MYPYPATH="$work/source/src" mypy --strict --cache-dir=/dev/null)
+    check "mypy --strict accepts the module" "${check[@]}" "$work/source/src/sec1"
+    echo 'import sec1; sec1.EcPublicKey.from_der("text")' >"$work/wrong.py"
+    refuses "it refuses a text in the place of bytes" 'incompatible type "str"; expected "bytes"' \
+        "${check[@]}" "$work/wrong.py"
 }
 
 # Makes the wheel as for a system that there is no assembly for, and runs its tests here.
