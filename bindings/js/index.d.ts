@@ -1,6 +1,17 @@
 /** The version of the package. */
 export const version: string;
 
+/** Returns whether the engine can run the module, and a page's policy lets it. It loads nothing. */
+export function isSupported(): boolean;
+
+/**
+ * Loads the module, where that hasn't been done. In Node a call loads it by itself, and so does one of
+ * `bridgeacacia-sec1/inline` in a worker and in most engines. Elsewhere a call before it throws an
+ * `Error`.
+ * @throws {Error} if the module can't be fetched or compiled: why.
+ */
+export function ready(): Promise<void>;
+
 /** Bytes that a call reads: a `Uint8Array`, a `Buffer`, or any other view or buffer. */
 export type Bytes = ArrayBuffer | ArrayBufferView;
 

@@ -2,15 +2,17 @@
 //
 // What a call is given and stores lies in the memory from the module's heap on. It is overwritten
 // with zeros when the call ends, however it ends, and so is the end of the stack that calls use.
-import { module } from './module.js';
-
-const { exports } = await WebAssembly.instantiate(module, {});
+import { module, promised } from './module.js';
 
 /** The status of a call whose buffer is too short. */
 const BUFFER = 7;
 /** The room that a call gets to write into at first, in bytes. */
 const ROOM = 512;
 const PAGE = 65536;
+/** How many bytes of memory stay for the next call: one that grew beyond is given back. */
+const KEPT = 4194304;
+/** The room that a picture of a long input gets at first, in bytes. */
+const DRAWN = 1048576;
 /** Where the stack begins, which grows towards 0. Then how many bytes of it are used at most by
  * calls that draw, and by all others: tests/dist/stack.py computes whether they are enough. */
 const [STACK, DEEP, FLAT] = [65536, 24576, 4096];
@@ -21,15 +23,54 @@ export const Kind = Object.freeze({ HEADING: 0, ROW: 1, MARK: 2, WORDS: 3, COMMA
  * are those of the part's bytes among all that were decoded. */
 export const NUMBERS = 6;
 
-/** The place of what a call stores; behind it, that of what a call is given, then writes. */
-const STORED = Number(exports.__heap_base.value);
-const GIVEN = STORED + 96;
-const STORED_WORD = BigInt(STORED);
+/** The place of what a call stores, which is the same in each instance of the module; behind it,
+ * that of what a call is given, then writes. */
+let STORED;
+let GIVEN;
+let STORED_WORD;
 
-let view = new DataView(exports.memory.buffer);
-let memory = new Uint8Array(exports.memory.buffer);
+/** What the module exports, once there is an instance, and views of its memory. */
+let exports = null;
+let view;
+let memory;
 /** Where the memory ends that the call uses. */
-let end = GIVEN;
+let end;
+
+/** Takes an instance of the module for the calls to come. */
+function take(instance) {
+  ({ exports } = instance);
+  STORED = Number(exports.__heap_base.value);
+  GIVEN = STORED + 96;
+  STORED_WORD = BigInt(STORED);
+  view = new DataView(exports.memory.buffer);
+  memory = new Uint8Array(exports.memory.buffer);
+  end = GIVEN;
+}
+
+/** Makes an instance of the module at once. */
+function instantiated() {
+  const compiled = module();
+  return new WebAssembly.Instance(compiled, {});
+}
+
+/** Makes an instance before the first call, where that can't be done at once. */
+export async function ready() {
+  if (!exports) {
+    const compiled = await promised();
+    const instance = await WebAssembly.instantiate(compiled, {});
+    if (!exports) take(instance);
+  }
+}
+
+/** Takes a new instance in the place of one whose memory grew. Where the engine makes none, the old
+ * one stays. */
+function renew() {
+  try {
+    take(instantiated());
+  } catch {
+    // What it had is wiped.
+  }
+}
 
 /** Makes the memory longer by so many bytes. Throws a RangeError if there is no more. */
 function grow(length) {
@@ -51,7 +92,13 @@ function wipe(depth) {
   memory.fill(0, STACK - depth, STACK);
   memory.fill(0, STORED, end);
   end = GIVEN;
+  if (memory.length > KEPT) renew();
 }
+
+/** Returns the length of an array of bytes, whatever a class of its own says. */
+const lengthOf = Function.prototype.call.bind(
+  Object.getOwnPropertyDescriptor(Object.getPrototypeOf(Uint8Array.prototype), 'length').get,
+);
 
 /** Puts arrays of bytes into the memory, and returns what a call takes: of each its place and its
  * length, and numbers as they are. */
@@ -61,9 +108,10 @@ function placed(given) {
     if (typeof it === 'number') {
       words.push(BigInt(it));
     } else {
-      const place = reserve(it.length);
+      const length = lengthOf(it);
+      const place = reserve(length);
       memory.set(it, place);
-      words.push(BigInt(place), BigInt(it.length));
+      words.push(BigInt(place), BigInt(length));
     }
   }
   return words;
@@ -75,43 +123,55 @@ const wordAt = (place) => view.getUint32(place, true) + view.getUint32(place + 4
 // The fields of what a call stores. A part is of the first array of bytes that is given.
 const size = { length: 8, at: wordAt };
 const order = { length: 4, at: (place) => view.getInt32(place, true) };
-const part = { length: 24, at: (place) => (wordAt(place + 16) ? bytesAt(place) : null) };
+const part = { length: 24, at: (place) => (wordAt(place + 16) ? bytesAt(place, sliced) : null) };
+/** A part that is a private key. */
+const secret = { length: 24, at: (place) => (wordAt(place + 16) ? bytesAt(place, copied) : null) };
 
-/** Returns the bytes of the part whose offset and length are at a place. */
-function bytesAt(place) {
-  const begin = GIVEN + wordAt(place);
-  return memory.slice(begin, begin + wordAt(place + 8));
+/** Returns a copy of so many bytes at a place, in a buffer of its own: a short array without one lies
+ * where an engine moves it, and leaves the old bytes. */
+function copied(place, length) {
+  const bytes = new Uint8Array(new ArrayBuffer(length));
+  bytes.set(memory.subarray(place, place + length));
+  return bytes;
 }
 
-/** Says that a call stores structures of these fields: where each field is, and the pointers. */
+/** Returns a copy of bytes that are no secret, which takes less time. */
+const sliced = (place, length) => memory.slice(place, place + length);
+
+/** Returns a copy of the part whose offset and length are at a place, as a function makes it. */
+const bytesAt = (place, copy) => copy(GIVEN + wordAt(place), wordAt(place + 8));
+
+/** Says that a call stores structures of these fields: where each field is, and where they begin. */
 function stores(...structures) {
-  let place = STORED;
-  const [fields, pointers] = [[], []];
+  let offset = 0;
+  const [fields, begins] = [[], []];
   for (const structure of structures) {
-    pointers.push(BigInt(place));
+    begins.push(BigInt(offset));
     for (const { length, at } of structure) {
-      fields.push({ place, at });
-      place += length;
+      fields.push({ offset, at });
+      offset += length;
     }
   }
-  return { fields, pointers };
+  return { fields, begins };
 }
 
-/** Says that a call writes into a buffer, and stores the length of what it writes. */
-const writes = { fields: null };
+/** Says that a call writes into a buffer, and stores the length of what it writes, and how that is
+ * copied. */
+const writes = { fields: null, copy: sliced };
+const writesSecret = { fields: null, copy: copied };
 
 // What the calls do with what follows the arrays and numbers that they are given.
 const CALLS = {
-  sec1_key_read_at: stores([part, part, part], [size]),
-  sec1_key_write: writes,
+  sec1_key_read_at: stores([secret, part, part], [size]),
+  sec1_key_write: writesSecret,
   sec1_public_key_read: stores([part, part]),
   sec1_public_key_fault_at: stores([size]),
   sec1_public_key_write: writes,
   sec1_certificate_read_public_key: stores([part]),
   sec1_certificate_fault_at: stores([size]),
   sec1_private_key_info_fault_at: stores([size]),
-  sec1_private_key_info_write: writes,
-  sec1_private_key_read: stores([part, part, part]),
+  sec1_private_key_info_write: writesSecret,
+  sec1_private_key_read: stores([secret, part, part]),
   sec1_private_key_fault_at: stores([size]),
   sec1_signature_read: stores([part, part]),
   sec1_signature_fault_at: stores([size]),
@@ -137,46 +197,56 @@ const CALLS = {
 };
 
 /** Makes a call that writes, with more room if there was too little. */
-function written(name, words) {
+function written(name, words, copy) {
   for (let room = ROOM; ; room = wordAt(STORED)) {
     const place = reserve(room);
     const status = exports[name](...words, BigInt(place), BigInt(room), STORED_WORD);
     const length = wordAt(STORED);
-    if (status !== BUFFER || length <= room) return [status, memory.slice(place, place + length)];
+    if (status !== BUFFER || length <= room) return [status, copy(place, length)];
   }
 }
 
 /** Makes a call with these arrays of bytes and numbers. Returns its status, and what it stores. */
 export function call(name, ...given) {
+  if (!exports) take(instantiated());
   try {
     const words = placed(given);
-    const { fields, pointers } = CALLS[name];
-    if (!fields) return written(name, words);
-    words.push(...pointers);
+    const { fields, begins, copy } = CALLS[name];
+    if (!fields) return written(name, words, copy);
+    for (const begin of begins) words.push(STORED_WORD + begin);
     const answer = [exports[name](...words)];
-    for (const { place, at } of fields) answer.push(at(place));
+    for (const { offset, at } of fields) answer.push(at(STORED + offset));
     return answer;
   } finally {
     wipe(FLAT);
   }
 }
 
+/** Returns the length of what the two calls of pictures decode an input into. DER needs 2 bytes of
+ * it, so that a long input gets no more until a call refuses that. */
+function roomFor(length, isWhole) {
+  const room = 2 * length + 2;
+  return isWhole || room < DRAWN ? room : 2;
+}
+
 /** Returns the status, the text of the picture of an input, and 1 if the input has a key: with all
  * contents, if the number isn't 0. */
 export function drawn(input, all) {
-  // Room for most pictures; a longer one is drawn once more.
-  for (let most = 8 * input.length + 4096; ;) {
+  if (!exports) take(instantiated());
+  const size = lengthOf(input);
+  // Room for most pictures of short inputs; a longer one is drawn once more.
+  for (let [most, isWhole] = [Math.min(8 * size + 4096, DRAWN), false]; ;) {
     try {
       const words = placed([input, all]);
-      const length = 2 * input.length + 2 + most;
+      const length = roomFor(size, isWhole) + most;
       const [room, text] = [reserve(length), reserve(most)];
       const places = [room, length, text, most, STORED, STORED + 8].map(BigInt);
       const status = exports.sec1_picture_draw(...words, ...places);
       const wanted = wordAt(STORED);
-      if (status !== BUFFER || wanted <= most) {
-        return [status, memory.slice(text, text + wanted), wordAt(STORED + 8)];
+      if (status !== BUFFER || (wanted <= most && (wanted || isWhole))) {
+        return [status, copied(text, wanted), wordAt(STORED + 8)];
       }
-      most = wanted;
+      [most, isWhole] = [wanted || most, isWhole || wanted === 0];
     } finally {
       wipe(DEEP);
     }
@@ -192,23 +262,34 @@ function numbersAt(place, count) {
   return numbers;
 }
 
-/** Returns the same of the picture without private contents, and the numbers of its lines; and, if
- * that is asked for, the bytes that were decoded, or null if the input is what is drawn. */
+/** Returns the numbers of so many lines of a picture, and, if that is asked for, the bytes that were
+ * decoded, or null if the input is what is drawn. */
+function lined(input, count, isDecodedWanted) {
+  for (let isWhole = false; ;) {
+    try {
+      const words = placed([input]);
+      const length = roomFor(lengthOf(input), isWhole);
+      const [room, lines] = [reserve(length), reserve(count * NUMBERS * 8)];
+      const places = [room, length, lines, count, STORED].map(BigInt);
+      const status = exports.sec1_picture_lines(...words, ...places);
+      const found = wordAt(STORED);
+      if (status !== BUFFER || found || isWhole) {
+        const numbers = numbersAt(lines, Math.min(found, count));
+        const isDecoded = isDecodedWanted && numbers[0] === Kind.HEADING;
+        return { status, numbers, decoded: isDecoded ? copied(room, length) : null };
+      }
+      isWhole = true;
+    } finally {
+      wipe(DEEP);
+    }
+  }
+}
+
+/** Returns the same as `drawn` of the picture without private contents, and what `lined` does. */
 export function picture(input, isDecodedWanted = false) {
   const [status, text, isKey] = drawn(input, 0);
   let count = 0;
   for (let at = text.indexOf(10); at >= 0; at = text.indexOf(10, at + 1)) count += 1;
-  try {
-    const words = placed([input]);
-    const length = 2 * input.length + 2;
-    const [room, lines] = [reserve(length), reserve(count * NUMBERS * 8)];
-    const places = [room, length, lines, count, STORED].map(BigInt);
-    const told = exports.sec1_picture_lines(...words, ...places);
-    const numbers = numbersAt(lines, Math.min(wordAt(STORED), count));
-    const isDecoded = isDecodedWanted && numbers[0] === Kind.HEADING;
-    const decoded = isDecoded ? memory.slice(room, room + length) : null;
-    return { status: status || told, text, isKey, numbers, decoded };
-  } finally {
-    wipe(DEEP);
-  }
+  const told = lined(input, count, isDecodedWanted);
+  return { ...told, status: status || told.status, text, isKey };
 }

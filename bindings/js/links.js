@@ -1,6 +1,7 @@
-// Puts files in the place of the links of this folder while `npm pack` packs, which leaves links
-// out, and then the links again: links.js follow|restore. Where git makes no links, as on Windows,
-// a file that has the path of another stands in the place of each: it is followed, too.
+// Makes what is packed and not in the repository while `npm pack` packs, and removes it again:
+// links.js follow|restore. These are files in the place of the links of this folder, which `npm pack`
+// leaves out, the module in base64, and the package as a module of CommonJS. Where git makes no links,
+// as on Windows, a file that has the path of another stands in the place of each: it is followed, too.
 import fs from 'node:fs';
 import path from 'node:path';
 import { fileURLToPath } from 'node:url';
@@ -16,9 +17,40 @@ function linkAt(name) {
   const file = path.join(here, name);
   const stat = fs.lstatSync(file);
   if (stat.isSymbolicLink()) return { name, target: fs.readlinkSync(file), isLink: true };
-  const text = stat.isFile() && stat.size < 256 ? fs.readFileSync(file, 'latin1') : '';
-  return { name, target: PATH.test(text) ? text : null, isLink: false };
+  const said = stat.isFile() && stat.size < 256 ? fs.readFileSync(file, 'latin1') : '';
+  return { name, target: PATH.test(said) ? said : null, isLink: false };
 }
+
+const text = (name) => fs.readFileSync(path.join(here, name), 'utf8');
+
+/** Returns a statement of what a module of this folder exports, for a file that is no module. */
+function block(name) {
+  const names = [];
+  const export_ = /^export (?:\{ (.*) \};\n|(?=(?:const|class|(?:async )?function) (\w+)))/gm;
+  const body = text(`${name}.js`)
+    .replace(export_, (_, list, one) => (names.push(list ?? one), ''))
+    .replace(/^import (\{.*\}) from '\.\/(\w+)\.js';$/gm, 'const $1 = $$$2;');
+  if (/^(import|export)\b/m.test(body)) throw new Error(`${name}.js imports or exports otherwise`);
+  return `const $${name} = (() => {\n${body}return { ${names.join(', ')} };\n})();\n`;
+}
+
+/** Returns the package as a module of CommonJS. */
+const common = () => `'use strict';
+// Made by links.js of the modules beside this file.
+${['module', 'library', 'api'].map(block).join('')}
+const name = require('node:path').join(__dirname, 'sec1.wasm');
+$module.provide({ name, read: () => require('node:fs').readFileSync(name) });
+module.exports = $api;
+`;
+
+/** Returns the module of the functions in base64. */
+const inlined = () =>
+  `export default '${fs.readFileSync(path.join(here, 'sec1.wasm')).toString('base64')}';\n`;
+
+/** What is made, by its name. */
+const MADE = {
+  'index.cjs': common, 'index.d.cts': () => text('index.d.ts'), 'sec1.wasm.js': inlined,
+};
 
 /** Makes what was there before. */
 function restore() {
@@ -28,6 +60,7 @@ function restore() {
     if (isLink) fs.symlinkSync(target, file);
     else fs.writeFileSync(file, target);
   }
+  for (const name of Object.keys(MADE)) fs.rmSync(path.join(here, name), { force: true });
   fs.rmSync(list);
 }
 
@@ -48,6 +81,7 @@ function follow() {
     fs.rmSync(file);
     fs.writeFileSync(file, files[at]);
   }
+  for (const [name, made] of Object.entries(MADE)) fs.writeFileSync(path.join(here, name), made());
 }
 
 if (fs.existsSync(list)) restore();

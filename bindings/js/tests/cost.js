@@ -8,7 +8,7 @@ import crypto from 'node:crypto';
 import fs from 'node:fs';
 import { createRequire } from 'node:module';
 
-import { EcPrivateKey, Point } from '../index.js';
+import { EcPrivateKey, Point } from '../node.js';
 
 const SAMPLES = Number(process.argv[2] ?? 200);
 const CALLS = 50;

@@ -15,22 +15,24 @@ const bytes = (hex) => new Uint8Array(Buffer.from(hex.replaceAll(' ', ''), 'hex'
 const hex = (data) => Buffer.from(data).toString('hex');
 const changed = (data, at, value) => data.map((byte, index) => (index === at ? value : byte));
 
-// The package's memory is looked at from outside: its module is instantiated in sight, and a test
-// may put another call in the place of one.
+// The package's memory is looked at from outside: its instances of the module are made in sight, and
+// a test may put another call in the place of one.
 let memory;
 let heap;
 let calls;
 let first;
-const { instantiate } = WebAssembly;
-WebAssembly.instantiate = async (...given) => {
-  const instance = await instantiate(...given);
-  calls = { ...instance.exports };
-  ({ memory, __heap_base: { value: heap } } = calls);
-  first = new Uint8Array(memory.buffer).slice();
-  return { exports: calls };
+const { Instance } = WebAssembly;
+WebAssembly.Instance = function instance(...given) {
+  calls = { ...new Instance(...given).exports };
+  // The probe of isSupported has no memory in sight.
+  if (calls.memory) {
+    ({ memory, __heap_base: { value: heap } } = calls);
+    first = new Uint8Array(memory.buffer).slice();
+  }
+  this.exports = calls;
 };
-const sec1 = await import('../index.js');
-WebAssembly.instantiate = instantiate;
+const sec1 = await import('../node.js');
+assert.equal(memory, undefined, 'nothing is loaded yet');
 const { Curve, EcPrivateKey, EcPublicKey, ObjectIdentifier, Point, Signature, Tag } = sec1;
 
 const oid = ObjectIdentifier.fromText;
@@ -885,45 +887,96 @@ test('refuses to write a key that is too long', () => {
   assertWiped();
 });
 
-/** Returns the status of Node, and the error that it prints, when it imports the package with this
- * module, by these options and after this program. */
-function saidAtImport(module, options = [], before = '') {
+/** The files that a copy of the package needs, beside the module. */
+const FILES = ['package.json', 'node.js', 'index.js', 'api.js', 'library.js', 'module.js'];
+
+/** Returns the status of Node, and the error and the cause that it prints, when a program runs with a
+ * copy of the package, of this module, as `sec1`. */
+function saidBy(program, module, { options = [], entry = 'node.js', before = '' } = {}) {
   const folder = fs.mkdtempSync(path.join(os.tmpdir(), 'sec1-'));
   try {
-    for (const name of ['package.json', 'index.js', 'library.js', 'module.js']) {
-      fs.writeFileSync(path.join(folder, name), read(`../${name}`));
-    }
+    for (const name of FILES) fs.writeFileSync(path.join(folder, name), read(`../${name}`));
     fs.writeFileSync(path.join(folder, 'sec1.wasm'), module);
-    const index = JSON.stringify(`${url.pathToFileURL(folder)}/index.js`);
-    const words = [...options, '--input-type=module', '-e', `${before}; await import(${index});`];
+    const index = JSON.stringify(`${url.pathToFileURL(folder)}/${entry}`);
+    const whole = `${before}; const sec1 = await import(${index}); ${program}`;
+    const words = [...options, '--input-type=module', '-e', whole];
     const { status, stderr } = spawnSync(process.execPath, words);
-    return [status, /^Error: (.*)$/m.exec(stderr)?.[1] ?? ''];
+    const said = String(stderr);
+    return [status, /^Error: (.*?)(?: \{)?$/m.exec(said)?.[1] ?? '', /\[cause\]: \[?(\w+)/.exec(said)?.[1]];
   } finally {
     fs.rmSync(folder, { recursive: true });
   }
 }
 
-test('says why the module cannot be compiled', () => {
+// A call at once, and one that waits.
+const WAYS = ['sec1.Point.identity(32);', 'await sec1.ready(); sec1.Point.identity(32);'];
+
+test('says why the module cannot be compiled, when it is asked for', () => {
   const module = read('../sec1.wasm');
-  for (const before of ['', 'delete process.getBuiltinModule']) {
-    assert.deepEqual(saidAtImport(module, [], before), [0, '']);
-  }
+  assert.deepEqual(saidBy('', Buffer.alloc(0)), [0, '', undefined]);
   const link = Buffer.from('../../dist/sec1.wasm');
-  for (const file of [link, Buffer.alloc(0), module.subarray(1)]) {
-    const [status, said] = saidAtImport(file);
-    assert.equal(status, 1);
-    assert.match(said, /sec1\.wasm is no module of WebAssembly: its \d+ bytes begin otherwise$/);
-    assert(said.includes(` ${file.length} bytes `), said);
-  }
   const damaged = Buffer.from(module).fill(0xff, module.length >> 1, (module.length >> 1) + 9);
-  for (const file of [damaged, module.subarray(0, 100000), module.subarray(0, 20)]) {
-    const [status, said] = saidAtImport(file);
-    assert.equal(status, 1);
-    assert.match(said, /sec1\.wasm is damaged, or this engine doesn't know WebAssembly 2\.0$/);
-  }
-  assert.deepEqual(saidAtImport(module, ['--jitless']), [1, 'this engine has no WebAssembly']);
   // What a page's policy does, which is tried in browsers by page.html.
-  const refuses = 'WebAssembly.compile = async () => { throw new WebAssembly.CompileError("no"); }';
-  assert.deepEqual(saidAtImport(module, [], refuses),
-    [1, "WebAssembly is forbidden here: a policy has to allow 'wasm-unsafe-eval'"]);
+  const before = `const no = class { constructor() { throw new WebAssembly.CompileError('no'); } };
+    WebAssembly.Module = no; WebAssembly.compile = async () => new no()`;
+  for (const program of WAYS) {
+    assert.deepEqual(saidBy(program, module), [0, '', undefined]);
+    for (const file of [link, Buffer.alloc(0), module.subarray(1)]) {
+      const [status, said, cause] = saidBy(program, file);
+      assert.deepEqual([status, cause], [1, 'CompileError']);
+      assert.match(said, /sec1\.wasm is no module of WebAssembly: its \d+ bytes begin otherwise$/);
+      assert(said.includes(` ${file.length} bytes `), said);
+    }
+    for (const file of [damaged, module.subarray(0, 20)]) {
+      const [status, said, cause] = saidBy(program, file);
+      assert.deepEqual([status, cause], [1, 'CompileError']);
+      assert.match(said, /sec1\.wasm is damaged, or this engine doesn't know WebAssembly 2\.0$/);
+    }
+    const [, said] = saidBy(program, module, { options: ['--jitless'] });
+    assert.equal(said, 'this engine has no WebAssembly');
+    assert.deepEqual(saidBy(program, module, { before }).slice(0, 2),
+      [1, "WebAssembly is forbidden here: a policy has to allow 'wasm-unsafe-eval'"]);
+  }
+  // An engine that compiles nothing long at once.
+  const short = `const { Module } = WebAssembly; WebAssembly.Module = function module(bytes) {
+    if (bytes.length > 4096) throw new RangeError('long'); return new Module(bytes); }`;
+  assert.deepEqual(saidBy(WAYS[0], module, { before: short }),
+    [1, 'this engine compiles the module in `await ready()` alone', 'RangeError']);
+});
+
+test('asks first whether an engine can run the module', () => {
+  const module = read('../sec1.wasm');
+  for (const [before, options, answer] of [
+    ['', [], true],
+    ['', ['--jitless'], false],
+    ['WebAssembly.Instance = class { constructor() { throw new Error(); } }', [], false],
+    ['WebAssembly.Instance = class { exports = { run: () => 128n }; }', [], false],
+    ['WebAssembly.Module = class { constructor() { throw new Error(); } }', [], false],
+  ]) {
+    const program = `process.exit(sec1.isSupported() === ${answer} ? 0 : 9);`;
+    assert.deepEqual(saidBy(program, module, { before, options }), [0, '', undefined], before);
+  }
+});
+
+test('fetches the module in a browser, and once', () => {
+  const module = read('../sec1.wasm');
+  const entry = 'index.js';
+  assert.deepEqual(saidBy('sec1.isSupported(); sec1.version;', module, { entry }).slice(0, 1), [0]);
+  assert.deepEqual(saidBy(WAYS[0], module, { entry }),
+    [1, 'the module has to be fetched first: `await ready()`', undefined]);
+  const answers = (ok) => `let times = 0; const fs = await import('node:fs');
+    globalThis.fetch = async (url) => { times += 1; return { ok: ${ok}, status: 404,
+    statusText: 'Not Found', arrayBuffer: async () => new Uint8Array(fs.readFileSync(url)).buffer } }`;
+  // Answered with what is no module, as a page of an error, or with the module all the same.
+  const [status, said] = saidBy(WAYS[1], module, { entry, before: answers(false) });
+  assert.equal(status, 1);
+  assert.match(said, /\/sec1\.wasm: 404 Not Found$/);
+  const twice = `await Promise.all([sec1.ready(), sec1.ready()]); await sec1.ready();
+    const { equals } = sec1.Point.identity(32); process.exit(equals && times <= 2 ? 0 : 9);`;
+  assert.deepEqual(saidBy(twice, module, { entry, before: answers(true) }), [0, '', undefined]);
+  const again = `const said = await sec1.ready().catch(String); globalThis.fetch = right;
+    await sec1.ready(); process.exit(said.includes('404') && sec1.Point.identity(1) ? 0 : 9);`;
+  const before = `${answers(true)}; const right = globalThis.fetch;
+    globalThis.fetch = async () => ({ ok: false, status: 404, statusText: '' })`;
+  assert.deepEqual(saidBy(again, module, { entry, before }), [0, '', undefined]);
 });
