@@ -408,7 +408,7 @@ js() {
     export npm_config_offline=true npm_config_cache="$work/npm" npm_config_update_notifier=false
     export npm_config_fund=false npm_config_audit=false
     if ! node -e 'process.exit(parseInt(process.versions.node) < 18 ? 1 : 0)'; then
-        skip 25 "JavaScript: node is older than 18"
+        skip 35 "JavaScript: node is older than 18"
         return
     fi
     copied "$repository"
@@ -437,6 +437,8 @@ js() {
         says 7 eval 'node $installed/tests/cost.js 2 | grep -c "|"'
     check "the module has the calls of sec1.h" says \
         "sec1_key_len_of sec1_key_write_of sec1_status_text sec1_version" js_names
+    entries
+    bundlers
     engines
     (cd $installed && exec python3 -u -m http.server --bind 127.0.0.1 0) >>"$work/served" 2>&1 &
     server=$!
@@ -446,6 +448,48 @@ js() {
         $installed/library.js
     check "a page that isn't wiped is found" eval '! js_tests'
     types
+}
+
+# Runs a program over each entry of the package, by `require` and by `import`.
+entries() {
+    cat >program.txt <<'END'
+const key = new EcPrivateKey(new Uint8Array(32).fill(7), Curve.fromName('P-256').identifier);
+console.log(isSupported(), EcPrivateKey.fromDer(key.toDer()).equals(key), String(key.curve));
+END
+    local names='{ Curve, EcPrivateKey, isSupported }' package=bridgeacacia-sec1
+    { echo "const $names = require('$package');" && cat program.txt; } >required.cjs
+    { echo "import $names from '$package';" && cat program.txt; } >imported.mjs
+    { echo "import $names from '$package/inline';" && cat program.txt; } >inside.mjs
+    for file in required.cjs imported.mjs inside.mjs; do
+        check "$file runs" says "$ran" node $file
+    done
+    check "the package has the module and its description to be imported" node -e \
+        "for (const it of ['sec1.wasm', 'package.json']) require.resolve('$package/' + it);
+        process.exit(require('$package/package.json').engines.node === '>=18' ? 0 : 1);"
+}
+# What it prints.
+ran='true true 1.2.840.10045.3.1.7'
+
+# Bundles the program with the module inside, by each tool that is there, and runs what is made.
+bundlers() {
+    # rollup finds no package without a plugin.
+    sed "s|'bridgeacacia-sec1/inline'|'./$installed/inline.js'|" inside.mjs >by-path.mjs
+    bundled esbuild esbuild inside.mjs --bundle --format=iife --target=es2020 --outfile=esbuild.cjs
+    bundled rollup rollup by-path.mjs --silent --format iife --file rollup.cjs
+    bundled webpack webpack --mode production --entry ./inside.mjs -o . --output-filename webpack.cjs
+}
+bundled() { # TOOL COMMAND..
+    local tool=$1
+    shift
+    if "$tool" --version </dev/null >"$work/output" 2>&1; then
+        check "$tool bundles the package" "$@"
+        check "what it made runs alone" alone "$tool.cjs"
+    else
+        skip 2 "$tool is missing, or not for this node (Debian: apt-get install $tool)"
+    fi
+}
+alone() { # FILE
+    mkdir -p "$work/alone" && cp "$1" "$work/alone" && (cd "$work/alone" && says "$ran" node "$1")
 }
 
 # Packs a clone that has no links, as git makes it on Windows: each is a file that has a path.
@@ -568,7 +612,7 @@ for name in ${1:-rust python js}; do
     python) if has python3 && has cc; then part python; fi ;;
     js)
         if command -v node >/dev/null && command -v npm >/dev/null; then part js; else
-            skip 25 "JavaScript: node or npm is missing (Debian: apt-get install nodejs npm)"
+            skip 35 "JavaScript: node or npm is missing (Debian: apt-get install nodejs npm)"
         fi
         ;;
     esac

@@ -15,9 +15,10 @@ const unhex = (digits) => Uint8Array.from(digits.match(/\w\w/g), (two) => parseI
 let source;
 let compiled = null;
 
-/** Says where the bytes are from, as an entry of the package knows it. */
+/** Says where the bytes are from, as an entry of the package knows it. Of two entries in one program
+ * one that has them at once counts. */
 export function provide(given) {
-  source = given;
+  if (!source?.read) source = given;
 }
 
 /** Returns whether the engine can run the module, and a page's policy lets it. */

@@ -1,10 +1,11 @@
 // A program of each name, for `tsc --strict`; the lines below the last comment are refused by it.
 import {
   type Bytes, certificatePublicKey, checkTree, Curve, CurveError, DepthError, documentLength,
-  draw, EcPrivateKey, EcPublicKey, FieldLengthError, LengthError, ObjectIdentifier, OtherCurveError,
-  OverlengthError, type Picture, type PictureRow, Point, PointEncodingError, Sec1Error, Signature,
-  Tag, TagError, TrailingDataError, TruncatedError, ValueContentError, version,
+  draw, EcPrivateKey, EcPublicKey, FieldLengthError, isSupported, LengthError, ObjectIdentifier,
+  OtherCurveError, OverlengthError, type Picture, type PictureRow, Point, PointEncodingError, ready,
+  Sec1Error, Signature, Tag, TagError, TrailingDataError, TruncatedError, ValueContentError, version,
 } from 'bridgeacacia-sec1';
+import { Curve as Inside } from 'bridgeacacia-sec1/inline';
 
 const bytes: Bytes = new Uint8Array(1);
 const errors: (typeof Sec1Error)[] = [
@@ -41,8 +42,9 @@ const drawn: [boolean, number, readonly string[]] = [picture.hasKey, row.depth, 
 const texts: string[] = [
   picture.text, row.line, version, curve.name, point.hex(true), `${identifier}`,
 ];
+const loaded: [boolean, Promise<void>, Curve] = [isSupported(), ready(), Inside.fromName('P-256')];
 export default {
-  errors, refused, parts, keys, written, coordinates, isHybrid, signature, numbers, length, texts,
+  loaded, errors, refused, parts, keys, written, coordinates, isHybrid, signature, numbers, length, texts,
   drawn,
 };
 
@@ -67,5 +69,7 @@ Point.fromHex(bytes, 32);
 identifier.compare('1.2');
 // @ts-expect-error
 new TagError('text');
+// @ts-expect-error
+new TagError(3).offset.toFixed();
 // @ts-expect-error
 checkTree([1, 2]);
