@@ -9,6 +9,8 @@ import test from 'node:test';
 import url from 'node:url';
 import util from 'node:util';
 
+import { counted } from './copies.js';
+
 const read = (name) => fs.readFileSync(new URL(name, import.meta.url));
 const lines = (name) => read(name).toString().trim().split('\n').filter((it) => it[0] !== '#');
 const bytes = (hex) => new Uint8Array(Buffer.from(hex.replaceAll(' ', ''), 'hex'));
@@ -711,6 +713,14 @@ test('wipes memory after each call that sees a private key', () => {
     else call();
     assertWiped();
   }
+});
+
+test('leaves no copy of a private key in the memory of its process', async () => {
+  // Linux shows one process to another.
+  if (!fs.existsSync('/proc/self/mem')) return;
+  const { 'a kept key': key, 'a kept input': input, ...copies } = await counted();
+  assert(key > 0 && input > 0, 'copies that are there are found');
+  assert.deepEqual([Object.keys(copies).length, Object.entries(copies).filter((it) => it[1])], [13, []]);
 });
 
 // ---- pictures
