@@ -535,10 +535,17 @@ export function draw(data, { all = false } = {}) {
   const bytes = bytesOf(data);
   const plain = picture(bytes);
   check(plain.status);
-  const rows = rowsOf(CODE.decode(plain.text), plain.numbers);
   const [status, encoded, isKey] = all ? drawn(bytes, 1) : [0, plain.text, plain.isKey];
   check(status);
-  const text = CODE.decode(encoded);
+  const [text, hidden] = [CODE.decode(encoded), CODE.decode(plain.text)];
   encoded.fill(0);
-  return { text, hasKey: isKey === 1, rows };
+  let rows = null;
+  return {
+    text,
+    hasKey: isKey === 1,
+    get rows() {
+      rows ??= rowsOf(hidden, plain.numbers);
+      return rows;
+    },
+  };
 }

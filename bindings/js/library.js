@@ -36,15 +36,20 @@ let memory;
 /** Where the memory ends that the call uses. */
 let end;
 
+/** Looks at the memory anew, which is another buffer where it grew. */
+function look() {
+  view = new DataView(exports.memory.buffer);
+  memory = new Uint8Array(exports.memory.buffer);
+}
+
 /** Takes an instance of the module for the calls to come. */
 function take(instance) {
   ({ exports } = instance);
   STORED = Number(exports.__heap_base.value);
   GIVEN = STORED + 96;
   STORED_WORD = BigInt(STORED);
-  view = new DataView(exports.memory.buffer);
-  memory = new Uint8Array(exports.memory.buffer);
   end = GIVEN;
+  look();
 }
 
 /** Makes an instance of the module at once. */
@@ -75,8 +80,7 @@ function renew() {
 /** Makes the memory longer by so many bytes. Throws a RangeError if there is no more. */
 function grow(length) {
   exports.memory.grow(Math.ceil(length / PAGE));
-  view = new DataView(exports.memory.buffer);
-  memory = new Uint8Array(exports.memory.buffer);
+  look();
 }
 
 /** Returns the place of so many zeros, a multiple of 8. */
@@ -123,9 +127,9 @@ const wordAt = (place) => view.getUint32(place, true) + view.getUint32(place + 4
 // The fields of what a call stores. A part is of the first array of bytes that is given.
 const size = { length: 8, at: wordAt };
 const order = { length: 4, at: (place) => view.getInt32(place, true) };
-const part = { length: 24, at: (place) => (wordAt(place + 16) ? bytesAt(place, sliced) : null) };
+const part = { length: 24, at: (place) => partAt(place, sliced) };
 /** A part that is a private key. */
-const secret = { length: 24, at: (place) => (wordAt(place + 16) ? bytesAt(place, copied) : null) };
+const secret = { length: 24, at: (place) => partAt(place, copied) };
 
 /** Returns a copy of so many bytes at a place, in a buffer of its own: a short array without one lies
  * where an engine moves it, and leaves the old bytes. */
@@ -136,10 +140,15 @@ function copied(place, length) {
 }
 
 /** Returns a copy of bytes that are no secret, which takes less time. */
-const sliced = (place, length) => memory.slice(place, place + length);
+function sliced(place, length) {
+  return memory.slice(place, place + length);
+}
 
-/** Returns a copy of the part whose offset and length are at a place, as a function makes it. */
-const bytesAt = (place, copy) => copy(GIVEN + wordAt(place), wordAt(place + 8));
+/** Returns a copy, as a function makes it, of the part whose offset, length and presence are at a
+ * place, or null. */
+function partAt(place, copy) {
+  return wordAt(place + 16) ? copy(GIVEN + wordAt(place), wordAt(place + 8)) : null;
+}
 
 /** Says that a call stores structures of these fields: where each field is, and where they begin. */
 function stores(...structures) {

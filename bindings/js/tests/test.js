@@ -381,6 +381,7 @@ test('refuses public keys, certificates and signatures by their places', () => {
   refused(() => new EcPublicKey(p256, point.slice(1)).toDer(), sec1.PointEncodingError);
   refused(() => new EcPublicKey(oid('1.2.3'), point).toDer(), sec1.CurveError);
   refused(() => new EcPublicKey(oid('1.2.3'), point).point, sec1.CurveError);
+  assert.equal(String(new EcPublicKey(oid('1.2.3'), point).curve), '1.2.3');
   // In the place of a serial number is the algorithm's identifier.
   refused(() => sec1.certificatePublicKey(data), sec1.TagError, 4);
   const signature = bytes('3006020101020109');
@@ -526,7 +527,7 @@ test('refuses lengths of field elements, and texts of points', () => {
       assert.throws(() => call(wrong), TypeError);
     }
   }
-  for (const text of ['02aA', '02a', '', '+2aa', '02gg', '02aaaa', '0\u0662aa', '02aa\0']) {
+  for (const text of ['02aA', '02a', '', '+2aa', '02gg', '02aaaa', '0\u0662aa', '02aa\0', '0\uff12aa']) {
     refused(() => Point.fromHex(text, 1), sec1.PointEncodingError);
   }
   for (const [x, y] of [['', ''], ['01', '0102'], ['01'.repeat(67), '01'.repeat(67)]]) {
@@ -544,14 +545,16 @@ test('reads, writes and orders identifiers', () => {
   }
   for (const text of [
     '', '1', '1.40', '3.1', '1.02', '1.+2', '1.2 ', '1.\u0662', '1.2\0', '1.\ud800',
+    '1.\uff12', '\uff11\uff0e\uff12', '1.\u00b2',
   ]) {
     refused(() => oid(text), sec1.ValueContentError);
   }
   for (const content of ['', '8001', '81', '01'.repeat(40)]) {
     refused(() => new ObjectIdentifier(bytes(content)), sec1.ValueContentError);
   }
-  const texts = '0.0 1.2 1.2.3 1.2.3.1 1.2.4 1.2.127 1.2.128 1.2.16383 1.2.16384 1.3.6 2.5'
-    .split(' ');
+  const long = '1.2.3.1.5.6.7.8.9.10.11';
+  const texts = `0.0 1.2 1.2.3 1.2.3.1 ${long}.12 ${long}.13 1.2.4 1.2.127 1.2.128 1.2.16383 1.2.16384
+    1.2.2147483647 1.2.2147483648 1.2.4294967295 1.3.6 2.5`.split(/\s+/);
   const identifiers = texts.map(oid);
   for (const [i, one] of identifiers.entries()) {
     assert.deepEqual(one.arcs.join('.'), texts[i]);
@@ -581,7 +584,7 @@ test('finds curves by their names and identifiers', () => {
     assert(curve.equals(new Curve(oid(text))));
     assert(!curve.equals(Curve.fromName('secp256k1')) && !curve.equals(oid(text)));
   }
-  for (const name of ['', 'p-256', 'P-256\0', 'secp256r1 ']) {
+  for (const name of ['', 'p-256', 'P-256\0', 'secp256r1 ', '\uff30-256', 'P-25\uff16']) {
     refused(() => Curve.fromName(name), sec1.CurveError);
   }
   refused(() => new Curve(oid('1.2')), sec1.CurveError);
@@ -676,6 +679,58 @@ test('grows memory only if it is needed, by pages', () => {
     sec1.documentLength(new Uint8Array(before - Number(heap) - 96 + more));
     assert.equal(memory.buffer.byteLength - before, Math.ceil(more / 65536) * 65536);
   }
+});
+
+test('gives back memory that grew, wiped', () => {
+  const key = new EcPrivateKey(new Uint8Array(5 << 20).fill(7));
+  const der = key.toDer();
+  const [small, large] = [first.length, 4 << 20];
+  for (const call of [
+    () => key.toDer(), () => EcPrivateKey.fromDer(der), () => sec1.draw(der),
+  ]) {
+    const old = memory;
+    call();
+    assert(memory !== old && memory.buffer.byteLength === small);
+    // What isn't wiped stays in the old one's memory as long as the engine keeps it.
+    const before = Buffer.from(old.buffer);
+    assert(before.length > large && before.subarray(0, small).equals(first));
+    assert(before.subarray(small).equals(Buffer.alloc(before.length - small)));
+  }
+  // An engine that makes no other instance.
+  const watching = WebAssembly.Instance;
+  WebAssembly.Instance = class { constructor() { throw new RangeError('none'); } };
+  const old = memory;
+  try {
+    assert(EcPrivateKey.fromDer(key.toDer()).equals(key));
+  } finally {
+    WebAssembly.Instance = watching;
+  }
+  assert(memory === old && memory.buffer.byteLength > large);
+  assertWiped();
+  sec1.documentLength(der.subarray(0, 9));
+  assert(memory !== old);
+});
+
+test('takes little memory for a long input with a short picture', () => {
+  const long = new Uint8Array(Buffer.concat([Buffer.from('0483ffffff', 'hex'), Buffer.alloc(0xffffff)]));
+  let pages = 0;
+  whileGrowing(function grow(more) {
+    pages += more;
+    return growing.call(this, more);
+  }, () => assert.equal(sec1.draw(long).rows.length, 1));
+  // Twice, for the text and for the lines, the input and some room.
+  assert(pages * 65536 < 2 * (long.length + (4 << 20)), `${pages} pages`);
+});
+
+test('takes the length that an array has', () => {
+  class Liar extends Uint8Array {
+    get length() {
+      return 4000;
+    }
+  }
+  const der = new EcPrivateKey(bytes('0102'), p256).toDer();
+  assert.equal(hex(EcPrivateKey.fromDer(new Liar(der)).privateKey), '0102');
+  assert.equal(sec1.draw(new Liar(der)).text, sec1.draw(der).text);
 });
 
 test('wipes memory if it cannot be grown, and works on', () => {
@@ -794,6 +849,8 @@ test('draws any buffer, and as it is asked to', () => {
     assert.equal(sec1.draw(input, option).text, text);
   }
   const [, { input: four, shown: all }] = drawnByHand();
+  const picture = sec1.draw(input);
+  assert.equal(picture.rows, picture.rows);
   for (const option of [{ all: true }, { all: 1 }]) {
     assert.equal(sec1.draw(four, option).text, `${all.join('\n')}\n`);
   }
@@ -890,6 +947,24 @@ test('has the version of its package, and needs nothing', () => {
   assert.deepEqual(WebAssembly.Module.imports(module), []);
 });
 
+test('describes its entries, and the engines', () => {
+  const { engines, exports, files } = JSON.parse(read('../package.json'));
+  assert.deepEqual(engines, { node: '>=18' });
+  assert.deepEqual(Object.keys(exports), ['.', './inline', './sec1.wasm', './package.json']);
+  const paths = (it) => (typeof it === 'string' ? [it] : Object.values(it).flatMap(paths));
+  for (const path of paths(exports)) {
+    assert(path === './package.json' || files.includes(path.slice(2)), path);
+  }
+  // What is null in some test has a type that says so.
+  const types = read('../index.d.ts').toString();
+  for (const [name, count] of Object.entries({
+    offset: 1, kind: 2, status: 2, curve: 1, publicKey: 1, x: 1, y: 1,
+  })) {
+    const found = types.match(new RegExp(`readonly ${name}: \\w+ \\| null;$`, 'gm'));
+    assert.equal(found?.length, count, name);
+  }
+});
+
 // Near the end, since the memory stays as long as it was for this.
 test('refuses to write a key that is too long', () => {
   const key = new EcPrivateKey(new Uint8Array(1 << 28).fill(1));
@@ -908,7 +983,7 @@ function saidBy(program, module, { options = [], entry = 'node.js', before = '' 
     for (const name of FILES) fs.writeFileSync(path.join(folder, name), read(`../${name}`));
     fs.writeFileSync(path.join(folder, 'sec1.wasm'), module);
     const index = JSON.stringify(`${url.pathToFileURL(folder)}/${entry}`);
-    const whole = `${before}; const sec1 = await import(${index}); ${program}`;
+    const whole = `${before}; const index = ${index}; const sec1 = await import(index); ${program}`;
     const words = [...options, '--input-type=module', '-e', whole];
     const { status, stderr } = spawnSync(process.execPath, words);
     const said = String(stderr);
@@ -989,4 +1064,7 @@ test('fetches the module in a browser, and once', () => {
   const before = `${answers(true)}; const right = globalThis.fetch;
     globalThis.fetch = async () => ({ ok: false, status: 404, statusText: '' })`;
   assert.deepEqual(saidBy(again, module, { entry, before }), [0, '', undefined]);
+  // Of two entries the one that reads at once.
+  const both = `await import(index.replace('node.js', 'index.js')); ${WAYS[0]}`;
+  assert.deepEqual(saidBy(both, module), [0, '', undefined]);
 });
