@@ -5,9 +5,8 @@ export const version: string;
 export function isSupported(): boolean;
 
 /**
- * Loads the module, where that hasn't been done. In Node a call loads it by itself, and so does one of
- * `bridgeacacia-sec1/inline` in a worker and in most engines. Elsewhere a call before it throws an
- * `Error`.
+ * Loads the module, where that hasn't been done. In Node a call loads it by itself, and so does one
+ * of `bridgeacacia-sec1/inline` in most engines. Elsewhere a call before it throws an `Error`.
  * @throws {Error} if the module can't be fetched or compiled: why.
  */
 export function ready(): Promise<void>;
@@ -317,7 +316,7 @@ export interface Picture {
   readonly text: string;
   /** Whether some part of the input is an EC private key (RFC 5915). */
   readonly hasKey: boolean;
-  /** The rows of all parts, as they are without `all`. */
+  /** The rows of all parts, as they are without `all`: made when they are first asked for. */
   readonly rows: readonly PictureRow[];
 }
 

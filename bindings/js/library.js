@@ -131,8 +131,8 @@ const part = { length: 24, at: (place) => partAt(place, sliced) };
 /** A part that is a private key. */
 const secret = { length: 24, at: (place) => partAt(place, copied) };
 
-/** Returns a copy of so many bytes at a place, in a buffer of its own: a short array without one lies
- * where an engine moves it, and leaves the old bytes. */
+/** Returns a copy of so many bytes at a place, in a buffer of its own: a short array without one
+ * lies where an engine moves it, and leaves the old bytes. */
 function copied(place, length) {
   const bytes = new Uint8Array(new ArrayBuffer(length));
   bytes.set(memory.subarray(place, place + length));
@@ -150,7 +150,7 @@ function partAt(place, copy) {
   return wordAt(place + 16) ? copy(GIVEN + wordAt(place), wordAt(place + 8)) : null;
 }
 
-/** Says that a call stores structures of these fields: where each field is, and where they begin. */
+/** Says that a call stores structures of these fields: where they begin, and each field is. */
 function stores(...structures) {
   let offset = 0;
   const [fields, begins] = [[], []];
@@ -271,8 +271,8 @@ function numbersAt(place, count) {
   return numbers;
 }
 
-/** Returns the numbers of so many lines of a picture, and, if that is asked for, the bytes that were
- * decoded, or null if the input is what is drawn. */
+/** Returns the numbers of so many lines of a picture, and, if that is asked for, the bytes that
+ * were decoded, or null if the input is what is drawn. */
 function lined(input, count, isDecodedWanted) {
   for (let isWhole = false; ;) {
     try {

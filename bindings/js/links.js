@@ -1,7 +1,8 @@
 // Makes what is packed and not in the repository while `npm pack` packs, and removes it again:
-// links.js follow|restore. These are files in the place of the links of this folder, which `npm pack`
-// leaves out, the module in base64, and the package as a module of CommonJS. Where git makes no links,
-// as on Windows, a file that has the path of another stands in the place of each: it is followed, too.
+// links.js follow|restore. These are files in the place of the links of this folder, which
+// `npm pack` leaves out, the module in base64, and the package as a module of CommonJS. Where git
+// makes no links, as on Windows, a file that has the path of another stands in the place of each:
+// it is followed, too.
 import fs from 'node:fs';
 import path from 'node:path';
 import { fileURLToPath } from 'node:url';

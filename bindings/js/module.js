@@ -1,4 +1,4 @@
-// The proved module: whether an engine can run it, where its bytes are from, and how it is compiled.
+// The proved module: whether an engine can run it, where its bytes are from, and its compilation.
 
 /** The first bytes of each module, which are one without content (WebAssembly 2.0, section 5.5). */
 const MAGIC = Uint8Array.of(0, 0x61, 0x73, 0x6d, 1, 0, 0, 0);
@@ -15,8 +15,8 @@ const unhex = (digits) => Uint8Array.from(digits.match(/\w\w/g), (two) => parseI
 let source;
 let compiled = null;
 
-/** Says where the bytes are from, as an entry of the package knows it. Of two entries in one program
- * one that has them at once counts. */
+/** Says where the bytes are from, as an entry of the package knows it. Of two entries in one
+ * program one that has them at once counts. */
 export function provide(given) {
   if (!source?.read) source = given;
 }
@@ -42,7 +42,7 @@ function reason(bytes, cause) {
     return `${source.name} is no module of WebAssembly: its ${bytes.length} bytes begin otherwise`;
   }
   // What an engine says that compiles long modules in the background alone.
-  if (cause instanceof RangeError) return 'this engine compiles the module in `await ready()` alone';
+  if (cause instanceof RangeError) return 'this engine compiles it in `await ready()` alone';
   return `${source.name} is damaged, or this engine doesn't know WebAssembly 2.0`;
 }
 

@@ -17,8 +17,8 @@ const bytes = (hex) => new Uint8Array(Buffer.from(hex.replaceAll(' ', ''), 'hex'
 const hex = (data) => Buffer.from(data).toString('hex');
 const changed = (data, at, value) => data.map((byte, index) => (index === at ? value : byte));
 
-// The package's memory is looked at from outside: its instances of the module are made in sight, and
-// a test may put another call in the place of one.
+// The package's memory is looked at from outside: its instances of the module are made in sight,
+// and a test may put another call in the place of one.
 let memory;
 let heap;
 let calls;
@@ -527,7 +527,9 @@ test('refuses lengths of field elements, and texts of points', () => {
       assert.throws(() => call(wrong), TypeError);
     }
   }
-  for (const text of ['02aA', '02a', '', '+2aa', '02gg', '02aaaa', '0\u0662aa', '02aa\0', '0\uff12aa']) {
+  for (const text of [
+    '02aA', '02a', '', '+2aa', '02gg', '02aaaa', '0\u0662aa', '02aa\0', '0\uff12aa',
+  ]) {
     refused(() => Point.fromHex(text, 1), sec1.PointEncodingError);
   }
   for (const [x, y] of [['', ''], ['01', '0102'], ['01'.repeat(67), '01'.repeat(67)]]) {
@@ -553,8 +555,8 @@ test('reads, writes and orders identifiers', () => {
     refused(() => new ObjectIdentifier(bytes(content)), sec1.ValueContentError);
   }
   const long = '1.2.3.1.5.6.7.8.9.10.11';
-  const texts = `0.0 1.2 1.2.3 1.2.3.1 ${long}.12 ${long}.13 1.2.4 1.2.127 1.2.128 1.2.16383 1.2.16384
-    1.2.2147483647 1.2.2147483648 1.2.4294967295 1.3.6 2.5`.split(/\s+/);
+  const texts = `0.0 1.2 1.2.3 1.2.3.1 ${long}.12 ${long}.13 1.2.4 1.2.127 1.2.128 1.2.16383
+    1.2.16384 1.2.2147483647 1.2.2147483648 1.2.4294967295 1.3.6 2.5`.split(/\s+/);
   const identifiers = texts.map(oid);
   for (const [i, one] of identifiers.entries()) {
     assert.deepEqual(one.arcs.join('.'), texts[i]);
@@ -712,7 +714,7 @@ test('gives back memory that grew, wiped', () => {
 });
 
 test('takes little memory for a long input with a short picture', () => {
-  const long = new Uint8Array(Buffer.concat([Buffer.from('0483ffffff', 'hex'), Buffer.alloc(0xffffff)]));
+  const long = Buffer.concat([Buffer.from('0483ffffff', 'hex'), Buffer.alloc(0xffffff)]);
   let pages = 0;
   whileGrowing(function grow(more) {
     pages += more;
@@ -775,7 +777,8 @@ test('leaves no copy of a private key in the memory of its process', async () =>
   if (!fs.existsSync('/proc/self/mem')) return;
   const { 'a kept key': key, 'a kept input': input, ...copies } = await counted();
   assert(key > 0 && input > 0, 'copies that are there are found');
-  assert.deepEqual([Object.keys(copies).length, Object.entries(copies).filter((it) => it[1])], [13, []]);
+  assert.equal(Object.keys(copies).length, 13);
+  assert.deepEqual(Object.entries(copies).filter(([, count]) => count), []);
 });
 
 // ---- pictures
@@ -975,8 +978,8 @@ test('refuses to write a key that is too long', () => {
 /** The files that a copy of the package needs, beside the module. */
 const FILES = ['package.json', 'node.js', 'index.js', 'api.js', 'library.js', 'module.js'];
 
-/** Returns the status of Node, and the error and the cause that it prints, when a program runs with a
- * copy of the package, of this module, as `sec1`. */
+/** Returns the status of Node, and the error and the cause that it prints, when a program runs with
+ * a copy of the package, of this module, as `sec1`. */
 function saidBy(program, module, { options = [], entry = 'node.js', before = '' } = {}) {
   const folder = fs.mkdtempSync(path.join(os.tmpdir(), 'sec1-'));
   try {
@@ -987,7 +990,8 @@ function saidBy(program, module, { options = [], entry = 'node.js', before = '' 
     const words = [...options, '--input-type=module', '-e', whole];
     const { status, stderr } = spawnSync(process.execPath, words);
     const said = String(stderr);
-    return [status, /^Error: (.*?)(?: \{)?$/m.exec(said)?.[1] ?? '', /\[cause\]: \[?(\w+)/.exec(said)?.[1]];
+    const error = /^Error: (.*?)(?: \{)?$/m.exec(said)?.[1] ?? '';
+    return [status, error, /\[cause\]: \[?(\w+)/.exec(said)?.[1]];
   } finally {
     fs.rmSync(folder, { recursive: true });
   }
@@ -1026,7 +1030,7 @@ test('says why the module cannot be compiled, when it is asked for', () => {
   const short = `const { Module } = WebAssembly; WebAssembly.Module = function module(bytes) {
     if (bytes.length > 4096) throw new RangeError('long'); return new Module(bytes); }`;
   assert.deepEqual(saidBy(WAYS[0], module, { before: short }),
-    [1, 'this engine compiles the module in `await ready()` alone', 'RangeError']);
+    [1, 'this engine compiles it in `await ready()` alone', 'RangeError']);
 });
 
 test('asks first whether an engine can run the module', () => {
@@ -1051,7 +1055,8 @@ test('fetches the module in a browser, and once', () => {
     [1, 'the module has to be fetched first: `await ready()`', undefined]);
   const answers = (ok) => `let times = 0; const fs = await import('node:fs');
     globalThis.fetch = async (url) => { times += 1; return { ok: ${ok}, status: 404,
-    statusText: 'Not Found', arrayBuffer: async () => new Uint8Array(fs.readFileSync(url)).buffer } }`;
+    statusText: 'Not Found', arrayBuffer: async () => new Uint8Array(fs.readFileSync(url)).buffer,
+    } }`;
   // Answered with what is no module, as a page of an error, or with the module all the same.
   const [status, said] = saidBy(WAYS[1], module, { entry, before: answers(false) });
   assert.equal(status, 1);
