@@ -408,7 +408,7 @@ js() {
     export npm_config_offline=true npm_config_cache="$work/npm" npm_config_update_notifier=false
     export npm_config_fund=false npm_config_audit=false
     if ! node -e 'process.exit(parseInt(process.versions.node) < 18 ? 1 : 0)'; then
-        skip 35 "JavaScript: node is older than 18"
+        skip 37 "JavaScript: node is older than 18"
         return
     fi
     copied "$repository"
@@ -419,6 +419,7 @@ js() {
     check "npm packs it again" npm pack --pack-destination "$repository"
     check "with the same bytes" cmp "$work/first.tgz" "$repository"/*.tgz
     without_links
+    check "the line of README.md installs it" pasted
     mkdir "$work/empty" && cd "$work/empty" || return
     check "npm installs what is packed" npm install "$work/first.tgz"
     installed=node_modules/bridgeacacia-sec1
@@ -490,6 +491,13 @@ bundled() { # TOOL COMMAND..
 }
 alone() { # FILE
     mkdir -p "$work/alone" && cp "$1" "$work/alone" && (cd "$work/alone" && says "$ran" node "$1")
+}
+
+# Runs the line of README.md that packs and installs, where it says.
+pasted() {
+    rm "$repository"/*.tgz && cd "$repository" &&
+        bash -euc "$(sed -n 's/^    \(npm pack .*\)$/\1/p' "$here/js/README.md")" &&
+        test -s node_modules/bridgeacacia-sec1/index.cjs
 }
 
 # Packs a clone that has no links, as git makes it on Windows: each is a file that has a path.
@@ -591,11 +599,14 @@ types() {
     local check=(tsc --strict --noEmit --target es2022 --lib es2022 --module nodenext
         --moduleResolution nodenext)
     if ! command -v tsc >/dev/null; then
-        skip 2 "tsc is missing (Debian: apt-get install node-typescript)"
+        skip 3 "tsc is missing (Debian: apt-get install node-typescript)"
         return
     fi
     cp "$here/js/tests/types.ts" types.mts
     check "tsc accepts a program of each name" "${check[@]}" types.mts
+    echo "import { Curve } from 'bridgeacacia-sec1'; export const name: string = Curve.name;" \
+        >types.cts
+    check "it finds the types of what is required" "${check[@]}" types.cts
     echo "import { checkTree } from 'bridgeacacia-sec1'; checkTree('text');" >wrong.mts
     refuses "it refuses a text in the place of bytes" TS2345 "${check[@]}" wrong.mts
 }
@@ -612,7 +623,7 @@ for name in ${1:-rust python js}; do
     python) if has python3 && has cc; then part python; fi ;;
     js)
         if command -v node >/dev/null && command -v npm >/dev/null; then part js; else
-            skip 35 "JavaScript: node or npm is missing (Debian: apt-get install nodejs npm)"
+            skip 37 "JavaScript: node or npm is missing (Debian: apt-get install nodejs npm)"
         fi
         ;;
     esac
