@@ -1,0 +1,4 @@
+pub mod Grammar
+pub mod Headers
+pub mod Masks
+pub mod Rows

@@ -1,0 +1,12 @@
+//! What is seen of bytes that may hold a private key: a row for each element that follows one
+//! table of structures, with no byte of a hidden content; where the bytes leave the table, the
+//! number of those that aren't drawn.
+#![tactic(auto)]
+
+mod grammar;
+mod header;
+mod walk;
+
+pub use grammar::{Component, Content, Family, Form, Name, Presence, Secrecy, Structure};
+pub use header::{Class, ElementFault, Header, Tag};
+pub use walk::{Place, Rows};
