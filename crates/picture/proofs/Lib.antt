@@ -1,3 +1,4 @@
 pub mod HeaderLemmas
 pub mod MaskLemmas
+pub mod PictureLemmas
 pub mod RowLemmas

@@ -1,4 +1,6 @@
+pub mod CountLaws
 pub mod Grammar
 pub mod Headers
 pub mod Masks
+pub mod Pictures
 pub mod Rows

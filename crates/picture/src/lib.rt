@@ -3,10 +3,12 @@
 //! number of those that aren't drawn.
 #![tactic(auto)]
 
+mod form;
 mod grammar;
 mod header;
 mod walk;
 
+pub use form::{draw, form_of};
 pub use grammar::{Component, Content, Family, Form, Name, Presence, Secrecy, Structure};
 pub use header::{Class, ElementFault, Header, Tag};
 pub use walk::{Place, Rows};

@@ -233,7 +233,7 @@ fn may_end(components: &[Component]) -> bool
 }
 
 /// Returns the structure that a content is.
-fn inside_of(content: Content) -> Option<Structure>
+pub(crate) fn inside_of(content: Content) -> Option<Structure>
     ensures { result ≡ inside_of content }
 {
     match content {
