@@ -1,4 +1,5 @@
 pub mod HeaderLemmas
 pub mod MaskLemmas
 pub mod PictureLemmas
+pub mod PictureMaskLemmas
 pub mod RowLemmas

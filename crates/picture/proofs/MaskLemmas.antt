@@ -92,10 +92,10 @@ zeros_no_step some (byte ∷ bytes) = none (fitting 0 some)
 
 -- ---- masks of contents
 
-zeros_len : (bytes : List ℕ) → length (zeros bytes) ≡ length bytes
+pub zeros_len : (bytes : List ℕ) → length (zeros bytes) ≡ length bytes
 zeros_len bytes = length-replicate (length bytes) 0
 
-content_len : (inner : Structure → List ℕ → List ℕ)
+pub content_len : (inner : Structure → List ℕ → List ℕ)
     → ((s : Structure) (x : List ℕ) → length (inner s x) ≡ length x) → (k : Content) (x : List ℕ)
     → length (masked_content inner k x) ≡ length x
 unfolding masked_content
@@ -123,7 +123,7 @@ admits_masked inner (contents.Of family) x is = is
 admits_masked inner contents.Point x is = refl
 admits_masked inner (contents.Inside s) x is = refl
 
-shown_same : (inner : Structure → List ℕ → List ℕ) (k : Content) (x : List ℕ)
+pub shown_same : (inner : Structure → List ℕ → List ℕ) (k : Content) (x : List ℕ)
     → shown_of k (masked_content inner k x) ≡ shown_of k x
 unfolding masked_content shown_of
 shown_same inner contents.Hidden x = refl
@@ -222,7 +222,7 @@ step_len bytes header content rest h =
 
 -- ---- masks
 
-inside_same : (whole : Structure → List ℕ → Bool) (inner : Structure → List ℕ → List ℕ)
+pub inside_same : (whole : Structure → List ℕ → Bool) (inner : Structure → List ℕ → List ℕ)
     → ((s : Structure) (x : List ℕ) → whole s (inner s x) ≡ whole s x) → (k : Content) (x : List ℕ)
     → inside_follows whole (inside_of k) (masked_content inner k x) ≡ inside_follows whole (inside_of k) x
 unfolding masked_content
@@ -234,7 +234,7 @@ inside_same whole inner same (contents.Of family) x = refl
 inside_same whole inner same contents.Point x = refl
 inside_same whole inner same (contents.Inside s) x = same s x
 
-rows_inside : (rows : Structure → List ℕ → List Row) (inner : Structure → List ℕ → List ℕ)
+pub rows_inside : (rows : Structure → List ℕ → List Row) (inner : Structure → List ℕ → List ℕ)
     → ((s : Structure) (x : List ℕ) → rows s (inner s x) ≡ rows s x) → (k : Content) (x : List ℕ)
     → inside_rows rows (inside_of k) (masked_content inner k x) ≡ inside_rows rows (inside_of k) x
 unfolding masked_content

@@ -1,11 +1,15 @@
 -- Bytes in which each that isn't shown is 0.
 use Rattle.std.specs.Prelude.{ℕ, zero, suc, if◌then◌else◌, Bool, List, [], ◌∷◌, ◌++◌, length}
 use Rattle.std.specs.Prelude.{take, drop, nat_le, replicate, Option, Some, None}
-use Rattle.picture.specs.Grammar.{Component, components}
+use Rattle.std.specs.Prelude.{◌≡◌, ◌+◌}
+use Rattle.picture.specs.Grammar.{Component, Form, components}
+use Rattle.picture.specs.Pictures.{root_at}
 use Rattle.picture.specs.Rows.{Step, follows, inside_follows, inside_of, step_at}
 use Rattle.picture.specs.declared.grammar.Content.{Content}
 use Rattle.picture.specs.declared.grammar.Content.TheVariants as contents
 use Rattle.picture.specs.declared.grammar.Structure.{Structure}
+use Rattle.picture.specs.declared.grammar.TheConstants as tables
+use Rattle.picture.specs.declared.header.Header.{Header}
 
 -- as many zeros
 abbrev pub zeros : List ℕ → List ℕ
@@ -40,3 +44,27 @@ masked (suc most) some bytes =
     (λ structure content. masked most (components structure) content)
     (λ others rest. masked most others rest)
     (step_at some bytes)
+
+-- the content of a root, whose elements are fewer than its bytes
+unfoldable pub content_mask : Content → List ℕ → List ℕ
+content_mask content bytes =
+    masked_content (λ structure inside. masked (length bytes + 1) (components structure) inside)
+    content bytes
+
+abbrev pub mask_with : Component → List ℕ → Option (Header × List ℕ × List ℕ) → List ℕ
+mask_with root bytes None = zeros bytes
+mask_with root bytes (Some found) =
+    take found.0.len bytes ++ (content_mask root.2 found.1 ++ zeros found.2)
+
+-- the mask of bytes as this form
+unfoldable pub mask_as : Form → List ℕ → List ℕ
+mask_as form bytes = mask_with form.0 bytes (root_at form.0.0 bytes)
+
+abbrev pub AreAlikeAs : List Form → List ℕ → List ℕ → Type 0
+AreAlikeAs [] a b = Unit {0}
+AreAlikeAs (form ∷ forms) a b = (mask_as form a ≡ mask_as form b) × AreAlikeAs forms a b
+
+-- Bytes differ in those alone that aren't shown of them, whichever form they have.
+pub record AreAlike (a b : List ℕ) : Type 0 where
+  pub first : mask_as tables.FIRST a ≡ mask_as tables.FIRST b
+  pub others : AreAlikeAs tables.OTHERS a b

@@ -6,6 +6,7 @@
 mod form;
 mod grammar;
 mod header;
+pub mod laws;
 mod walk;
 
 pub use form::{draw, form_of};
