@@ -1,4 +1,6 @@
+pub mod DerLemmas
 pub mod HeaderLemmas
+pub mod KeyLemmas
 pub mod MaskLemmas
 pub mod PictureLemmas
 pub mod PictureMaskLemmas

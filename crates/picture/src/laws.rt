@@ -1,7 +1,10 @@
 //! Laws of pictures, for callers to cite. Each law is the contract of a function, which does nothing
 //! else.
-ghost use Rattle.std.specs.Prelude.{◌≡◌, ◌+◌, ℕ, Bool, List, length};
+ghost use Rattle.std.specs.Prelude.{◌≡◌, ◌≤◌, ◌∷◌, [], ℕ, Bool, List, length};
 ghost use Rattle.picture.specs.Grammar.{Component, Form};
+ghost use Rattle.picture.specs.Headers.{max_content_len};
+ghost use Rattle.picture.specs.Keys.{AreLevels, AreParts, DifferIn, IsContent, container, integers};
+ghost use Rattle.picture.specs.Keys.{key_in, root_bytes, sequence};
 ghost use Rattle.picture.specs.Masks.{AreAlike, mask_as, masked};
 ghost use Rattle.picture.specs.Pictures.{form_of, is_whole, picture, rows_as};
 ghost use Rattle.picture.specs.Rows.{follows, rows_of};
@@ -30,4 +33,56 @@ pub fn pictures_are_of_masks()
     ensures form { (a b : List ℕ) → AreAlike a b → form_of a ≡ form_of b }
     ensures whole { (a b : List ℕ) → AreAlike a b
         → is_whole (form_of a) a ≡ is_whole (form_of b) b }
+{}
+
+/// Private keys that differ in one private number or string alone have the same masks, however the
+/// bytes go on, and wherever they end. A key with more of them, as of RSA, differs in one after the
+/// other.
+pub fn keys_are_unseen()
+    // RFC 5915 section 3: ECPrivateKey
+    ensures ec { (m n : ℕ) (version x y rest : List ℕ) → length version ≤ max_content_len
+        → DifferIn n x y → IsContent m (key_in [] ((0x02, version) ∷ []) 0x04 n x) rest
+        → AreAlike (root_bytes m (key_in [] ((0x02, version) ∷ []) 0x04 n x) rest)
+        (root_bytes m (key_in [] ((0x02, version) ∷ []) 0x04 n y) rest) }
+    // RFC 8017 appendix A.1.2: RSAPrivateKey, from the fourth number on; and the sixth of a DSA key
+    ensures number { (m n : ℕ) (numbers : List (List ℕ)) (x y rest : List ℕ)
+        → AreParts (integers numbers) → 3 ≤ length numbers → length numbers ≤ 8 → DifferIn n x y
+        → IsContent m (key_in [] (integers numbers) 0x02 n x) rest
+        → AreAlike (root_bytes m (key_in [] (integers numbers) 0x02 n x) rest)
+        (root_bytes m (key_in [] (integers numbers) 0x02 n y) rest) }
+    // RFC 5958 section 2: ECPrivateKey in PKCS #8
+    ensures contained_ec { (m n : ℕ) (version algorithm inner after x y rest : List ℕ)
+        → AreLevels (container version algorithm after ∷ sequence ∷ []) ((0x02, inner) ∷ []) 0x04
+        n x → DifferIn n x y
+        → IsContent m (key_in (container version algorithm after ∷ sequence ∷ [])
+        ((0x02, inner) ∷ []) 0x04 n x) rest
+        → AreAlike (root_bytes m (key_in (container version algorithm after ∷ sequence ∷ [])
+        ((0x02, inner) ∷ []) 0x04 n x) rest)
+        (root_bytes m (key_in (container version algorithm after ∷ sequence ∷ [])
+        ((0x02, inner) ∷ []) 0x04 n y) rest) }
+    // RSAPrivateKey in PKCS #8
+    ensures contained_rsa { (m n : ℕ) (version algorithm after : List ℕ)
+        (numbers : List (List ℕ)) (x y rest : List ℕ)
+        → AreLevels (container version algorithm after ∷ sequence ∷ []) (integers numbers) 0x02 n x
+        → 3 ≤ length numbers → length numbers ≤ 8 → DifferIn n x y
+        → IsContent m (key_in (container version algorithm after ∷ sequence ∷ [])
+        (integers numbers) 0x02 n x) rest
+        → AreAlike (root_bytes m (key_in (container version algorithm after ∷ sequence ∷ [])
+        (integers numbers) 0x02 n x) rest)
+        (root_bytes m (key_in (container version algorithm after ∷ sequence ∷ [])
+        (integers numbers) 0x02 n y) rest) }
+    // a DSA or Diffie-Hellman key in PKCS #8
+    ensures contained_number { (m n : ℕ) (version algorithm after x y rest : List ℕ)
+        → AreLevels (container version algorithm after ∷ []) [] 0x02 n x → DifferIn n x y
+        → IsContent m (key_in (container version algorithm after ∷ []) [] 0x02 n x) rest
+        → AreAlike
+        (root_bytes m (key_in (container version algorithm after ∷ []) [] 0x02 n x) rest)
+        (root_bytes m (key_in (container version algorithm after ∷ []) [] 0x02 n y) rest) }
+    // RFC 8410 section 7: CurvePrivateKey in PKCS #8
+    ensures contained_octets { (m n : ℕ) (version algorithm after x y rest : List ℕ)
+        → AreLevels (container version algorithm after ∷ []) [] 0x04 n x → DifferIn n x y
+        → IsContent m (key_in (container version algorithm after ∷ []) [] 0x04 n x) rest
+        → AreAlike
+        (root_bytes m (key_in (container version algorithm after ∷ []) [] 0x04 n x) rest)
+        (root_bytes m (key_in (container version algorithm after ∷ []) [] 0x04 n y) rest) }
 {}

@@ -1,0 +1,21 @@
+use Rattle.picture.proofs.KeyLemmas.{contained_ec_alike, contained_number_alike, contained_octets_alike}
+use Rattle.picture.proofs.KeyLemmas.{contained_rsa_alike, ec_alike, number_alike}
+use Rattle.picture.proofs.laws.keys_are_unseen.Goals as goal
+
+pub returns-clause-ec : goal.returns-clause-ec
+returns-clause-ec c = ec_alike
+
+pub returns-clause-number : goal.returns-clause-number
+returns-clause-number c = number_alike
+
+pub returns-clause-contained_ec : goal.returns-clause-contained_ec
+returns-clause-contained_ec c = contained_ec_alike
+
+pub returns-clause-contained_rsa : goal.returns-clause-contained_rsa
+returns-clause-contained_rsa c = contained_rsa_alike
+
+pub returns-clause-contained_number : goal.returns-clause-contained_number
+returns-clause-contained_number c = contained_number_alike
+
+pub returns-clause-contained_octets : goal.returns-clause-contained_octets
+returns-clause-contained_octets c = contained_octets_alike
