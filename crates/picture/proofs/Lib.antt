@@ -1,7 +1,9 @@
 pub mod DerLemmas
 pub mod HeaderLemmas
 pub mod KeyLemmas
+pub mod KeyOfLemmas
 pub mod MaskLemmas
 pub mod PictureLemmas
 pub mod PictureMaskLemmas
+pub mod RowLenLemmas
 pub mod RowLemmas

@@ -4,4 +4,5 @@ pub mod Headers
 pub mod Keys
 pub mod Masks
 pub mod Pictures
+pub mod RowLaws
 pub mod Rows

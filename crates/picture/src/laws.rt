@@ -1,12 +1,14 @@
 //! Laws of pictures, for callers to cite. Each law is the contract of a function, which does nothing
 //! else.
 ghost use Rattle.std.specs.Prelude.{◌≡◌, ◌≤◌, ◌∷◌, [], ℕ, Bool, List, length};
+ghost use Rattle.sec1.specs.Keys.{IsKeyOf, Key};
 ghost use Rattle.picture.specs.Grammar.{Component, Form};
 ghost use Rattle.picture.specs.Headers.{max_content_len};
 ghost use Rattle.picture.specs.Keys.{AreLevels, AreParts, DifferIn, IsContent, container, integers};
 ghost use Rattle.picture.specs.Keys.{key_in, root_bytes, sequence};
 ghost use Rattle.picture.specs.Masks.{AreAlike, mask_as, masked};
 ghost use Rattle.picture.specs.Pictures.{form_of, is_whole, picture, rows_as};
+ghost use Rattle.picture.specs.RowLaws.{AreAt, rows_len};
 ghost use Rattle.picture.specs.Rows.{follows, rows_of};
 ghost use Rattle.picture.specs.declared.walk.Place.{Place};
 
@@ -85,4 +87,18 @@ pub fn keys_are_unseen()
         → AreAlike
         (root_bytes m (key_in (container version algorithm after ∷ []) [] 0x04 n x) rest)
         (root_bytes m (key_in (container version algorithm after ∷ []) [] 0x04 n y) rest) }
+{}
+
+/// Keys with the same curve and public key, and private keys as long, have the same masks.
+pub fn keys_are_alike()
+    ensures { (k l : Key) (a b : List ℕ) → IsKeyOf k a → IsKeyOf l b
+        → k.parameters ≡ l.parameters → k.public_key ≡ l.public_key
+        → length k.private_key ≡ length l.private_key → length a ≤ max_content_len
+        → AreAlike a b }
+{}
+
+/// Each byte is in one row, and the rows are in order: each begins where those before it end.
+pub fn rows_are_bytes()
+    ensures len { (bytes : List ℕ) → rows_len (picture bytes) ≡ length bytes }
+    ensures order { (bytes : List ℕ) → AreAt 0 (picture bytes) }
 {}

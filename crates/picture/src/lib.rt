@@ -13,3 +13,6 @@ pub use form::{draw, form_of};
 pub use grammar::{Component, Content, Family, Form, Name, Presence, Secrecy, Structure};
 pub use header::{Class, ElementFault, Header, Tag};
 pub use walk::{Place, Rows};
+
+#[cfg(test)]
+mod tests;

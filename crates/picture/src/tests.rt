@@ -1,0 +1,104 @@
+//! Pictures of keys and other bytes, counted.
+ghost use Rattle.std.specs.Prelude.{◌≡◌};
+
+use crate::{Component, Form, Header, Name, Place, Rows, draw};
+
+/// What was told of a picture.
+#[derive(Drop)]
+struct Told {
+    /// The number of elements.
+    elements: usize,
+    /// The number of bytes of contents that are shown.
+    shown: usize,
+    /// The number of bytes that aren't drawn.
+    left: usize,
+}
+
+impl Rows for Told {
+    ghost tells = { λ _ _ _. Unit {0} };
+
+    fn element(
+        &mut self,
+        _place: Place,
+        _header: &Header,
+        _component: &Component,
+        _len: usize,
+        shown: &[u8],
+    ) {
+        self.elements = self.elements.saturating_add(1);
+        self.shown = self.shown.saturating_add(shown.len());
+    }
+
+    fn not_drawn(&mut self, _place: Place, _expected: &[Component], len: usize) {
+        self.left = self.left.saturating_add(len);
+    }
+
+    ghost nothing = { λ _. tt };
+
+    ghost joined = { λ _ _ _ _ _ _ _. tt };
+}
+
+/// Returns what is told of the bytes, and what they are.
+fn told(bytes: &[u8]) -> (Told, Form, bool) {
+    let mut told = Told {
+        elements: 0,
+        shown: 0,
+        left: 0,
+    };
+    let (form, is_whole) = draw(&mut told, bytes);
+    (told, form, is_whole)
+}
+
+/// The header of an ECPrivateKey on P-256, its version, and the header of its private key.
+const FRONT: [u8; 7] = [0x30, 0x77, 0x02, 0x01, 0x01, 0x04, 0x20];
+
+/// Its parameters, and the headers of its public key.
+const BACK: [u8; 18] = [
+    0xA0, 0x0A, 0x06, 0x08, 0x2A, 0x86, 0x48, 0xCE, 0x3D, 0x03, 0x01, 0x07, 0xA1, 0x44, 0x03, 0x42,
+    0x00, 0x04,
+];
+
+/// Returns a key, with 11 for each private byte and 22 for each byte of its point.
+fn key() -> [u8; 121] {
+    let mut key = [0x22u8; 121];
+    for (at, byte) in FRONT.iter().enumerate() {
+        key[at] = *byte;
+    }
+    for at in 7..39 {
+        key[at] = 0x11;
+    }
+    for (at, byte) in BACK.iter().enumerate() {
+        key[39 + at] = *byte;
+    }
+    key
+}
+
+#[test]
+fn draws_a_key(rt: HostRuntime) {
+    let (told, form, is_whole) = told(&key());
+    assert!(&rt; is_whole && form.0.3 == Name::EcPrivateKey);
+    // the root, the version, the private key, and two fields with an element each
+    assert!(&rt; told.elements == 7);
+    // the version, the identifier, and the first bytes of the point
+    assert!(&rt; told.shown == 1 + 8 + 2);
+    assert!(&rt; told.left == 0);
+}
+
+#[test]
+fn draws_a_key_up_to_its_fault(rt: HostRuntime) {
+    let mut bytes = key();
+    bytes[5] = 0x06;
+    let (told, _, is_whole) = told(&bytes);
+    assert!(&rt; !is_whole && told.elements == 0 && told.left == 121);
+    bytes[5] = 0x04;
+    bytes[39] = 0xA2;
+    let (told, form, is_whole) = self::told(&bytes);
+    assert!(&rt; !is_whole && form.0.3 == Name::EcPrivateKey);
+    assert!(&rt; told.elements == 3 && told.shown == 1 && told.left == 82);
+}
+
+#[test]
+fn draws_no_bytes_of_a_raw_key(rt: HostRuntime) {
+    let (told, _, is_whole) = told(&[0x30; 32]);
+    assert!(&rt; !is_whole && told.elements == 0 && told.shown == 0 && told.left == 32);
+}
