@@ -1,11 +1,14 @@
 //! Pictures of keys and other bytes, counted.
-ghost use Rattle.std.specs.Prelude.{◌≡◌};
+ghost use Rattle.std.specs.Prelude.{◌≡◌, ◌≤◌, List, ℕ, length};
+ghost use Rattle.sec1.specs.Keys.{IsKeyOf, Key};
+ghost use Rattle.picture.specs.Headers.{max_content_len};
+ghost use Rattle.picture.specs.Pictures.{form_of, picture};
 
-use crate::{Component, Form, Header, Name, Place, Rows, draw};
+use crate::{Component, Form, Header, Name, Place, Rows, draw, form_of, laws};
 
 /// What was told of a picture.
 #[derive(Drop)]
-struct Told {
+struct Tally {
     /// The number of elements.
     elements: usize,
     /// The number of bytes of contents that are shown.
@@ -14,7 +17,7 @@ struct Told {
     left: usize,
 }
 
-impl Rows for Told {
+impl Rows for Tally {
     ghost tells = { λ _ _ _. Unit {0} };
 
     fn element(
@@ -39,8 +42,8 @@ impl Rows for Told {
 }
 
 /// Returns what is told of the bytes, and what they are.
-fn told(bytes: &[u8]) -> (Told, Form, bool) {
-    let mut told = Told {
+fn told(bytes: &[u8]) -> (Tally, Form, bool) {
+    let mut told = Tally {
         elements: 0,
         shown: 0,
         left: 0,
@@ -101,4 +104,42 @@ fn draws_a_key_up_to_its_fault(rt: HostRuntime) {
 fn draws_no_bytes_of_a_raw_key(rt: HostRuntime) {
     let (told, _, is_whole) = told(&[0x30; 32]);
     assert!(&rt; !is_whole && told.elements == 0 && told.shown == 0 && told.left == 32);
+}
+
+/// Keys that differ in the private key alone: what is told of the second are the rows of the first.
+fn tell_of_another<R: Rows>(rows: &mut R, a: &[u8], b: &[u8])
+    ensures { (k l : Key) → IsKeyOf k a.now → IsKeyOf l b.now → k.parameters ≡ l.parameters
+        → k.public_key ≡ l.public_key → length k.private_key ≡ length l.private_key
+        → length a.now ≤ max_content_len → R.tells rows.old rows.new (picture a.now) }
+{
+    laws::keys_are_alike();
+    laws::pictures_are_of_masks();
+    draw(rows, b);
+}
+
+/// They have the same form.
+fn forms_of_two(a: &[u8], b: &[u8]) -> (Form, Form)
+    ensures { (k l : Key) → IsKeyOf k a.now → IsKeyOf l b.now → k.parameters ≡ l.parameters
+        → k.public_key ≡ l.public_key → length k.private_key ≡ length l.private_key
+        → length a.now ≤ max_content_len → result.0 ≡ result.1 }
+{
+    laws::keys_are_alike();
+    laws::pictures_are_of_masks();
+    (form_of(a), form_of(b))
+}
+
+#[test]
+fn draws_two_keys_alike(rt: HostRuntime) {
+    let one = key();
+    let mut other = one;
+    other[20] = 0x99;
+    let mut tally = Tally {
+        elements: 0,
+        shown: 0,
+        left: 0,
+    };
+    tell_of_another(&mut tally, &one, &other);
+    assert!(&rt; tally.elements == 7 && tally.shown == 11);
+    let (first, second) = forms_of_two(&one, &other);
+    assert!(&rt; first.0.3 == second.0.3);
 }
