@@ -35,7 +35,7 @@ step_begins : (some : List Component) (tag : ℕ) (tail more : List ℕ) (e : Op
 unfolding step_at
 step_begins some tag tail more e is = ap (λ (x : Option (Header × List ℕ × List ℕ)). step_with (fitting tag some) x) is
 
-step_front : (some : List Component) (tag n : ℕ) (front more : List ℕ) (found : Header)
+pub step_front : (some : List Component) (tag n : ℕ) (front more : List ℕ) (found : Header)
     (e : Option (Header × List ℕ × List ℕ)) → IsHead tag front found n → element_at (front ++ more) ≡ e
     → step_at some (front ++ more) ≡ step_with (fitting tag some) e
 step_front some tag n front more found e h is =
@@ -43,7 +43,7 @@ step_front some tag n front more found e h is =
     ∙ step_begins some tag h.tail more e (ap (λ (x : List ℕ). element_at (x ++ more)) (sym h.begins) ∙ is)
 
 -- the header of an element that is there, and of one that is cut
-element_there : (tag n : ℕ) (front content rest : List ℕ) (found : Header) → IsHead tag front found n
+pub element_there : (tag n : ℕ) (front content rest : List ℕ) (found : Header) → IsHead tag front found n
     → length content ≡ n → element_at (front ++ (content ++ rest)) ≡ Some (found, content, rest)
 element_there tag n front content rest found h size =
     let tail : drop found.len (front ++ (content ++ rest)) ≡ content ++ rest =
@@ -360,7 +360,7 @@ key_alike (level ∷ levels) before tag n x y most some (are, low, few, inner) d
 
 -- ---- whole inputs
 
-root_there : (m : ℕ) (content rest : List ℕ) → IsContent m content rest
+pub root_there : (m : ℕ) (content rest : List ℕ) → IsContent m content rest
     → root_at 0x30 (root_bytes m content rest) ≡ Some (der_header 0x30 m, content, rest)
 unfolding root_at
 root_there m content rest is =

@@ -12,29 +12,35 @@ use Rattle.picture.specs.Keys.{DifferIn, IsContent, key_in, root_bytes}
 use Rattle.picture.specs.Masks.{AreAlike}
 use Rattle.picture.proofs.KeyLemmas.{ec_alike, key_len}
 
-abbrev fields_of : Key → List Tree
+abbrev pub fields_of : Key → List Tree
 fields_of key =
     field 0 (option_map (λ arcs. leaf 0x06 (content_of arcs)) key.parameters)
     ++ field 1 (option_map (λ bytes. leaf 0x03 (0 ∷ bytes)) key.public_key)
 
 -- the bytes after the private key, and those inside the SEQUENCE
-abbrev after_key : Key → List ℕ
+abbrev pub after_key : Key → List ℕ
 after_key key = joined (forest (fields_of key))
 
-abbrev inside_key : ℕ → List ℕ → List ℕ
+abbrev pub inside_key : ℕ → List ℕ → List ℕ
 inside_key n x = key_in [] ((0x02, 1 ∷ []) ∷ []) 0x04 n x
 
-key_form : (key : Key) (a : List ℕ) → IsKeyOf key a
+pub content_same : (key : Key)
+    → element 0x02 (1 ∷ []) ++ (element 0x04 key.private_key ++ after_key key)
+    ≡ inside_key (length key.private_key) (key.private_key ++ after_key key)
+content_same key =
+    let n : ℕ = length key.private_key in
+    let x : List ℕ = key.private_key ++ after_key key in
+    ap (λ (b : List ℕ). element 0x02 (1 ∷ []) ++ b) (append_assoc (header 0x04 n) key.private_key (after_key key))
+    ∙ ap (λ (b : List ℕ). b ++ (header 0x04 n ++ x)) (sym (append-nil (element 0x02 (1 ∷ []))))
+
+pub key_form : (key : Key) (a : List ℕ) → IsKeyOf key a
     → a
     ≡ root_bytes (length (inside_key (length key.private_key) (key.private_key ++ after_key key)))
     (inside_key (length key.private_key) (key.private_key ++ after_key key)) []
 key_form key a is =
     let n : ℕ = length key.private_key in
     let x : List ℕ = key.private_key ++ after_key key in
-    let content : List ℕ = element 0x02 (1 ∷ []) ++ (element 0x04 key.private_key ++ after_key key) in
-    let same : content ≡ inside_key n x =
-    ap (λ (b : List ℕ). element 0x02 (1 ∷ []) ++ b) (append_assoc (header 0x04 n) key.private_key (after_key key))
-    ∙ ap (λ (b : List ℕ). b ++ (header 0x04 n ++ x)) (sym (append-nil (element 0x02 (1 ∷ [])))) in
+    let same = content_same key in
     is.tree.whole
     ∙ (ap (λ (b : List ℕ). header 0x30 (length b) ++ b) same
     ∙ ap (λ (b : List ℕ). header 0x30 (length (inside_key n x)) ++ b) (sym (append-nil (inside_key n x))))

@@ -1,5 +1,6 @@
 pub mod DerLemmas
 pub mod HeaderLemmas
+pub mod KeyFormLemmas
 pub mod KeyLemmas
 pub mod KeyOfLemmas
 pub mod MaskLemmas

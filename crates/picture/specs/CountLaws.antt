@@ -6,7 +6,7 @@ use Rattle.picture.specs.Rows.{Element, NotDrawn, Row}
 pub capped_none : (n : ℕ) → capped n ≡ capped (n + 0)
 capped_none n = let same : n + 0 ≡ n = omega arith in rw same refl
 
-left_join : (first second : List Row) → left_in (first ++ second) ≡ left_in first + left_in second
+pub left_join : (first second : List Row) → left_in (first ++ second) ≡ left_in first + left_in second
 left_join [] second = sym (omega arith)
 left_join (Element place h c len shown ∷ first) second = left_join first second
 left_join (NotDrawn place cs len ∷ first) second = omega (arith, left_join first second)

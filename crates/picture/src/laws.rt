@@ -1,6 +1,6 @@
 //! Laws of pictures, for callers to cite. Each law is the contract of a function, which does nothing
 //! else.
-ghost use Rattle.std.specs.Prelude.{◌≡◌, ◌≤◌, ◌∷◌, [], ℕ, Bool, List, length};
+ghost use Rattle.std.specs.Prelude.{◌≡◌, ◌≤◌, ◌∷◌, [], ℕ, Bool, true, List, length};
 ghost use Rattle.sec1.specs.Keys.{IsKeyOf, Key};
 ghost use Rattle.picture.specs.Grammar.{Component, Form};
 ghost use Rattle.picture.specs.Headers.{max_content_len};
@@ -10,6 +10,7 @@ ghost use Rattle.picture.specs.Masks.{AreAlike, mask_as, masked};
 ghost use Rattle.picture.specs.Pictures.{form_of, is_whole, picture, rows_as};
 ghost use Rattle.picture.specs.RowLaws.{AreAt, rows_len};
 ghost use Rattle.picture.specs.Rows.{follows, rows_of};
+ghost use Rattle.picture.specs.declared.grammar.TheConstants as tables;
 ghost use Rattle.picture.specs.declared.walk.Place.{Place};
 
 /// The rows of bytes are those of their mask, in which each byte that isn't shown is 0, and so is
@@ -95,6 +96,14 @@ pub fn keys_are_alike()
         → k.parameters ≡ l.parameters → k.public_key ≡ l.public_key
         → length k.private_key ≡ length l.private_key → length a ≤ max_content_len
         → AreAlike a b }
+{}
+
+/// The bytes of a key are known to be an ECPrivateKey, to the last one.
+pub fn keys_are_known()
+    ensures form { (key : Key) (a : List ℕ) → IsKeyOf key a → length a ≤ max_content_len
+        → form_of a ≡ tables.FIRST }
+    ensures whole { (key : Key) (a : List ℕ) → IsKeyOf key a → length a ≤ max_content_len
+        → is_whole (form_of a) a ≡ true }
 {}
 
 /// Each byte is in one row, and the rows are in order: each begins where those before it end.
