@@ -246,8 +246,7 @@ key_is key a is few =
     ap (λ (b : List ℕ). root_at 0x30 b) first ∙ root_there m content [] there in
     let known : content_follows (Some structures.EcPrivateKey) content ≡ true = inside_known key fits in
     let left : left_in (rows_as tables.FIRST false a) ≡ 0 =
-    whole_left tables.FIRST a (der_header 0x30 m) content root known in
-    (
+    whole_left tables.FIRST a (der_header 0x30 m) content root known in (
       rw (root, known, eq-eqb m m refl) refl,
       form_first a (ap capped left),
     )

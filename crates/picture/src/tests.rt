@@ -1,8 +1,9 @@
 //! Pictures of keys and other bytes, counted.
-ghost use Rattle.std.specs.Prelude.{◌≡◌, ◌≤◌, List, ℕ, length};
+ghost use Rattle.std.specs.Prelude.{◌≡◌, ◌≤◌, true, length};
 ghost use Rattle.sec1.specs.Keys.{IsKeyOf, Key};
 ghost use Rattle.picture.specs.Headers.{max_content_len};
 ghost use Rattle.picture.specs.Pictures.{form_of, picture};
+ghost use Rattle.picture.specs.declared.grammar.TheConstants as tables;
 
 use crate::{Component, Form, Header, Name, Place, Rows, draw, form_of, laws};
 
@@ -128,6 +129,17 @@ fn forms_of_two(a: &[u8], b: &[u8]) -> (Form, Form)
     (form_of(a), form_of(b))
 }
 
+/// A key's picture says that it is one.
+fn of_key<R: Rows>(rows: &mut R, bytes: &[u8]) -> (Form, bool)
+    ensures form { (key : Key) → IsKeyOf key bytes.now → length bytes.now ≤ max_content_len
+        → result.0 ≡ tables.FIRST }
+    ensures whole { (key : Key) → IsKeyOf key bytes.now → length bytes.now ≤ max_content_len
+        → result.1 ≡ true }
+{
+    laws::keys_are_known();
+    draw(rows, bytes)
+}
+
 #[test]
 fn draws_two_keys_alike(rt: HostRuntime) {
     let one = key();
@@ -142,4 +154,6 @@ fn draws_two_keys_alike(rt: HostRuntime) {
     assert!(&rt; tally.elements == 7 && tally.shown == 11);
     let (first, second) = forms_of_two(&one, &other);
     assert!(&rt; first.0.3 == second.0.3);
+    let (form, is_whole) = of_key(&mut tally, &other);
+    assert!(&rt; is_whole && form.0.3 == Name::EcPrivateKey);
 }
