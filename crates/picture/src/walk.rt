@@ -1,6 +1,6 @@
 //! The rows of bytes.
 ghost use Rattle.std.specs.Prelude.{◌≡◌, ◌+◌, ◌<◌, ◌≤◌, ◌^◌, ◌++◌, ◌∷◌, [], List, length};
-ghost use Rattle.std.specs.Prelude.{IfSome, option_map};
+ghost use Rattle.std.specs.Prelude.{IfSome, nat_lt, not, option_map, ◌&&◌};
 ghost use Rattle.picture.specs.Rows.{Row, Step, admits, comes_again, element_at, ends, fitting};
 ghost use Rattle.picture.specs.Rows.{follows, has_tag, inside_of, is_of, may_be_absent, may_end, rows_of, shown_of};
 ghost use Rattle.picture.specs.Rows.{step_at, step_of};
@@ -20,6 +20,16 @@ pub struct Place {
     pub end: usize,
     /// Whether all contents are known to be public.
     pub is_public: bool,
+}
+
+impl Place {
+    /// Returns `true` if a content of so many bytes, of which these are shown, may hold private
+    /// bytes: all of them aren't shown, nor known to be public.
+    pub fn hides(self, len: usize, shown: &[u8]) -> bool
+        ensures { result ≡ (not self.is_public && nat_lt (length shown.now) len) }
+    {
+        !self.is_public && shown.len() < len
+    }
 }
 
 /// Who is told of rows: a printer, a counter, lines in memory.
