@@ -1,8 +1,8 @@
 -- Headers in DER are headers.
-use Rattle.std.proofs.Common.{◌≡◌, ℕ, zero, suc, ◌+◌, ◌-◌, ◌/◌, ◌%◌, ◌==◌, ◌≤◌, ⊎_elim, Bool, true, false, List, []}
-use Rattle.std.proofs.Common.{◌∷◌, ◌++◌, length, take, drop, if◌then◌else◌, refl, sym, ap, ◌∙◌, arith, Some, Ok, Err}
-use Rattle.std.proofs.Common.{not, ◌&&◌, ◌||◌, lt-ltb, ne_eqb, length-append}
-use Rattle.std.proofs.lemmas.Bool.{and_parts, cases_Bool, cases_lt}
+use Rattle.std.proofs.Common.{◌≡◌, ℕ, suc, ◌+◌, ◌-◌, ◌/◌, ◌%◌, ◌==◌, ◌≤◌, ⊎_elim, Bool, true, false, List}
+use Rattle.std.proofs.Common.{◌∷◌, ◌++◌, length, take, if◌then◌else◌, refl, arith, Some, Ok, Err}
+use Rattle.std.proofs.Common.{not, ◌||◌, lt-ltb, ne_eqb, length-append}
+use Rattle.std.proofs.lemmas.Bool.{and_parts, cases_lt}
 use Rattle.std.proofs.lemmas.Bool.Decides.{nat_tests}
 use Rattle.std.proofs.lemmas.Int.Digits.{length-digits_of_step, length-digits_of-le, number_digits_of}
 use Rattle.std.proofs.lemmas.List.{take_at}

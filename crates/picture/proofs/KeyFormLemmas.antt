@@ -1,6 +1,6 @@
 -- A key is an ECPrivateKey, whole.
-use Rattle.std.proofs.Common.{◌≡◌, ◌==◌, ◌&&◌, ◌||◌, ℕ, zero, suc, ◌+◌, ◌-◌, ◌<◌, ◌≤◌, inl, Bool, true, false, List, [], ◌∷◌, ◌++◌}
-use Rattle.std.proofs.Common.{length, refl, sym, ap, ap₂, ◌∙◌, Option, Some, None, arith, eq-eqb, append-nil, append_assoc, subst}
+use Rattle.std.proofs.Common.{◌≡◌, ℕ, zero, suc, ◌+◌, ◌-◌, ◌≤◌, inl, Bool, true, false, List, [], ◌∷◌, ◌++◌}
+use Rattle.std.proofs.Common.{length, refl, sym, ap, ◌∙◌, Option, Some, None, arith, eq-eqb, append-nil, append_assoc, subst}
 use Rattle.std.proofs.lemmas.Bool.{and_parts}
 use Rattle.std.proofs.lemmas.Bool.Decides.{nat_tests}
 use Rattle.std.proofs.lemmas.List.{length-append}
@@ -18,7 +18,7 @@ use Rattle.picture.specs.Headers.{max_content_len}
 use Rattle.picture.specs.Keys.{IsContent, is_low, root_bytes}
 use Rattle.picture.specs.Pictures.{best, better, capped, content_follows, content_rows, first_place, form_of, is_whole}
 use Rattle.picture.specs.Pictures.{left_as, left_in, root_at, rows_as}
-use Rattle.picture.specs.Rows.{Element, Row, Step, admits, ends, fitting, follows, follows_by, inside_follows, inside_of}
+use Rattle.picture.specs.Rows.{Row, Step, admits, fitting, follows, follows_by, inside_follows, inside_of}
 use Rattle.picture.specs.Rows.{inside_rows, may_end, rows_by, rows_of, step_at}
 use Rattle.picture.specs.declared.grammar.Content.TheVariants as contents
 use Rattle.picture.specs.declared.grammar.Name.TheVariants as names

@@ -1,26 +1,24 @@
 -- Masks of private keys.
-use Rattle.std.proofs.Common.{◌≡◌, ◌==◌, ◌&&◌, ◌||◌, not, ℕ, zero, suc, ◌+◌, ◌-◌, ◌<◌, ◌≤◌, ◌⊎◌, inl, inr, Bool, true, false}
-use Rattle.std.proofs.Common.{List, [], ◌∷◌, ◌++◌, length, take, drop, refl, sym, ap, ap₂, ◌∙◌, Option, Some, None, Ok, Err}
-use Rattle.std.proofs.Common.{Result, arith, nat_le, le-leb, length-append, append_assoc, append-nil, take-append-drop}
-use Rattle.std.proofs.Common.{⊎_elim, subst}
+use Rattle.std.proofs.Common.{◌≡◌, ◌==◌, ◌&&◌, ◌||◌, not, ℕ, zero, suc, ◌+◌, ◌<◌, ◌≤◌, inl, inr, Bool, true, false}
+use Rattle.std.proofs.Common.{List, [], ◌∷◌, ◌++◌, length, take, drop, refl, sym, ap, ap₂, ◌∙◌, Option, Some, None, Ok}
+use Rattle.std.proofs.Common.{arith, nat_le, le-leb, length-append, append_assoc, append-nil, take-append-drop}
+use Rattle.std.proofs.Common.{⊎_elim}
 use Rattle.std.proofs.lemmas.Bool.{and_parts, cases_Bool, cases_lt, lt-leb}
 use Rattle.std.proofs.lemmas.Bool.Decides.{nat_tests}
-use Rattle.std.proofs.lemmas.List.{length-take-le, length-drop, length-replicate, take_at, drop_at, take_all}
-use Rattle.std.specs.Prelude.{if◌then◌else◌, replicate}
+use Rattle.std.proofs.lemmas.List.{length-take-le, length-drop, take_at, drop_at, take_all}
 use Rattle.sec1_der.specs.Elements.{element, header}
 use Rattle.picture.specs.Grammar.{Component, Form, components}
 use Rattle.picture.specs.Headers.{header_of, max_content_len}
 use Rattle.picture.specs.Keys.{AreLevels, AreParts, DifferIn, IsContent, Level, Part, container, integers}
 use Rattle.picture.specs.Keys.{is_low, key_in, parts_bytes, root_bytes, sequence}
-use Rattle.picture.specs.Masks.{AreAlike, AreAlikeAs, content_mask, mask_as, mask_with, masked, masked_by, masked_content, zeros}
-use Rattle.picture.specs.Pictures.{root_at, root_by, root_parts}
-use Rattle.picture.specs.Rows.{Step, admits, element_at, element_by, fitting, follows, inside_follows, inside_of, parts_by}
+use Rattle.picture.specs.Masks.{AreAlike, AreAlikeAs, content_mask, mask_as, masked, masked_by, masked_content, zeros}
+use Rattle.picture.specs.Pictures.{root_at}
+use Rattle.picture.specs.Rows.{Step, admits, element_at, fitting, follows, inside_follows, inside_of}
 use Rattle.picture.specs.Rows.{step_at, step_with}
 use Rattle.picture.specs.declared.grammar.Content.{Content}
 use Rattle.picture.specs.declared.grammar.Content.TheVariants as contents
 use Rattle.picture.specs.declared.grammar.Structure.{Structure}
 use Rattle.picture.specs.declared.grammar.TheConstants as tables
-use Rattle.picture.specs.declared.header.ElementFault.{ElementFault}
 use Rattle.picture.specs.declared.header.Header.{Header}
 use Rattle.picture.proofs.DerLemmas.{IsHead, der_header, head_in_der}
 use Rattle.picture.proofs.MaskLemmas.{follows_masked, inside_same}

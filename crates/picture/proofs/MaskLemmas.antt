@@ -1,8 +1,8 @@
 -- The rows of bytes are those of their mask.
-use Rattle.std.proofs.Common.{◌≡◌, ◌==◌, ◌&&◌, ◌||◌, ℕ, zero, suc, ◌+◌, ◌-◌, ◌≤◌, Bool, true, false, List, [], ◌∷◌, ◌++◌}
+use Rattle.std.proofs.Common.{◌≡◌, ◌&&◌, ℕ, zero, suc, ◌+◌, ◌≤◌, Bool, true, false, List, [], ◌∷◌, ◌++◌}
 use Rattle.std.proofs.Common.{length, take, drop, refl, sym, ap, ap₂, ◌∙◌, Option, Some, None, Ok, Err, Result}
-use Rattle.std.proofs.Common.{nat_le, leb-true, le-leb, length-append, append_assoc, take-append-drop, ⊎_elim, arith}
-use Rattle.std.proofs.lemmas.Bool.{and_parts, cases_Bool}
+use Rattle.std.proofs.Common.{nat_le, leb-true, le-leb, length-append, take-append-drop, ⊎_elim, arith}
+use Rattle.std.proofs.lemmas.Bool.{cases_Bool}
 use Rattle.std.proofs.lemmas.List.{length-replicate, length-take-le, length-drop, take_at, drop_at}
 use Rattle.std.specs.Prelude.{if◌then◌else◌}
 use Rattle.picture.specs.Grammar.{Component, components}

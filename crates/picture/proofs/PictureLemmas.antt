@@ -2,7 +2,7 @@
 use Rattle.std.proofs.Common.{◌≡◌, ◌+◌, ◌<◌, ◌^◌, ℕ, List, [], ◌∷◌, ◌++◌, length, refl, Some, Bool, if◌then◌else◌, arith}
 use Rattle.picture.specs.Grammar.{Form}
 use Rattle.picture.specs.Pictures.{capped, content_follows, content_rows, first_place, rest_rows, root_at, rows_as}
-use Rattle.picture.specs.Rows.{Element, Row, inside_of, shown_of}
+use Rattle.picture.specs.Rows.{Element, inside_of, shown_of}
 use Rattle.picture.specs.declared.header.Header.{Header}
 
 -- of bytes that begin with a root: its own, those inside it and, if all inside it follows, that after it

@@ -1,17 +1,17 @@
 -- The picture of bytes is that of all which have the same masks.
 use Rattle.std.proofs.Common.{◌≡◌, ◌==◌, ◌&&◌, ◌||◌, ℕ, zero, suc, ◌+◌, ◌-◌, ◌<◌, ◌≤◌, Bool, true, false, List, [], ◌∷◌, ◌++◌}
 use Rattle.std.proofs.Common.{length, take, drop, refl, sym, ap, ap₂, ◌∙◌, Option, Some, None, Ok, Err, Result, arith}
-use Rattle.std.proofs.Common.{nat_le, length-append, append_assoc, append-nil, take-append-drop, ⊎_elim}
-use Rattle.std.proofs.lemmas.Bool.{cases_Bool, cases_lt}
-use Rattle.std.proofs.lemmas.List.{length-replicate, length-take-le, length-drop, take_at, drop_at, take_all}
+use Rattle.std.proofs.Common.{nat_le, length-append, append-nil, take-append-drop, ⊎_elim}
+use Rattle.std.proofs.lemmas.Bool.{cases_lt}
+use Rattle.std.proofs.lemmas.List.{length-take-le, length-drop, take_at, drop_at, take_all}
 use Rattle.std.specs.Prelude.{if◌then◌else◌, nat_lt}
 use Rattle.picture.specs.Grammar.{Component, Form, components}
 use Rattle.picture.specs.Headers.{header_of}
-use Rattle.picture.specs.Masks.{AreAlike, AreAlikeAs, content_mask, mask_as, mask_with, masked, masked_content, zeros}
+use Rattle.picture.specs.Masks.{AreAlike, AreAlikeAs, content_mask, mask_as, mask_with, masked, zeros}
 use Rattle.picture.specs.Pictures.{best, better, capped, content_follows, content_rows, first_place, form_of, holds_no_key}
-use Rattle.picture.specs.Pictures.{is_empty, is_known, is_there, is_whole, left_as, left_in, parts_as, parts_in, picture}
+use Rattle.picture.specs.Pictures.{is_empty, is_known, is_whole, left_as, left_in, parts_as, parts_in, picture}
 use Rattle.picture.specs.Pictures.{picture_as, rest_rows, root_at, root_by, root_parts, rows_as, rows_with, whole_by}
-use Rattle.picture.specs.Rows.{Element, NotDrawn, Row, follows, inside_follows, inside_of, inside_rows, rows_of, shown_of}
+use Rattle.picture.specs.Rows.{Row, follows, inside_follows, inside_of, inside_rows, rows_of, shown_of}
 use Rattle.picture.specs.declared.grammar.Content.{Content}
 use Rattle.picture.specs.declared.grammar.Structure.{Structure}
 use Rattle.picture.specs.declared.grammar.TheConstants as tables

@@ -1,8 +1,8 @@
 -- The rows of bytes, one element at a time.
-use Rattle.std.proofs.Common.{◌≡◌, ◌<◌, ◌+◌, ◌-◌, ℕ, zero, suc, List, [], ◌∷◌, ◌++◌, length, refl, arith}
+use Rattle.std.proofs.Common.{◌≡◌, ◌<◌, ◌-◌, ℕ, zero, suc, List, [], ◌∷◌, ◌++◌, length, refl, arith}
 use Rattle.std.proofs.Common.{Some, Bool, if◌then◌else◌}
 use Rattle.picture.specs.Grammar.{Component, components}
-use Rattle.picture.specs.Rows.{Element, Row, Step, after, follows, inside, inside_follows, inside_of, inside_rows}
+use Rattle.picture.specs.Rows.{Element, Step, after, follows, inside, inside_follows, inside_of, inside_rows}
 use Rattle.picture.specs.Rows.{rows_of, shown_of, step_at}
 use Rattle.picture.specs.declared.grammar.Structure.{Structure}
 use Rattle.picture.specs.declared.walk.Place.{Place}

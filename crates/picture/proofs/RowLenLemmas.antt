@@ -1,6 +1,6 @@
 -- Each byte is in one row, and the rows are in order.
 use Rattle.std.proofs.Common.{◌≡◌, ℕ, zero, suc, ◌+◌, ◌-◌, ◌≤◌, ◌&&◌, Bool, true, false, List, [], ◌∷◌, ◌++◌, length, refl}
-use Rattle.std.proofs.Common.{sym, ap, ◌∙◌, Option, Some, None, arith, subst}
+use Rattle.std.proofs.Common.{sym, Option, Some, None, arith, subst}
 use Rattle.std.specs.Prelude.{if◌then◌else◌}
 use Rattle.picture.specs.Grammar.{Component, Form, components}
 use Rattle.picture.specs.Pictures.{content_follows, content_rows, first_place, form_of, holds_no_key, is_known, is_whole}

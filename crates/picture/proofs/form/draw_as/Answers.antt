@@ -1,6 +1,6 @@
-use Rattle.std.proofs.Common.{rules, ◌≡◌, ◌+◌, ◌∷◌, ◌++◌, [], List, ℕ, Some, Option, length, true, false, sym, ◌∙◌, Bool}
+use Rattle.std.proofs.Common.{rules, ◌≡◌, ◌∷◌, [], List, ℕ, Some, Option, length, true, false}
 use Rattle.std.proofs.Common.{append-nil}
-use Rattle.picture.specs.Pictures.{content_follows, content_rows, first_place, rest_rows, root_at, rows_as}
+use Rattle.picture.specs.Pictures.{content_follows, content_rows, first_place, root_at}
 use Rattle.picture.specs.Rows.{Element, Row, inside_of, shown_of}
 use Rattle.picture.specs.declared.grammar.Structure.{Structure}
 use Rattle.picture.specs.declared.header.Header.{Header}

@@ -1,7 +1,7 @@
-use Rattle.std.proofs.Common.{◌≡◌, ◌+◌, ◌∙◌, List, ℕ, Bool, Some, sym, ap, length, subst}
+use Rattle.std.proofs.Common.{◌≡◌, ◌+◌, ◌∙◌, List, Some, ap, length, subst}
 use Rattle.picture.specs.Grammar.{Component, components}
 use Rattle.picture.specs.Pictures.{content_follows, content_rows}
-use Rattle.picture.specs.Rows.{Row, follows, rows_of}
+use Rattle.picture.specs.Rows.{follows, rows_of}
 use Rattle.picture.proofs.form.draw_content.Goals as goal
 
 pub returns-in-Some-clause-rows : goal.returns-in-Some-clause-rows

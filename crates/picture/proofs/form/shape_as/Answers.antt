@@ -1,4 +1,4 @@
-use Rattle.std.proofs.Common.{◌≡◌, ◌<◌, ◌^◌, ℕ, false}
+use Rattle.std.proofs.Common.{◌<◌, ◌^◌, false}
 use Rattle.picture.specs.Pictures.{left_as, left_in, parts_as, parts_in, rows_as}
 use Rattle.picture.proofs.PictureLemmas.{counted}
 use Rattle.picture.proofs.form.shape_as.Goals as goal

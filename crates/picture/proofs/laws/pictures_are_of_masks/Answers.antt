@@ -1,4 +1,4 @@
-use Rattle.std.proofs.Common.{◌∙◌, ap, List, ℕ}
+use Rattle.std.proofs.Common.{◌∙◌, ap}
 use Rattle.picture.specs.Grammar.{Form}
 use Rattle.picture.specs.Pictures.{is_whole}
 use Rattle.picture.proofs.PictureMaskLemmas.{forms_alike, picture_alike, whole_alike}

@@ -1,7 +1,7 @@
-use Rattle.std.proofs.Common.{rules, ◌≡◌, ◌+◌, ◌<◌, ◌∷◌, ◌++◌, [], List, ℕ, ◌-◌, Some, None, length, true, false, sym}
-use Rattle.std.proofs.Common.{◌∙◌, Bool, Option, refl, ap, arith, append-nil}
+use Rattle.std.proofs.Common.{rules, ◌≡◌, ◌<◌, ◌∷◌, [], List, ℕ, ◌-◌, Some, None, length, true, false, sym}
+use Rattle.std.proofs.Common.{◌∙◌, Bool, Option, refl, append-nil}
 use Rattle.picture.specs.Grammar.{components}
-use Rattle.picture.specs.Rows.{Element, Row, Step, after, follows, inside, inside_follows, inside_of, inside_rows}
+use Rattle.picture.specs.Rows.{Element, Row, Step, follows, inside, inside_follows, inside_of, inside_rows}
 use Rattle.picture.specs.Rows.{rows_of, shown_of, step_at, step_of}
 use Rattle.picture.specs.declared.grammar.Structure.{Structure}
 use Rattle.picture.proofs.RowLemmas.{rows_step}
