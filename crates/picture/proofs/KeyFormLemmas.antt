@@ -1,6 +1,7 @@
 -- A key is an ECPrivateKey, whole.
 use Rattle.std.proofs.Common.{◌≡◌, ℕ, zero, suc, ◌+◌, ◌-◌, ◌≤◌, inl, Bool, true, false, List, [], ◌∷◌, ◌++◌}
-use Rattle.std.proofs.Common.{length, refl, sym, ap, ◌∙◌, Option, Some, None, arith, eq-eqb, append-nil, append_assoc, subst}
+use Rattle.std.proofs.Common.{length, refl, sym, ap, ◌∙◌, Option, Some, None, arith, eq-eqb, append-nil, append_assoc}
+use Rattle.std.proofs.Common.{subst}
 use Rattle.std.proofs.lemmas.Bool.{and_parts}
 use Rattle.std.proofs.lemmas.Bool.Decides.{nat_tests}
 use Rattle.std.proofs.lemmas.List.{length-append}
@@ -173,8 +174,10 @@ fields_follow m (Some arcs) q few =
     omega (arith, length-append (element 0xA0 inner) (public_bytes q), few) in
     let name : follows (suc (suc (suc m))) (components structures.CurveName) inner ≡ true =
     follows_there (suc (suc m)) (components structures.CurveName) 0x06 content []
-    (0x06, presences.Needed, contents.Shown 12, names.NamedCurve) [] refl (omega (arith, deep, within)) refl refl refl in
-    follows_there (suc (suc (suc m))) (curve_row ∷ point_row ∷ []) 0xA0 inner (public_bytes q) curve_row (point_row ∷ [])
+    (0x06, presences.Needed, contents.Shown 12, names.NamedCurve) [] refl (omega
+    (arith, deep, within)) refl refl refl in
+    follows_there (suc (suc (suc m))) (curve_row ∷ point_row ∷ []) 0xA0 inner (public_bytes q) curve_row
+    (point_row ∷ [])
     refl within refl refl name
     ∙ public_follows m (point_row ∷ []) q refl refl last
 
@@ -188,21 +191,25 @@ key_follows m private_key p q few =
     let last : length (fields_bytes p q) ≤ max_content_len =
     omega (arith, length-append (element 0x04 private_key) (fields_bytes p q), few) in
     follows_there (suc (suc (suc (suc (suc m))))) (components structures.EcPrivateKey) 0x02 (1 ∷ [])
-    (element 0x04 private_key ++ fields_bytes p q) version_row (key_row ∷ curve_row ∷ point_row ∷ []) refl (omega arith) refl
+    (element 0x04 private_key ++ fields_bytes p q) version_row (key_row ∷ curve_row ∷ point_row ∷ []) refl
+    (omega arith) refl
     refl refl
-    ∙ (follows_there (suc (suc (suc (suc m)))) (key_row ∷ curve_row ∷ point_row ∷ []) 0x04 private_key (fields_bytes p q)
+    ∙ (follows_there (suc (suc (suc (suc m)))) (key_row ∷ curve_row ∷ point_row ∷ []) 0x04 private_key
+    (fields_bytes p q)
     key_row (curve_row ∷ point_row ∷ []) refl (omega (arith, long, few)) refl refl refl
     ∙ fields_follow m p q last)
 
 octets_some : (n : ℕ) → 1 ≤ length (length_octets n)
 unfolding length_octets
-octets_some n = choice (nat_lt n 128) (n ∷ []) ((0x80 + length (digits_of 256 n)) ∷ digits_of 256 n) (omega arith) (omega arith)
+octets_some n = choice (nat_lt n 128) (n ∷ []) ((0x80 + length (digits_of 256 n)) ∷ digits_of 256 n) (omega arith)
+    (omega arith)
   where
     choice : (test : Bool) (a b : List ℕ) → 1 ≤ length a → 1 ≤ length b → 1 ≤ length (if test then a else b)
     choice true a b one two = one
     choice false a b one two = two
 
-inside_known : (key : Key) → length (inside_key (length key.private_key) (key.private_key ++ after_key key)) ≤ max_content_len
+inside_known : (key : Key) → length (inside_key (length key.private_key) (key.private_key
+    ++ after_key key)) ≤ max_content_len
     → content_follows (Some structures.EcPrivateKey)
     (inside_key (length key.private_key) (key.private_key ++ after_key key)) ≡ true
 unfolding content_follows

@@ -72,7 +72,8 @@ whole_same : (most : ℕ) (k : Content) (a b : List ℕ) → SameMask most k a b
 whole_same most k a b alike =
     let whole : Structure → List ℕ → Bool = λ s x. follows most (components s) x in
     let inner : Structure → List ℕ → List ℕ = λ s x. masked most (components s) x in
-    let kept : (s : Structure) (x : List ℕ) → whole s (inner s x) ≡ whole s x = λ s x. follows_masked most (components s) x in
+    let kept : (s : Structure) (x : List ℕ) → whole s (inner s x)
+    ≡ whole s x = λ s x. follows_masked most (components s) x in
     sym (inside_same whole inner kept k a)
     ∙ (ap (λ (x : List ℕ). inside_follows whole (inside_of k) x) alike.same ∙ inside_same whole inner kept k b)
 
@@ -235,10 +236,12 @@ passing holds (part ∷ parts) (suc most) some s t (low, few, are) size alike is
     let u : List ℕ = parts_bytes parts ++ s in
     let v : List ℕ = parts_bytes parts ++ t in
     let len : length u ≡ length v = append_len (parts_bytes parts) s t size in
-    let joined : (x : List ℕ) → ((front ++ part.1) ++ parts_bytes parts) ++ x ≡ front ++ (part.1 ++ (parts_bytes parts ++ x)) =
+    let joined : (x : List ℕ) → ((front ++ part.1) ++ parts_bytes parts) ++ x ≡ front ++ (part.1
+    ++ (parts_bytes parts ++ x)) =
     λ x. append_assoc (front ++ part.1) (parts_bytes parts) x ∙ append_assoc front part.1 (parts_bytes parts ++ x) in
     ap (λ (x : List ℕ). masked (suc most) some x) (joined s)
-    ∙ (step_alike most (length part.1) some part.0 front part.1 part.1 u v (der_header part.0 (length part.1)) h refl refl len
+    ∙ (step_alike most (length part.1) some part.0 front part.1 part.1 u v (der_header part.0
+    (length part.1)) h refl refl len
     (λ c others fits. (
       record { admitted = refl; same = refl },
       passing holds parts most others s t are size alike
@@ -287,7 +290,8 @@ last_alike (suc most) some tag n x y low differ is =
     let two : length (take n y) ≡ n = take_same n x y differ.len fits in
     let rest : length (drop n x) ≡ length (drop n y) = ap length differ.after in
     ap (λ (z : List ℕ). masked (suc most) some (header tag n ++ z)) (sym (take-append-drop n x))
-    ∙ (step_alike most n some tag (header tag n) (take n x) (take n y) (drop n x) (drop n y) (der_header tag n) h one two rest
+    ∙ (step_alike most n some tag (header tag n) (take n x) (take n y) (drop n x) (drop n y)
+    (der_header tag n) h one two rest
     (λ c others found. (
       hidden_same most c.2 (take n x) (take n y)
           (ap (λ (o : Option (Component × List Component)). hidden_at o) (sym found) ∙ is) (one ∙ sym two),
@@ -324,10 +328,12 @@ key_alike (level ∷ levels) before tag n x y most some (are, low, few, inner) d
     let b : List ℕ = key_in levels before tag n y in
     let size : length a ≡ length b = key_len levels before tag n x y differ.len in
     let len : length (element level.tag a ++ level.after) ≡ length (element level.tag b ++ level.after) =
-    both_len (element level.tag a) (element level.tag b) level.after level.after (element_len level.tag a b size) refl in
+    both_len (element level.tag a) (element level.tag b) level.after level.after
+    (element_len level.tag a b size) refl in
     let holds : List Component → Bool =
     λ cs. inside_at (λ s. blind levels before tag (components s)) (fitting level.tag cs) in
-    passing holds level.before most some (element level.tag a ++ level.after) (element level.tag b ++ level.after) are len
+    passing holds level.before most some (element level.tag a ++ level.after) (element level.tag b
+    ++ level.after) are len
     (λ least cs found. level_alike least cs a b size few low
     (λ depth s known. key_alike levels before tag n x y depth (components s) inner differ known) found)
     is
@@ -340,16 +346,19 @@ key_alike (level ∷ levels) before tag n x y most some (are, low, few, inner) d
         → masked least cs (element level.tag a ++ level.after) ≡ masked least cs (element level.tag b ++ level.after)
     level_alike zero cs a b size few low alike found =
         zeros_same (element level.tag a ++ level.after) (element level.tag b ++ level.after)
-        (both_len (element level.tag a) (element level.tag b) level.after level.after (element_len level.tag a b size) refl)
+        (both_len (element level.tag a) (element level.tag b) level.after level.after
+        (element_len level.tag a b size) refl)
     level_alike (suc least) cs a b size few low alike found =
         let front : List ℕ = header level.tag (length a) in
         let h = head_in_der level.tag (length a) low few in
         ap (λ (z : List ℕ). masked (suc least) cs z) (append_assoc front a level.after)
-        ∙ (step_alike least (length a) cs level.tag front a b level.after level.after (der_header level.tag (length a)) h refl
+        ∙ (step_alike least (length a) cs level.tag front a b level.after level.after (der_header level.tag
+        (length a)) h refl
         (sym size) refl
         (λ c others fits. (
           content_same (λ s. blind levels before tag (components s)) least c.2 a b
-              (ap (λ (o : Option (Component × List Component)). inside_at (λ s. blind levels before tag (components s)) o)
+              (ap (λ (o : Option (Component × List Component)). inside_at (λ s. blind levels before tag
+              (components s)) o)
               (sym fits) ∙ found) size (λ s known. alike least s known),
           refl,
         ))
@@ -426,7 +435,8 @@ form_alike holds form m a b rest is size alike known = ⊎_elim
           inr (omega (arith, size, few), cut.1))
           is.there;
     } in
-    let one : root_at form.0.0 (root_bytes m a rest) ≡ Some (der_header 0x30 m, a, rest) = rw tag (root_there m a rest is) in
+    let one : root_at form.0.0 (root_bytes m a rest)
+    ≡ Some (der_header 0x30 m, a, rest) = rw tag (root_there m a rest is) in
     let two : root_at form.0.0 (root_bytes m b rest) ≡ Some (der_header 0x30 m, b, rest) =
     rw tag (root_there m b rest other) in
     let h = head_in_der 0x30 m refl is.few in
@@ -437,7 +447,8 @@ form_alike holds form m a b rest is size alike known = ⊎_elim
     rw (one, two, front_a, front_b, root_mask_same holds form.0.2 a b inner size alike) refl)
     (λ (e : (form.0.0 == 0x30) ≡ false).
     rw (root_other form.0.0 m a rest e, root_other form.0.0 m b rest e)
-    (zeros_same (root_bytes m a rest) (root_bytes m b rest) (append_len (header 0x30 m) (a ++ rest) (b ++ rest) (both_len a b rest rest size refl))))
+    (zeros_same (root_bytes m a rest) (root_bytes m b rest) (append_len (header 0x30 m) (a ++ rest) (b
+    ++ rest) (both_len a b rest rest size refl))))
     (cases_Bool (form.0.0 == 0x30))
 
 forms_alike : (holds : Structure → Bool) (forms : List Form) (m : ℕ) (a b rest : List ℕ) → IsContent m a rest
@@ -461,7 +472,8 @@ key_forms levels before tag m n x y rest are differ is first others =
     record {
       first = form_alike holds tables.FIRST m (key_in levels before tag n x) (key_in levels before tag n y) rest is size
           (λ most s known. key_alike levels before tag n x y most (components s) are differ known) first;
-      others = forms_alike holds tables.OTHERS m (key_in levels before tag n x) (key_in levels before tag n y) rest is size
+      others = forms_alike holds tables.OTHERS m (key_in levels before tag n x)
+          (key_in levels before tag n y) rest is size
           (λ most s known. key_alike levels before tag n x y most (components s) are differ known) others;
     }
 
@@ -476,7 +488,8 @@ ec_alike m n version x y rest few differ is =
 
 -- of INTEGERs the fourth to the ninth: RSAPrivateKey, and the sixth of a DSA key
 pub number_alike : (m n : ℕ) (numbers : List (List ℕ)) (x y rest : List ℕ) → AreParts (integers numbers)
-    → 3 ≤ length numbers → length numbers ≤ 8 → DifferIn n x y → IsContent m (key_in [] (integers numbers) 0x02 n x) rest
+    → 3 ≤ length numbers → length numbers ≤ 8 → DifferIn n x y
+    → IsContent m (key_in [] (integers numbers) 0x02 n x) rest
     → AreAlike (root_bytes m (key_in [] (integers numbers) 0x02 n x) rest)
     (root_bytes m (key_in [] (integers numbers) 0x02 n y) rest)
 unfolding components
@@ -501,11 +514,13 @@ number_alike m n (a ∷ b ∷ c ∷ d ∷ e ∷ f ∷ g ∷ h ∷ i ∷ more) x 
 pub contained_ec_alike : (m n : ℕ) (version algorithm inner after x y rest : List ℕ)
     → AreLevels (container version algorithm after ∷ sequence ∷ []) ((0x02, inner) ∷ []) 0x04 n x → DifferIn n x y
     → IsContent m (key_in (container version algorithm after ∷ sequence ∷ []) ((0x02, inner) ∷ []) 0x04 n x) rest
-    → AreAlike (root_bytes m (key_in (container version algorithm after ∷ sequence ∷ []) ((0x02, inner) ∷ []) 0x04 n x) rest)
+    → AreAlike (root_bytes m (key_in (container version algorithm after ∷ sequence ∷ [])
+    ((0x02, inner) ∷ []) 0x04 n x) rest)
     (root_bytes m (key_in (container version algorithm after ∷ sequence ∷ []) ((0x02, inner) ∷ []) 0x04 n y) rest)
 unfolding components
 contained_ec_alike m n version algorithm inner after x y rest are differ is =
-    key_forms (container version algorithm after ∷ sequence ∷ []) ((0x02, inner) ∷ []) 0x04 m n x y rest are differ is refl refl
+    key_forms (container version algorithm after ∷ sequence ∷ [])
+    ((0x02, inner) ∷ []) 0x04 m n x y rest are differ is refl refl
 
 pub contained_number_alike : (m n : ℕ) (version algorithm after x y rest : List ℕ)
     → AreLevels (container version algorithm after ∷ []) [] 0x02 n x → DifferIn n x y
@@ -530,23 +545,31 @@ pub contained_rsa_alike : (m n : ℕ) (version algorithm after : List ℕ) (numb
     → AreLevels (container version algorithm after ∷ sequence ∷ []) (integers numbers) 0x02 n x
     → 3 ≤ length numbers → length numbers ≤ 8 → DifferIn n x y
     → IsContent m (key_in (container version algorithm after ∷ sequence ∷ []) (integers numbers) 0x02 n x) rest
-    → AreAlike (root_bytes m (key_in (container version algorithm after ∷ sequence ∷ []) (integers numbers) 0x02 n x) rest)
+    → AreAlike (root_bytes m (key_in (container version algorithm after ∷ sequence ∷ [])
+    (integers numbers) 0x02 n x) rest)
     (root_bytes m (key_in (container version algorithm after ∷ sequence ∷ []) (integers numbers) 0x02 n y) rest)
 unfolding components
 contained_rsa_alike m n version algorithm after [] x y rest are some few differ is = absurd (omega arith)
 contained_rsa_alike m n version algorithm after (a ∷ []) x y rest are some few differ is = absurd (omega arith)
 contained_rsa_alike m n version algorithm after (a ∷ b ∷ []) x y rest are some few differ is = absurd (omega arith)
 contained_rsa_alike m n version algorithm after (a ∷ b ∷ c ∷ []) x y rest are some few differ is =
-    key_forms (container version algorithm after ∷ sequence ∷ []) (integers (a ∷ b ∷ c ∷ [])) 0x02 m n x y rest are differ is refl refl
+    key_forms (container version algorithm after ∷ sequence ∷ []) (integers
+    (a ∷ b ∷ c ∷ [])) 0x02 m n x y rest are differ is refl refl
 contained_rsa_alike m n version algorithm after (a ∷ b ∷ c ∷ d ∷ []) x y rest are some few differ is =
-    key_forms (container version algorithm after ∷ sequence ∷ []) (integers (a ∷ b ∷ c ∷ d ∷ [])) 0x02 m n x y rest are differ is refl refl
+    key_forms (container version algorithm after ∷ sequence ∷ []) (integers
+    (a ∷ b ∷ c ∷ d ∷ [])) 0x02 m n x y rest are differ is refl refl
 contained_rsa_alike m n version algorithm after (a ∷ b ∷ c ∷ d ∷ e ∷ []) x y rest are some few differ is =
-    key_forms (container version algorithm after ∷ sequence ∷ []) (integers (a ∷ b ∷ c ∷ d ∷ e ∷ [])) 0x02 m n x y rest are differ is refl refl
+    key_forms (container version algorithm after ∷ sequence ∷ []) (integers
+    (a ∷ b ∷ c ∷ d ∷ e ∷ [])) 0x02 m n x y rest are differ is refl refl
 contained_rsa_alike m n version algorithm after (a ∷ b ∷ c ∷ d ∷ e ∷ f ∷ []) x y rest are some few differ is =
-    key_forms (container version algorithm after ∷ sequence ∷ []) (integers (a ∷ b ∷ c ∷ d ∷ e ∷ f ∷ [])) 0x02 m n x y rest are differ is refl refl
+    key_forms (container version algorithm after ∷ sequence ∷ []) (integers
+    (a ∷ b ∷ c ∷ d ∷ e ∷ f ∷ [])) 0x02 m n x y rest are differ is refl refl
 contained_rsa_alike m n version algorithm after (a ∷ b ∷ c ∷ d ∷ e ∷ f ∷ g ∷ []) x y rest are some few differ is =
-    key_forms (container version algorithm after ∷ sequence ∷ []) (integers (a ∷ b ∷ c ∷ d ∷ e ∷ f ∷ g ∷ [])) 0x02 m n x y rest are differ is refl refl
+    key_forms (container version algorithm after ∷ sequence ∷ []) (integers
+    (a ∷ b ∷ c ∷ d ∷ e ∷ f ∷ g ∷ [])) 0x02 m n x y rest are differ is refl refl
 contained_rsa_alike m n version algorithm after (a ∷ b ∷ c ∷ d ∷ e ∷ f ∷ g ∷ h ∷ []) x y rest are some few differ is =
-    key_forms (container version algorithm after ∷ sequence ∷ []) (integers (a ∷ b ∷ c ∷ d ∷ e ∷ f ∷ g ∷ h ∷ [])) 0x02 m n x y rest are differ is refl refl
-contained_rsa_alike m n version algorithm after (a ∷ b ∷ c ∷ d ∷ e ∷ f ∷ g ∷ h ∷ i ∷ more) x y rest are some few differ is =
+    key_forms (container version algorithm after ∷ sequence ∷ []) (integers
+    (a ∷ b ∷ c ∷ d ∷ e ∷ f ∷ g ∷ h ∷ [])) 0x02 m n x y rest are differ is refl refl
+contained_rsa_alike m n version algorithm after
+    (a ∷ b ∷ c ∷ d ∷ e ∷ f ∷ g ∷ h ∷ i ∷ more) x y rest are some few differ is =
     absurd (omega arith)

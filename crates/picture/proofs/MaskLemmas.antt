@@ -8,7 +8,8 @@ use Rattle.std.specs.Prelude.{if◌then◌else◌}
 use Rattle.picture.specs.Grammar.{Component, components}
 use Rattle.picture.specs.Headers.{header_of}
 use Rattle.picture.specs.Masks.{masked, masked_by, masked_content, zeros}
-use Rattle.picture.specs.Rows.{Element, Row, Step, admits, after, element_at, element_by, ends, fitting, follows, follows_by}
+use Rattle.picture.specs.Rows.{Element, Row, Step, admits, after, element_at, element_by, ends, fitting, follows}
+use Rattle.picture.specs.Rows.{follows_by}
 use Rattle.picture.specs.Rows.{inside, inside_follows, inside_of, inside_rows, parts_by, rows_by, rows_of, shown_of}
 use Rattle.picture.specs.Rows.{step_at, step_with}
 use Rattle.picture.specs.declared.grammar.Content.{Content}

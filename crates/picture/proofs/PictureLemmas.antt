@@ -1,5 +1,6 @@
 -- What bytes are, and their picture.
-use Rattle.std.proofs.Common.{◌≡◌, ◌+◌, ◌<◌, ◌^◌, ℕ, List, [], ◌∷◌, ◌++◌, length, refl, Some, Bool, if◌then◌else◌, arith}
+use Rattle.std.proofs.Common.{◌≡◌, ◌+◌, ◌<◌, ◌^◌, ℕ, List, [], ◌∷◌, ◌++◌, length, refl, Some, Bool, if◌then◌else◌}
+use Rattle.std.proofs.Common.{arith}
 use Rattle.picture.specs.Grammar.{Form}
 use Rattle.picture.specs.Pictures.{capped, content_follows, content_rows, first_place, rest_rows, root_at, rows_as}
 use Rattle.picture.specs.Rows.{Element, inside_of, shown_of}

@@ -1,5 +1,6 @@
 -- The picture of bytes is that of all which have the same masks.
-use Rattle.std.proofs.Common.{◌≡◌, ◌==◌, ◌&&◌, ◌||◌, ℕ, zero, suc, ◌+◌, ◌-◌, ◌<◌, ◌≤◌, Bool, true, false, List, [], ◌∷◌, ◌++◌}
+use Rattle.std.proofs.Common.{◌≡◌, ◌==◌, ◌&&◌, ◌||◌, ℕ, zero, suc, ◌+◌, ◌-◌, ◌<◌, ◌≤◌, Bool, true, false, List, [], ◌∷◌}
+use Rattle.std.proofs.Common.{◌++◌}
 use Rattle.std.proofs.Common.{length, take, drop, refl, sym, ap, ap₂, ◌∙◌, Option, Some, None, Ok, Err, Result, arith}
 use Rattle.std.proofs.Common.{nat_le, length-append, append-nil, take-append-drop, ⊎_elim}
 use Rattle.std.proofs.lemmas.Bool.{cases_lt}
@@ -8,7 +9,8 @@ use Rattle.std.specs.Prelude.{if◌then◌else◌, nat_lt}
 use Rattle.picture.specs.Grammar.{Component, Form, components}
 use Rattle.picture.specs.Headers.{header_of}
 use Rattle.picture.specs.Masks.{AreAlike, AreAlikeAs, content_mask, mask_as, mask_with, masked, zeros}
-use Rattle.picture.specs.Pictures.{best, better, capped, content_follows, content_rows, first_place, form_of, holds_no_key}
+use Rattle.picture.specs.Pictures.{best, better, capped, content_follows, content_rows, first_place, form_of}
+use Rattle.picture.specs.Pictures.{holds_no_key}
 use Rattle.picture.specs.Pictures.{is_empty, is_known, is_whole, left_as, left_in, parts_as, parts_in, picture}
 use Rattle.picture.specs.Pictures.{picture_as, rest_rows, root_at, root_by, root_parts, rows_as, rows_with, whole_by}
 use Rattle.picture.specs.Rows.{Row, follows, inside_follows, inside_of, inside_rows, rows_of, shown_of}
@@ -19,7 +21,8 @@ use Rattle.picture.specs.declared.header.ElementFault.{ElementFault}
 use Rattle.picture.specs.declared.header.Header.{Header}
 use Rattle.picture.specs.declared.walk.Place.{Place}
 use Rattle.picture.proofs.HeaderLemmas.{header_front, header_within}
-use Rattle.picture.proofs.MaskLemmas.{content_len, follows_masked, inside_same, masked_len, rows_inside, rows_masked, shown_same}
+use Rattle.picture.proofs.MaskLemmas.{content_len, follows_masked, inside_same, masked_len, rows_inside, rows_masked}
+use Rattle.picture.proofs.MaskLemmas.{shown_same}
 use Rattle.picture.proofs.MaskLemmas.{zeros_len}
 
 -- ---- the root
@@ -112,7 +115,8 @@ root_here expected tag tail content rest header true (Ok h) fits at is =
           header_front front (drop h.len bytes) (m ++ r) h old (omega (arith, len)) in
           let back : drop h.len (front ++ (m ++ r)) ≡ m ++ r = drop_at front (m ++ r) h.len len in
           let made : root_parts (front ++ (m ++ r)) h h.content_len ≡ (header, m, r) =
-          parts_again (drop h.len bytes) m r content rest h header bytes (front ++ (m ++ r)) h.content_len refl back parts
+          parts_again (drop h.len bytes) m r content rest h header bytes (front ++ (m
+          ++ r)) h.content_len refl back parts
           one two in
           ap (λ (n : ℕ). root_at expected (take n bytes ++ (m ++ r))) (sym same)
           ∙ root_begins expected tag h.len tail (m ++ r) (root_by (front ++ (m ++ r)) (Ok h)) known.0 fits

@@ -1,12 +1,15 @@
 -- Each byte is in one row, and the rows are in order.
-use Rattle.std.proofs.Common.{◌≡◌, ℕ, zero, suc, ◌+◌, ◌-◌, ◌≤◌, ◌&&◌, Bool, true, false, List, [], ◌∷◌, ◌++◌, length, refl}
+use Rattle.std.proofs.Common.{◌≡◌, ℕ, zero, suc, ◌+◌, ◌-◌, ◌≤◌, ◌&&◌, Bool, true, false, List, [], ◌∷◌, ◌++◌, length}
+use Rattle.std.proofs.Common.{refl}
 use Rattle.std.proofs.Common.{sym, Option, Some, None, arith, subst}
 use Rattle.std.specs.Prelude.{if◌then◌else◌}
 use Rattle.picture.specs.Grammar.{Component, Form, components}
-use Rattle.picture.specs.Pictures.{content_follows, content_rows, first_place, form_of, holds_no_key, is_known, is_whole}
+use Rattle.picture.specs.Pictures.{content_follows, content_rows, first_place, form_of, holds_no_key, is_known}
+use Rattle.picture.specs.Pictures.{is_whole}
 use Rattle.picture.specs.Pictures.{picture, picture_as, rest_rows, root_at, rows_as, rows_with}
 use Rattle.picture.specs.RowLaws.{AreAt, offset_of, own_len, row_len, rows_len}
-use Rattle.picture.specs.Rows.{Element, NotDrawn, Row, Step, after, ends, follows, follows_by, inside, inside_follows, inside_of}
+use Rattle.picture.specs.Rows.{Element, NotDrawn, Row, Step, after, ends, follows, follows_by, inside, inside_follows}
+use Rattle.picture.specs.Rows.{inside_of}
 use Rattle.picture.specs.Rows.{inside_rows, rows_by, rows_of, shown_of, step_at}
 use Rattle.picture.specs.declared.grammar.Structure.{Structure}
 use Rattle.picture.specs.declared.header.Header.{Header}
@@ -59,7 +62,8 @@ joined_len : (offset end head own inner content rest len : ℕ) (whole more : Bo
 joined_len offset end head own inner content rest len true more row within next is row_is parts all fits one two =
     let size : rows_len within ≡ inner = one.size in
     let first : offset + row_len row ≡ offset + head + own = omega (arith, row_is) in
-    let second : offset + head + content ≡ offset + row_len row + rows_len within = omega (arith, row_is, size, parts) in
+    let second : offset + head + content
+    ≡ offset + row_len row + rows_len within = omega (arith, row_is, size, parts) in
     record {
       size = last more two.size;
       order = (
@@ -78,7 +82,11 @@ joined_len offset end head own inner content rest len false more row within next
     let first : offset + row_len row ≡ offset + head + own = omega (arith, row_is) in
     record {
       size = omega (arith, size, rows_len_join within [], row_is, parts, all, fits);
-      order = (is, at_join (offset + row_len row) within [] (subst (λ (n : ℕ). AreAt n within) (sym first) one.order) tt);
+      order = (
+        is,
+        at_join (offset + row_len row) within [] (subst (λ (n : ℕ). AreAt n within)
+            (sym first) one.order) tt,
+      );
     }
 
 no_len : (some : List Component) (bytes : List ℕ) → ends some bytes ≡ true → length bytes ≡ 0
@@ -117,7 +125,8 @@ rows_by_len place some bytes whole more within next (Some step) is fits inner ot
     (inside_rows (within (inside place step)) k step.content) (next (after place step) step.others step.rest) refl refl
     (own_and_inner k n) len fits first second
 
-rows_of_len : (most : ℕ) (place : Place) (some : List Component) (bytes : List ℕ) → place.offset + length bytes ≤ place.end
+rows_of_len : (most : ℕ) (place : Place) (some : List Component) (bytes : List ℕ)
+    → place.offset + length bytes ≤ place.end
     → AreRowsOf place.offset place.end (length bytes) (follows most some bytes) (rows_of most place some bytes)
 rows_of_len zero place some bytes fits = record { size = omega arith; order = (refl, tt) }
 rows_of_len (suc most) place some bytes fits =

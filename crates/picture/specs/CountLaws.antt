@@ -1,20 +1,24 @@
 -- Bytes that aren't drawn and elements of the root, counted row by row.
-use Rattle.std.proofs.Common.{◌≡◌, ℕ, ◌+◌, ◌==◌, List, [], ◌∷◌, ◌++◌, refl, sym, arith, Bool, true, false, if◌then◌else◌}
+use Rattle.std.proofs.Common.{◌≡◌, ℕ, ◌+◌, ◌==◌, List, [], ◌∷◌, ◌++◌, refl, sym, arith, Bool, true}
+use Rattle.std.proofs.Common.{false, if◌then◌else◌}
 use Rattle.picture.specs.Pictures.{capped, left_in, parts_in}
 use Rattle.picture.specs.Rows.{Element, NotDrawn, Row}
 
 pub capped_none : (n : ℕ) → capped n ≡ capped (n + 0)
 capped_none n = let same : n + 0 ≡ n = omega arith in rw same refl
 
-pub left_join : (first second : List Row) → left_in (first ++ second) ≡ left_in first + left_in second
+pub left_join : (first second : List Row) → left_in (first ++ second)
+    ≡ left_in first + left_in second
 left_join [] second = sym (omega arith)
 left_join (Element place h c len shown ∷ first) second = left_join first second
 left_join (NotDrawn place cs len ∷ first) second = omega (arith, left_join first second)
 
-parts_join : (first second : List Row) → parts_in (first ++ second) ≡ parts_in first + parts_in second
+parts_join : (first second : List Row) → parts_in (first ++ second)
+    ≡ parts_in first + parts_in second
 parts_join [] second = sym (omega arith)
 parts_join (Element place h c len shown ∷ first) second =
-    chosen (place.depth == 1) (parts_in first) (parts_in second) (parts_in (first ++ second)) (parts_join first second)
+    chosen (place.depth == 1) (parts_in first) (parts_in second) (parts_in (first
+    ++ second)) (parts_join first second)
   where
     chosen : (test : Bool) (a b n : ℕ) → n ≡ a + b
         → (if test then 1 + n else n) ≡ (if test then 1 + a else a) + b

@@ -54,7 +54,8 @@ AreParts (part ∷ parts) =
 abbrev pub AreLevels : List Level → List Part → ℕ → ℕ → List ℕ → Type 0
 AreLevels [] before tag n x = AreParts before × (is_low tag ≡ true)
 AreLevels (level ∷ levels) before tag n x =
-    AreParts level.before × (is_low level.tag ≡ true) × (length (key_in levels before tag n x) ≤ max_content_len)
+    AreParts level.before × (is_low level.tag
+    ≡ true) × (length (key_in levels before tag n x) ≤ max_content_len)
     × AreLevels levels before tag n x
 
 -- RFC 8017 appendix A.1.2: INTEGERs with these contents

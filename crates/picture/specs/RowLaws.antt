@@ -10,7 +10,8 @@ own_len (Some structure) len = 0
 
 -- the number of bytes that a row is of: a header, and a content unless that has other rows
 abbrev pub row_len : Row → ℕ
-row_len (Element place header component len shown) = header.len + own_len (inside_of component.2) len
+row_len (Element place header component len shown) = header.len + own_len
+    (inside_of component.2) len
 row_len (NotDrawn place expected len) = len
 
 abbrev pub rows_len : List Row → ℕ

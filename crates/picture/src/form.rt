@@ -3,7 +3,8 @@ ghost use Rattle.std.specs.Prelude.{◌≡◌, ◌+◌, ◌++◌, ◌∷◌, ◌
 ghost use Rattle.std.specs.Prelude.{IfSome, option_map};
 ghost use Rattle.picture.specs.CountLaws.{capped_left, capped_none, capped_parts};
 ghost use Rattle.picture.specs.Pictures.{best, better, capped, content_follows, content_rows};
-ghost use Rattle.picture.specs.Pictures.{form_of, holds_no_key, is_there, is_whole, left_as, left_in};
+ghost use Rattle.picture.specs.Pictures.{form_of, holds_no_key, is_there, is_whole, left_as};
+ghost use Rattle.picture.specs.Pictures.{left_in};
 ghost use Rattle.picture.specs.Pictures.{parts_as, parts_in, picture, rest_rows, root_at, rows_as};
 ghost use Rattle.picture.specs.Rows.{Row};
 

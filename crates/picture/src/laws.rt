@@ -1,5 +1,5 @@
-//! Laws of pictures, for callers to cite. Each law is the contract of a function, which does nothing
-//! else.
+//! Laws of pictures, for callers to cite. Each law is the contract of a function, which does
+//! nothing else.
 ghost use Rattle.std.specs.Prelude.{◌≡◌, ◌≤◌, ◌∷◌, [], ℕ, Bool, true, List, length};
 ghost use Rattle.sec1.specs.Keys.{IsKeyOf, Key};
 ghost use Rattle.picture.specs.Grammar.{Component, Form};

@@ -2,7 +2,8 @@
 ghost use Rattle.std.specs.Prelude.{◌≡◌, ◌+◌, ◌<◌, ◌≤◌, ◌^◌, ◌++◌, ◌∷◌, [], List, length};
 ghost use Rattle.std.specs.Prelude.{IfSome, nat_lt, not, option_map, ◌&&◌};
 ghost use Rattle.picture.specs.Rows.{Row, Step, admits, comes_again, element_at, ends, fitting};
-ghost use Rattle.picture.specs.Rows.{follows, has_tag, inside_of, is_of, may_be_absent, may_end, rows_of, shown_of};
+ghost use Rattle.picture.specs.Rows.{follows, has_tag, inside_of, is_of, may_be_absent, may_end};
+ghost use Rattle.picture.specs.Rows.{rows_of, shown_of};
 ghost use Rattle.picture.specs.Rows.{step_at, step_of};
 ghost use Rattle.picture.specs.Rows.Row.{Element, NotDrawn};
 
@@ -136,7 +137,8 @@ pub(crate) fn follow<R: Rows>(
 fn step_at<'a>(components: &'a [Component], bytes: &'a [u8]) -> Option<Next<'a>>
     ensures exact { option_map step_of result ≡ step_at components.now bytes.now }
     ensures within { IfSome result
-        (λ next. next.header.len + length next.content.now + length next.rest.now ≡ length bytes.now) }
+        (λ next. next.header.len + length next.content.now + length next.rest.now
+        ≡ length bytes.now) }
 {
     let [tag, ..] = bytes else {
         return None;

@@ -20,7 +20,8 @@ unfolding content_follows
 returns-in-Some-clause-whole g c =
     let same : c.components.result.now ≡ components c.in-Some.structure = c.components.ensures in
     let some : c.args.structure ≡ Some c.in-Some.structure = c.in-Some.is in
-    let told : c.follow.result ≡ follows (length c.args.content.now + 1) (components c.in-Some.structure) c.args.content.now =
+    let told : c.follow.result ≡ follows (length c.args.content.now + 1)
+    (components c.in-Some.structure) c.args.content.now =
     c.follow.ensures.whole
     ∙ ap (λ (cs : List Component). follows (length c.args.content.now + 1) cs c.args.content.now) same in
     rw some told
