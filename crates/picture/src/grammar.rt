@@ -5,6 +5,20 @@ ghost use Rattle.picture.specs.Grammar.{components, identifiers};
 
 use Content::{Hidden, Inside, Of, Point, Short, Shown, Version};
 use Presence::{Many, Needed, Optional};
+use Structure::{
+    Algorithm, CertId, Certificate, CertificateList, CertificationRequest,
+    CertificationRequestInfo, ContentInfo, Curve, CurveName, DhAlgorithm, DhKeyInfo, DhParameter,
+    DigestInfo, DistinguishedName, DomainParameters, DsaAlgorithm, DsaKeyInfo, DsaParameters,
+    DsaPrivateKey, EcAlgorithm, EcKey, EcKeyInfo, EcParameters, EcPrivateKey, EcPublicKeyInfo,
+    EdwardsAlgorithm, Extension, Extensions, ExtensionsField, FieldId, KeyInfo, KeyPackage,
+    MacData, MdAlgorithm, MdInfo, NameAttribute, NumberKey, OcspRequest, OcspResponse, OctetKey,
+    OctetKeyInfo, PbeAlgorithm, PbeKeyInfo, PbesAlgorithm, PbesKeyInfo, Pfx, PkiStatusInfo,
+    PublicKeyInfo, PublicPoint, RelativeName, Request, RequestList, ResponseBytes,
+    ResponseBytesField, RevokedCertificate, RevokedCertificates, RsaAlgorithm, RsaKey, RsaKeyInfo,
+    RsaPrivateKey, RsaPublicKey, SafeBag, SafeContents, Sha1Algorithm, Sha1Info, ShaAlgorithm,
+    ShaInfo, Signature, TbsCertList, TbsCertificate, TbsRequest, TimeStampReq, TimeStampResp,
+    Validity, VersionField, X942Algorithm, X942KeyInfo,
+};
 
 /// Whether an element may be absent.
 #[derive(Clone, Copy, PartialEq, Eq)]
@@ -435,18 +449,8 @@ pub enum Structure {
 const EC_PRIVATE_KEY: [Component; 4] = [
     (0x02, Needed, Version, Name::Version),
     (0x04, Needed, Hidden, Name::PrivateKey),
-    (
-        0xA0,
-        Optional,
-        Inside(Structure::CurveName),
-        Name::Parameters,
-    ),
-    (
-        0xA1,
-        Optional,
-        Inside(Structure::PublicPoint),
-        Name::PublicKey,
-    ),
+    (0xA0, Optional, Inside(CurveName), Name::Parameters),
+    (0xA1, Optional, Inside(PublicPoint), Name::PublicKey),
 ];
 
 const CURVE_NAME: [Component; 1] = [(0x06, Needed, Shown(12), Name::NamedCurve)];
@@ -455,13 +459,8 @@ const PUBLIC_POINT: [Component; 1] = [(0x03, Needed, Point, Name::Point)];
 
 const EC_KEY_INFO: [Component; 5] = [
     (0x02, Needed, Version, Name::Version),
-    (
-        0x30,
-        Needed,
-        Inside(Structure::EcAlgorithm),
-        Name::PrivateKeyAlgorithm,
-    ),
-    (0x04, Needed, Inside(Structure::EcKey), Name::PrivateKey),
+    (0x30, Needed, Inside(EcAlgorithm), Name::PrivateKeyAlgorithm),
+    (0x04, Needed, Inside(EcKey), Name::PrivateKey),
     (0xA0, Optional, Hidden, Name::Attributes),
     (0x81, Optional, Point, Name::PublicKey),
 ];
@@ -471,10 +470,10 @@ const RSA_KEY_INFO: [Component; 5] = [
     (
         0x30,
         Needed,
-        Inside(Structure::RsaAlgorithm),
+        Inside(RsaAlgorithm),
         Name::PrivateKeyAlgorithm,
     ),
-    (0x04, Needed, Inside(Structure::RsaKey), Name::PrivateKey),
+    (0x04, Needed, Inside(RsaKey), Name::PrivateKey),
     (0xA0, Optional, Hidden, Name::Attributes),
     (0x81, Optional, Hidden, Name::PublicKey),
 ];
@@ -484,23 +483,18 @@ const DSA_KEY_INFO: [Component; 5] = [
     (
         0x30,
         Needed,
-        Inside(Structure::DsaAlgorithm),
+        Inside(DsaAlgorithm),
         Name::PrivateKeyAlgorithm,
     ),
-    (0x04, Needed, Inside(Structure::NumberKey), Name::PrivateKey),
+    (0x04, Needed, Inside(NumberKey), Name::PrivateKey),
     (0xA0, Optional, Hidden, Name::Attributes),
     (0x81, Optional, Hidden, Name::PublicKey),
 ];
 
 const DH_KEY_INFO: [Component; 5] = [
     (0x02, Needed, Version, Name::Version),
-    (
-        0x30,
-        Needed,
-        Inside(Structure::DhAlgorithm),
-        Name::PrivateKeyAlgorithm,
-    ),
-    (0x04, Needed, Inside(Structure::NumberKey), Name::PrivateKey),
+    (0x30, Needed, Inside(DhAlgorithm), Name::PrivateKeyAlgorithm),
+    (0x04, Needed, Inside(NumberKey), Name::PrivateKey),
     (0xA0, Optional, Hidden, Name::Attributes),
     (0x81, Optional, Hidden, Name::PublicKey),
 ];
@@ -510,10 +504,10 @@ const X942_KEY_INFO: [Component; 5] = [
     (
         0x30,
         Needed,
-        Inside(Structure::X942Algorithm),
+        Inside(X942Algorithm),
         Name::PrivateKeyAlgorithm,
     ),
-    (0x04, Needed, Inside(Structure::NumberKey), Name::PrivateKey),
+    (0x04, Needed, Inside(NumberKey), Name::PrivateKey),
     (0xA0, Optional, Hidden, Name::Attributes),
     (0x81, Optional, Hidden, Name::PublicKey),
 ];
@@ -523,22 +517,17 @@ const OCTET_KEY_INFO: [Component; 5] = [
     (
         0x30,
         Needed,
-        Inside(Structure::EdwardsAlgorithm),
+        Inside(EdwardsAlgorithm),
         Name::PrivateKeyAlgorithm,
     ),
-    (0x04, Needed, Inside(Structure::OctetKey), Name::PrivateKey),
+    (0x04, Needed, Inside(OctetKey), Name::PrivateKey),
     (0xA0, Optional, Hidden, Name::Attributes),
     (0x81, Optional, Hidden, Name::PublicKey),
 ];
 
 const KEY_INFO: [Component; 5] = [
     (0x02, Needed, Version, Name::Version),
-    (
-        0x30,
-        Needed,
-        Inside(Structure::Algorithm),
-        Name::PrivateKeyAlgorithm,
-    ),
+    (0x30, Needed, Inside(Algorithm), Name::PrivateKeyAlgorithm),
     (0x04, Needed, Hidden, Name::PrivateKey),
     (0xA0, Optional, Hidden, Name::Attributes),
     (0x81, Optional, Hidden, Name::PublicKey),
@@ -561,49 +550,24 @@ const RSA_ALGORITHM: [Component; 2] = [
 
 const DSA_ALGORITHM: [Component; 2] = [
     (0x06, Needed, Of(Family::Dsa), Name::Algorithm),
-    (
-        0x30,
-        Optional,
-        Inside(Structure::DsaParameters),
-        Name::Parameters,
-    ),
+    (0x30, Optional, Inside(DsaParameters), Name::Parameters),
 ];
 
 const DH_ALGORITHM: [Component; 2] = [
     (0x06, Needed, Of(Family::DiffieHellman), Name::Algorithm),
-    (
-        0x30,
-        Optional,
-        Inside(Structure::DhParameter),
-        Name::Parameters,
-    ),
+    (0x30, Optional, Inside(DhParameter), Name::Parameters),
 ];
 
 const X942_ALGORITHM: [Component; 2] = [
     (0x06, Needed, Of(Family::DhPublicNumber), Name::Algorithm),
-    (
-        0x30,
-        Optional,
-        Inside(Structure::DomainParameters),
-        Name::Parameters,
-    ),
+    (0x30, Optional, Inside(DomainParameters), Name::Parameters),
 ];
 
 const EDWARDS_ALGORITHM: [Component; 1] = [(0x06, Needed, Of(Family::Edwards), Name::Algorithm)];
 
-const EC_KEY: [Component; 1] = [(
-    0x30,
-    Needed,
-    Inside(Structure::EcPrivateKey),
-    Name::EcPrivateKey,
-)];
+const EC_KEY: [Component; 1] = [(0x30, Needed, Inside(EcPrivateKey), Name::EcPrivateKey)];
 
-const RSA_KEY: [Component; 1] = [(
-    0x30,
-    Needed,
-    Inside(Structure::RsaPrivateKey),
-    Name::RsaPrivateKey,
-)];
+const RSA_KEY: [Component; 1] = [(0x30, Needed, Inside(RsaPrivateKey), Name::RsaPrivateKey)];
 
 const NUMBER_KEY: [Component; 1] = [(0x02, Needed, Hidden, Name::TheKey)];
 
@@ -633,24 +597,19 @@ const DSA_PRIVATE_KEY: [Component; 6] = [
 
 const PFX: [Component; 3] = [
     (0x02, Needed, Version, Name::Version),
-    (0x30, Needed, Inside(Structure::ContentInfo), Name::AuthSafe),
-    (0x30, Optional, Inside(Structure::MacData), Name::MacData),
+    (0x30, Needed, Inside(ContentInfo), Name::AuthSafe),
+    (0x30, Optional, Inside(MacData), Name::MacData),
 ];
 
 const MAC_DATA: [Component; 3] = [
-    (0x30, Needed, Inside(Structure::DigestInfo), Name::Mac),
+    (0x30, Needed, Inside(DigestInfo), Name::Mac),
     (0x04, Needed, Hidden, Name::MacSalt),
     (0x02, Optional, Short(8), Name::Iterations),
 ];
 
-const KEY_PACKAGE: [Component; 1] = [(
-    0x30,
-    Many,
-    Inside(Structure::KeyInfo),
-    Name::OneAsymmetricKey,
-)];
+const KEY_PACKAGE: [Component; 1] = [(0x30, Many, Inside(KeyInfo), Name::OneAsymmetricKey)];
 
-const SAFE_CONTENTS: [Component; 1] = [(0x30, Many, Inside(Structure::SafeBag), Name::SafeBag)];
+const SAFE_CONTENTS: [Component; 1] = [(0x30, Many, Inside(SafeBag), Name::SafeBag)];
 
 const SAFE_BAG: [Component; 3] = [
     (0x06, Needed, Of(Family::Bag), Name::BagId),
@@ -659,57 +618,27 @@ const SAFE_BAG: [Component; 3] = [
 ];
 
 const CERTIFICATE: [Component; 3] = [
-    (
-        0x30,
-        Needed,
-        Inside(Structure::TbsCertificate),
-        Name::TbsCertificate,
-    ),
-    (
-        0x30,
-        Needed,
-        Inside(Structure::Algorithm),
-        Name::SignatureAlgorithm,
-    ),
+    (0x30, Needed, Inside(TbsCertificate), Name::TbsCertificate),
+    (0x30, Needed, Inside(Algorithm), Name::SignatureAlgorithm),
     (0x03, Needed, Hidden, Name::SignatureValue),
 ];
 
 const TBS_CERTIFICATE: [Component; 10] = [
-    (
-        0xA0,
-        Optional,
-        Inside(Structure::VersionField),
-        Name::Version,
-    ),
+    (0xA0, Optional, Inside(VersionField), Name::Version),
     (0x02, Needed, Shown(20), Name::SerialNumber),
-    (0x30, Needed, Inside(Structure::Algorithm), Name::Signature),
+    (0x30, Needed, Inside(Algorithm), Name::Signature),
+    (0x30, Needed, Inside(DistinguishedName), Name::Issuer),
+    (0x30, Needed, Inside(Validity), Name::Validity),
+    (0x30, Needed, Inside(DistinguishedName), Name::Subject),
     (
         0x30,
         Needed,
-        Inside(Structure::DistinguishedName),
-        Name::Issuer,
-    ),
-    (0x30, Needed, Inside(Structure::Validity), Name::Validity),
-    (
-        0x30,
-        Needed,
-        Inside(Structure::DistinguishedName),
-        Name::Subject,
-    ),
-    (
-        0x30,
-        Needed,
-        Inside(Structure::PublicKeyInfo),
+        Inside(PublicKeyInfo),
         Name::SubjectPublicKeyInfo,
     ),
     (0x81, Optional, Hidden, Name::IssuerUniqueId),
     (0x82, Optional, Hidden, Name::SubjectUniqueId),
-    (
-        0xA3,
-        Optional,
-        Inside(Structure::ExtensionsField),
-        Name::Extensions,
-    ),
+    (0xA3, Optional, Inside(ExtensionsField), Name::Extensions),
 ];
 
 const VERSION_FIELD: [Component; 1] = [(0x02, Needed, Version, Name::Version)];
@@ -717,14 +646,14 @@ const VERSION_FIELD: [Component; 1] = [(0x02, Needed, Version, Name::Version)];
 const DISTINGUISHED_NAME: [Component; 1] = [(
     0x31,
     Many,
-    Inside(Structure::RelativeName),
+    Inside(RelativeName),
     Name::RelativeDistinguishedName,
 )];
 
 const RELATIVE_NAME: [Component; 1] = [(
     0x30,
     Many,
-    Inside(Structure::NameAttribute),
+    Inside(NameAttribute),
     Name::AttributeTypeAndValue,
 )];
 
@@ -739,28 +668,18 @@ const VALIDITY: [Component; 2] = [
 ];
 
 const PUBLIC_KEY_INFO: [Component; 2] = [
-    (0x30, Needed, Inside(Structure::Algorithm), Name::Algorithm),
+    (0x30, Needed, Inside(Algorithm), Name::Algorithm),
     (0x03, Needed, Point, Name::SubjectPublicKey),
 ];
 
 const EC_PUBLIC_KEY_INFO: [Component; 2] = [
-    (
-        0x30,
-        Needed,
-        Inside(Structure::EcAlgorithm),
-        Name::Algorithm,
-    ),
+    (0x30, Needed, Inside(EcAlgorithm), Name::Algorithm),
     (0x03, Needed, Point, Name::SubjectPublicKey),
 ];
 
-const EXTENSIONS_FIELD: [Component; 1] = [(
-    0x30,
-    Needed,
-    Inside(Structure::Extensions),
-    Name::Extensions,
-)];
+const EXTENSIONS_FIELD: [Component; 1] = [(0x30, Needed, Inside(Extensions), Name::Extensions)];
 
-const EXTENSIONS: [Component; 1] = [(0x30, Many, Inside(Structure::Extension), Name::Extension)];
+const EXTENSIONS: [Component; 1] = [(0x30, Many, Inside(Extension), Name::Extension)];
 
 const EXTENSION: [Component; 3] = [
     (0x06, Needed, Shown(12), Name::ExtnId),
@@ -772,92 +691,52 @@ const CERTIFICATION_REQUEST: [Component; 3] = [
     (
         0x30,
         Needed,
-        Inside(Structure::CertificationRequestInfo),
+        Inside(CertificationRequestInfo),
         Name::CertificationRequestInfo,
     ),
-    (
-        0x30,
-        Needed,
-        Inside(Structure::Algorithm),
-        Name::SignatureAlgorithm,
-    ),
+    (0x30, Needed, Inside(Algorithm), Name::SignatureAlgorithm),
     (0x03, Needed, Hidden, Name::Signature),
 ];
 
 const CERTIFICATION_REQUEST_INFO: [Component; 4] = [
     (0x02, Needed, Version, Name::Version),
-    (
-        0x30,
-        Needed,
-        Inside(Structure::DistinguishedName),
-        Name::Subject,
-    ),
-    (
-        0x30,
-        Needed,
-        Inside(Structure::PublicKeyInfo),
-        Name::SubjectPkInfo,
-    ),
+    (0x30, Needed, Inside(DistinguishedName), Name::Subject),
+    (0x30, Needed, Inside(PublicKeyInfo), Name::SubjectPkInfo),
     (0xA0, Needed, Hidden, Name::Attributes),
 ];
 
 const CERTIFICATE_LIST: [Component; 3] = [
-    (
-        0x30,
-        Needed,
-        Inside(Structure::TbsCertList),
-        Name::TbsCertList,
-    ),
-    (
-        0x30,
-        Needed,
-        Inside(Structure::Algorithm),
-        Name::SignatureAlgorithm,
-    ),
+    (0x30, Needed, Inside(TbsCertList), Name::TbsCertList),
+    (0x30, Needed, Inside(Algorithm), Name::SignatureAlgorithm),
     (0x03, Needed, Hidden, Name::SignatureValue),
 ];
 
 const TBS_CERT_LIST: [Component; 7] = [
     (0x02, Optional, Version, Name::Version),
-    (0x30, Needed, Inside(Structure::Algorithm), Name::Signature),
-    (
-        0x30,
-        Needed,
-        Inside(Structure::DistinguishedName),
-        Name::Issuer,
-    ),
+    (0x30, Needed, Inside(Algorithm), Name::Signature),
+    (0x30, Needed, Inside(DistinguishedName), Name::Issuer),
     (0x17, Needed, Shown(19), Name::ThisUpdate),
     (0x17, Optional, Shown(19), Name::NextUpdate),
     (
         0x30,
         Optional,
-        Inside(Structure::RevokedCertificates),
+        Inside(RevokedCertificates),
         Name::RevokedCertificates,
     ),
-    (
-        0xA0,
-        Optional,
-        Inside(Structure::ExtensionsField),
-        Name::CrlExtensions,
-    ),
+    (0xA0, Optional, Inside(ExtensionsField), Name::CrlExtensions),
 ];
 
 const REVOKED_CERTIFICATES: [Component; 1] = [(
     0x30,
     Many,
-    Inside(Structure::RevokedCertificate),
+    Inside(RevokedCertificate),
     Name::RevokedCertificate,
 )];
 
 const REVOKED_CERTIFICATE: [Component; 3] = [
     (0x02, Needed, Shown(20), Name::UserCertificate),
     (0x17, Needed, Shown(19), Name::RevocationDate),
-    (
-        0x30,
-        Optional,
-        Inside(Structure::Extensions),
-        Name::CrlEntryExtensions,
-    ),
+    (0x30, Optional, Inside(Extensions), Name::CrlEntryExtensions),
 ];
 
 const SIGNATURE: [Component; 2] = [
@@ -892,8 +771,8 @@ const DSA_PARAMETERS: [Component; 3] = [
 
 const EC_PARAMETERS: [Component; 6] = [
     (0x02, Needed, Version, Name::Version),
-    (0x30, Needed, Inside(Structure::FieldId), Name::FieldId),
-    (0x30, Needed, Inside(Structure::Curve), Name::Curve),
+    (0x30, Needed, Inside(FieldId), Name::FieldId),
+    (0x30, Needed, Inside(Curve), Name::Curve),
     (0x04, Needed, Point, Name::Base),
     (0x02, Needed, Hidden, Name::Order),
     (0x02, Optional, Short(8), Name::Cofactor),
@@ -919,7 +798,7 @@ const PBES_KEY_INFO: [Component; 2] = [
     (
         0x30,
         Needed,
-        Inside(Structure::PbesAlgorithm),
+        Inside(PbesAlgorithm),
         Name::EncryptionAlgorithm,
     ),
     (0x04, Needed, Hidden, Name::EncryptedData),
@@ -929,7 +808,7 @@ const PBE_KEY_INFO: [Component; 2] = [
     (
         0x30,
         Needed,
-        Inside(Structure::PbeAlgorithm),
+        Inside(PbeAlgorithm),
         Name::EncryptionAlgorithm,
     ),
     (0x04, Needed, Hidden, Name::EncryptedData),
@@ -946,42 +825,22 @@ const PBE_ALGORITHM: [Component; 2] = [
 ];
 
 const DIGEST_INFO: [Component; 2] = [
-    (
-        0x30,
-        Needed,
-        Inside(Structure::Algorithm),
-        Name::DigestAlgorithm,
-    ),
+    (0x30, Needed, Inside(Algorithm), Name::DigestAlgorithm),
     (0x04, Needed, Hidden, Name::Digest),
 ];
 
 const SHA_INFO: [Component; 2] = [
-    (
-        0x30,
-        Needed,
-        Inside(Structure::ShaAlgorithm),
-        Name::DigestAlgorithm,
-    ),
+    (0x30, Needed, Inside(ShaAlgorithm), Name::DigestAlgorithm),
     (0x04, Needed, Hidden, Name::Digest),
 ];
 
 const SHA1_INFO: [Component; 2] = [
-    (
-        0x30,
-        Needed,
-        Inside(Structure::Sha1Algorithm),
-        Name::DigestAlgorithm,
-    ),
+    (0x30, Needed, Inside(Sha1Algorithm), Name::DigestAlgorithm),
     (0x04, Needed, Hidden, Name::Digest),
 ];
 
 const MD_INFO: [Component; 2] = [
-    (
-        0x30,
-        Needed,
-        Inside(Structure::MdAlgorithm),
-        Name::DigestAlgorithm,
-    ),
+    (0x30, Needed, Inside(MdAlgorithm), Name::DigestAlgorithm),
     (0x04, Needed, Hidden, Name::Digest),
 ];
 
@@ -1001,56 +860,36 @@ const MD_ALGORITHM: [Component; 2] = [
 ];
 
 const OCSP_REQUEST: [Component; 2] = [
-    (
-        0x30,
-        Needed,
-        Inside(Structure::TbsRequest),
-        Name::TbsRequest,
-    ),
+    (0x30, Needed, Inside(TbsRequest), Name::TbsRequest),
     (0xA0, Optional, Hidden, Name::OptionalSignature),
 ];
 
 const TBS_REQUEST: [Component; 4] = [
-    (
-        0xA0,
-        Optional,
-        Inside(Structure::VersionField),
-        Name::Version,
-    ),
+    (0xA0, Optional, Inside(VersionField), Name::Version),
     (0xA1, Optional, Hidden, Name::RequestorName),
-    (
-        0x30,
-        Needed,
-        Inside(Structure::RequestList),
-        Name::RequestList,
-    ),
+    (0x30, Needed, Inside(RequestList), Name::RequestList),
     (
         0xA2,
         Optional,
-        Inside(Structure::ExtensionsField),
+        Inside(ExtensionsField),
         Name::RequestExtensions,
     ),
 ];
 
-const REQUEST_LIST: [Component; 1] = [(0x30, Many, Inside(Structure::Request), Name::Request)];
+const REQUEST_LIST: [Component; 1] = [(0x30, Many, Inside(Request), Name::Request)];
 
 const REQUEST: [Component; 2] = [
-    (0x30, Needed, Inside(Structure::CertId), Name::ReqCert),
+    (0x30, Needed, Inside(CertId), Name::ReqCert),
     (
         0xA0,
         Optional,
-        Inside(Structure::ExtensionsField),
+        Inside(ExtensionsField),
         Name::SingleRequestExtensions,
     ),
 ];
 
 const CERT_ID: [Component; 4] = [
-    (
-        0x30,
-        Needed,
-        Inside(Structure::Algorithm),
-        Name::HashAlgorithm,
-    ),
+    (0x30, Needed, Inside(Algorithm), Name::HashAlgorithm),
     (0x04, Needed, Hidden, Name::IssuerNameHash),
     (0x04, Needed, Hidden, Name::IssuerKeyHash),
     (0x02, Needed, Shown(20), Name::SerialNumber),
@@ -1061,7 +900,7 @@ const OCSP_RESPONSE: [Component; 2] = [
     (
         0xA0,
         Optional,
-        Inside(Structure::ResponseBytesField),
+        Inside(ResponseBytesField),
         Name::ResponseBytes,
     ),
 ];
@@ -1069,7 +908,7 @@ const OCSP_RESPONSE: [Component; 2] = [
 const RESPONSE_BYTES_FIELD: [Component; 1] = [(
     0x30,
     Needed,
-    Inside(Structure::ResponseBytes),
+    Inside(ResponseBytes),
     Name::ResponseBytes,
 )];
 
@@ -1080,31 +919,16 @@ const RESPONSE_BYTES: [Component; 2] = [
 
 const TIME_STAMP_REQ: [Component; 6] = [
     (0x02, Needed, Version, Name::Version),
-    (
-        0x30,
-        Needed,
-        Inside(Structure::DigestInfo),
-        Name::MessageImprint,
-    ),
+    (0x30, Needed, Inside(DigestInfo), Name::MessageImprint),
     (0x06, Optional, Shown(12), Name::ReqPolicy),
     (0x02, Optional, Shown(20), Name::Nonce),
     (0x01, Optional, Version, Name::CertReq),
-    (
-        0xA0,
-        Optional,
-        Inside(Structure::Extensions),
-        Name::Extensions,
-    ),
+    (0xA0, Optional, Inside(Extensions), Name::Extensions),
 ];
 
 const TIME_STAMP_RESP: [Component; 2] = [
-    (0x30, Needed, Inside(Structure::PkiStatusInfo), Name::Status),
-    (
-        0x30,
-        Optional,
-        Inside(Structure::ContentInfo),
-        Name::TimeStampToken,
-    ),
+    (0x30, Needed, Inside(PkiStatusInfo), Name::Status),
+    (0x30, Optional, Inside(ContentInfo), Name::TimeStampToken),
 ];
 
 const PKI_STATUS_INFO: [Component; 3] = [
@@ -1217,210 +1041,112 @@ pub type Form = (Component, Secrecy);
 
 /// The first of the forms.
 pub(crate) const FIRST: Form = (
-    (
-        0x30,
-        Needed,
-        Inside(Structure::EcPrivateKey),
-        Name::EcPrivateKey,
-    ),
+    (0x30, Needed, Inside(EcPrivateKey), Name::EcPrivateKey),
     Secrecy::Private,
 );
 
 /// The others. Of two that as many bytes follow the earlier is meant.
 pub(crate) const OTHERS: [Form; 34] = [
     (
-        (
-            0x30,
-            Needed,
-            Inside(Structure::EcKeyInfo),
-            Name::PrivateKeyInfo,
-        ),
+        (0x30, Needed, Inside(EcKeyInfo), Name::PrivateKeyInfo),
         Secrecy::Private,
     ),
     (
-        (
-            0x30,
-            Needed,
-            Inside(Structure::RsaKeyInfo),
-            Name::PrivateKeyInfo,
-        ),
+        (0x30, Needed, Inside(RsaKeyInfo), Name::PrivateKeyInfo),
         Secrecy::Private,
     ),
     (
-        (
-            0x30,
-            Needed,
-            Inside(Structure::DsaKeyInfo),
-            Name::PrivateKeyInfo,
-        ),
+        (0x30, Needed, Inside(DsaKeyInfo), Name::PrivateKeyInfo),
         Secrecy::Private,
     ),
     (
-        (
-            0x30,
-            Needed,
-            Inside(Structure::DhKeyInfo),
-            Name::PrivateKeyInfo,
-        ),
+        (0x30, Needed, Inside(DhKeyInfo), Name::PrivateKeyInfo),
         Secrecy::Private,
     ),
     (
-        (
-            0x30,
-            Needed,
-            Inside(Structure::X942KeyInfo),
-            Name::PrivateKeyInfo,
-        ),
+        (0x30, Needed, Inside(X942KeyInfo), Name::PrivateKeyInfo),
         Secrecy::Private,
     ),
     (
-        (
-            0x30,
-            Needed,
-            Inside(Structure::OctetKeyInfo),
-            Name::PrivateKeyInfo,
-        ),
+        (0x30, Needed, Inside(OctetKeyInfo), Name::PrivateKeyInfo),
         Secrecy::Private,
     ),
     (
-        (
-            0x30,
-            Needed,
-            Inside(Structure::KeyInfo),
-            Name::PrivateKeyInfo,
-        ),
+        (0x30, Needed, Inside(KeyInfo), Name::PrivateKeyInfo),
         Secrecy::Private,
     ),
     (
-        (
-            0x30,
-            Needed,
-            Inside(Structure::RsaPrivateKey),
-            Name::RsaPrivateKey,
-        ),
+        (0x30, Needed, Inside(RsaPrivateKey), Name::RsaPrivateKey),
         Secrecy::Private,
     ),
     (
-        (
-            0x30,
-            Needed,
-            Inside(Structure::DsaPrivateKey),
-            Name::DsaPrivateKey,
-        ),
+        (0x30, Needed, Inside(DsaPrivateKey), Name::DsaPrivateKey),
         Secrecy::Private,
     ),
+    ((0x30, Needed, Inside(Pfx), Name::Pfx), Secrecy::Private),
     (
-        (0x30, Needed, Inside(Structure::Pfx), Name::Pfx),
-        Secrecy::Private,
-    ),
-    (
-        (
-            0x30,
-            Needed,
-            Inside(Structure::Certificate),
-            Name::Certificate,
-        ),
+        (0x30, Needed, Inside(Certificate), Name::Certificate),
         Secrecy::Public,
     ),
     (
         (
             0x30,
             Needed,
-            Inside(Structure::CertificationRequest),
+            Inside(CertificationRequest),
             Name::CertificationRequest,
         ),
         Secrecy::Public,
     ),
     (
-        (
-            0x30,
-            Needed,
-            Inside(Structure::CertificateList),
-            Name::CertificateList,
-        ),
+        (0x30, Needed, Inside(CertificateList), Name::CertificateList),
+        Secrecy::Public,
+    ),
+    (
+        (0x30, Needed, Inside(EcPublicKeyInfo), Name::PublicKeyInfo),
+        Secrecy::Public,
+    ),
+    (
+        (0x30, Needed, Inside(PublicKeyInfo), Name::PublicKeyInfo),
+        Secrecy::Public,
+    ),
+    (
+        (0x30, Needed, Inside(DhParameter), Name::DhParameter),
+        Secrecy::Public,
+    ),
+    (
+        (0x30, Needed, Inside(RsaPublicKey), Name::RsaPublicKey),
+        Secrecy::Public,
+    ),
+    (
+        (0x30, Needed, Inside(Signature), Name::Signature),
+        Secrecy::Public,
+    ),
+    (
+        (0x30, Needed, Inside(DsaParameters), Name::DsaParameters),
         Secrecy::Public,
     ),
     (
         (
             0x30,
             Needed,
-            Inside(Structure::EcPublicKeyInfo),
-            Name::PublicKeyInfo,
-        ),
-        Secrecy::Public,
-    ),
-    (
-        (
-            0x30,
-            Needed,
-            Inside(Structure::PublicKeyInfo),
-            Name::PublicKeyInfo,
-        ),
-        Secrecy::Public,
-    ),
-    (
-        (
-            0x30,
-            Needed,
-            Inside(Structure::DhParameter),
-            Name::DhParameter,
-        ),
-        Secrecy::Public,
-    ),
-    (
-        (
-            0x30,
-            Needed,
-            Inside(Structure::RsaPublicKey),
-            Name::RsaPublicKey,
-        ),
-        Secrecy::Public,
-    ),
-    (
-        (0x30, Needed, Inside(Structure::Signature), Name::Signature),
-        Secrecy::Public,
-    ),
-    (
-        (
-            0x30,
-            Needed,
-            Inside(Structure::DsaParameters),
-            Name::DsaParameters,
-        ),
-        Secrecy::Public,
-    ),
-    (
-        (
-            0x30,
-            Needed,
-            Inside(Structure::DomainParameters),
+            Inside(DomainParameters),
             Name::DomainParameters,
         ),
         Secrecy::Public,
     ),
     (
-        (
-            0x30,
-            Needed,
-            Inside(Structure::EcParameters),
-            Name::EcParameters,
-        ),
+        (0x30, Needed, Inside(EcParameters), Name::EcParameters),
         Secrecy::Public,
     ),
     (
-        (
-            0x30,
-            Needed,
-            Inside(Structure::ContentInfo),
-            Name::ContentInfo,
-        ),
+        (0x30, Needed, Inside(ContentInfo), Name::ContentInfo),
         Secrecy::Closed,
     ),
     (
         (
             0x30,
             Needed,
-            Inside(Structure::PbesKeyInfo),
+            Inside(PbesKeyInfo),
             Name::EncryptedPrivateKeyInfo,
         ),
         Secrecy::Closed,
@@ -1429,75 +1155,45 @@ pub(crate) const OTHERS: [Form; 34] = [
         (
             0x30,
             Needed,
-            Inside(Structure::PbeKeyInfo),
+            Inside(PbeKeyInfo),
             Name::EncryptedPrivateKeyInfo,
         ),
         Secrecy::Closed,
     ),
     (
-        (0x30, Needed, Inside(Structure::ShaInfo), Name::DigestInfo),
+        (0x30, Needed, Inside(ShaInfo), Name::DigestInfo),
         Secrecy::Closed,
     ),
     (
-        (0x30, Needed, Inside(Structure::Sha1Info), Name::DigestInfo),
+        (0x30, Needed, Inside(Sha1Info), Name::DigestInfo),
         Secrecy::Closed,
     ),
     (
-        (0x30, Needed, Inside(Structure::MdInfo), Name::DigestInfo),
+        (0x30, Needed, Inside(MdInfo), Name::DigestInfo),
         Secrecy::Closed,
     ),
     (
-        (
-            0x30,
-            Needed,
-            Inside(Structure::OcspResponse),
-            Name::OcspResponse,
-        ),
+        (0x30, Needed, Inside(OcspResponse), Name::OcspResponse),
         Secrecy::Closed,
     ),
     (
-        (
-            0x30,
-            Needed,
-            Inside(Structure::TimeStampReq),
-            Name::TimeStampReq,
-        ),
+        (0x30, Needed, Inside(TimeStampReq), Name::TimeStampReq),
         Secrecy::Closed,
     ),
     (
-        (
-            0x30,
-            Needed,
-            Inside(Structure::TimeStampResp),
-            Name::TimeStampResp,
-        ),
+        (0x30, Needed, Inside(TimeStampResp), Name::TimeStampResp),
         Secrecy::Closed,
     ),
     (
-        (
-            0x30,
-            Needed,
-            Inside(Structure::OcspRequest),
-            Name::OcspRequest,
-        ),
+        (0x30, Needed, Inside(OcspRequest), Name::OcspRequest),
         Secrecy::Closed,
     ),
     (
-        (
-            0x30,
-            Needed,
-            Inside(Structure::KeyPackage),
-            Name::AsymmetricKeyPackage,
-        ),
+        (0x30, Needed, Inside(KeyPackage), Name::AsymmetricKeyPackage),
         Secrecy::Private,
     ),
     (
-        (
-            0x30,
-            Needed,
-            Inside(Structure::SafeContents),
-            Name::SafeContents,
-        ),
+        (0x30, Needed, Inside(SafeContents), Name::SafeContents),
         Secrecy::Private,
     ),
     ((0x06, Needed, Shown(12), Name::NamedCurve), Secrecy::Public),
