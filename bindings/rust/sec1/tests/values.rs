@@ -580,6 +580,7 @@ fn identifiers_are_ordered_by_their_contents() {
     // The longer one is less.
     let [long, short] =
         [&[0x2A, 3, 4][..], &[0x2B]].map(|it| ObjectIdentifier::from_bytes(it).unwrap());
-    assert!(long < short && short > long && long.cmp(&long).is_eq());
+    assert!(long.cmp(&short).is_lt() && short.cmp(&long).is_gt() && long.cmp(&long).is_eq());
+    assert!(long < short);
     assert!(ObjectIdentifier::from_bytes(&[0x2A]).unwrap() < long);
 }
