@@ -601,7 +601,7 @@ def curve_of(algorithm, parameters):
 
 class Others(unittest.TestCase):
     def test_identifiers(self):
-        for text in ("1.2.840.10045.3.1.7", "0.0", "2.999", "2.4294967215"):
+        for text in ("1.2.840.10045.3.1.7", "0.0", "2.999", "2.4294967215", "1.2" + ".3" * 38):
             identifier = sec1.ObjectIdentifier.from_text(text)
             self.assertEqual(str(identifier), text)
             self.assertEqual(sec1.ObjectIdentifier(identifier.content), identifier)
@@ -1164,6 +1164,10 @@ class Program(unittest.TestCase):
         text = sec1.draw(long.read_bytes()).text
         self.assertGreater(len(text), 1_000_000)
         self.assertEqual(self.ran(long), (1, text, ""))
+        # A file that takes no more than 512 or 1,024 bytes: the first part is written, and the next one refused.
+        with open(self.folder / "short", "wb") as file:
+            ended = self.ran(long, shell='ulimit -f 1 && exec "$@"', stdout=file)
+        self.assertEqual(ended, (2, "", "sec1: standard output: File too large\n"))
 
     def test_help(self):
         status, text, said = self.ran("--help", self.none)

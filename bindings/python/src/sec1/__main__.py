@@ -38,7 +38,7 @@ def number_of(stream: Any) -> int:
 
 def write(stream: Any, text: str) -> None:
     """Writes a text to a stream, or raises Output. Nothing is kept for later."""
-    left = memoryview(text.encode("ascii"))
+    left = memoryview(text.encode("ascii", "backslashreplace"))
     try:
         while left:
             left = left[os.write(number_of(stream), left) :]
@@ -55,7 +55,7 @@ def escaped(name: str) -> str:
 def read(file: int) -> bytes:
     """Returns what is in a file. Of one above the limit no more than one byte above it is read."""
     data = bytearray()
-    while part := os.read(file, min(65_536, LIMIT + 1 - len(data))):
+    while part := os.read(file, min(100_000, LIMIT + 1 - len(data))):
         data += part
         if len(data) > LIMIT:
             raise Refused("more than 16,777,215 bytes")
