@@ -679,21 +679,21 @@ static uint32_t der_types_time_kind_GeneralizedTimeKindKind_test(uint64_t p0, ui
 static uint32_t der_types_time_kind_UtcTimeKindKind_test(uint64_t p0, uint64_t p1);
 static void pkix_in_place_OptionalReadInPlace_read_in_place(uint64_t p0, uint64_t p1, uint64_t p2);
 static void pkix_in_place_Tuple2ReadInPlace_read_in_place(uint64_t p0, uint64_t p1, uint64_t p2);
-static void sec1_der_part_Tuple2EncodePart_part_len_2(uint64_t p0, uint64_t p1);
 static void curves_curve_Curve_from_content(uint64_t p0, uint64_t p1, uint64_t p2);
 static uint32_t core_cmp_slices_groups_equal(uint64_t p0, uint64_t p1, uint64_t p2);
 static uint32_t core_slice_scan_any_in_quarters(uint64_t p0, uint64_t p1, uint64_t p2);
 static uint32_t sec1_c_key_sec1_key_read(uint64_t p0, uint64_t p1, uint64_t p2);
-static void sec1_private_key_EcPrivateKeyReadInPlace_read_content(uint64_t p0, uint64_t p1,
+static void sec1_borrowed_key_BorrowedKeyReadInPlace_read_content(uint64_t p0, uint64_t p1,
     uint64_t p2, uint64_t p3);
 static void pkix_private_key_PrivateKeyInfo_from_der(uint64_t p0, uint64_t p1, uint64_t p2);
 static void pkix_in_place_OptionalReadInPlace_read_in_place_2(uint64_t p0, uint64_t p1,
     uint64_t p2);
 static void pkix_private_key_OneAsymmetricKey_from_der(uint64_t p0, uint64_t p1, uint64_t p2);
-static uint64_t sec1_c_fields_fields_len(uint64_t p0);
 static void sec1_der_required_RequiredDecodePart_decode_part(uint64_t p0, uint64_t p1);
 static void sec1_der_tree_check_tree(uint64_t p0, uint64_t p1, uint64_t p2);
 static uint32_t sec1_c_private_key_has_algorithm(uint64_t p0, uint64_t p1);
+static uint32_t sec1_c_private_key_names_curve(uint64_t p0, uint32_t p1);
+static void curves_curve_Curve_identifier(uint64_t p0, uint32_t p1);
 static void der_view_text_Sources_new(uint64_t p0, uint64_t p1, uint64_t p2);
 static uint32_t core_slice_reads_slice_T_contains(uint64_t p0, uint64_t p1, uint64_t p2);
 static void der_view_text_next_block(uint64_t p0, uint64_t p1, uint64_t p2);
@@ -735,7 +735,7 @@ static void der_view_values_arcs_split_subidentifier(uint64_t p0, uint64_t p1, u
     uint64_t p3, uint64_t p4);
 static void itoa_Buffer_format(uint64_t p0, uint64_t p1, uint64_t p2, uint64_t p3);
 static void pkix_public_key_SubjectPublicKeyInfo_from_der(uint64_t p0, uint64_t p1, uint64_t p2);
-static void sec1_der_part_Tuple2EncodePart_part_len(uint64_t p0, uint64_t p1);
+static void sec1_der_codec_element_len(uint64_t p0, uint64_t p1);
 static void der_view_faults_certificate_time(uint64_t p0, uint64_t p1, uint64_t p2, uint64_t p3);
 static void der_view_faults_element_check_element(uint64_t p0, uint64_t p1, uint64_t p2,
     uint64_t p3);
@@ -769,13 +769,17 @@ static void der_view_line_Line_push_text(uint64_t p0, uint64_t p1, uint64_t p2, 
 static void der_view_line_Line_push_code(uint64_t p0, uint32_t p1);
 static void der_view_line_Line_push_coordinates(uint64_t p0, uint64_t p1, uint64_t p2, uint64_t p3);
 static void der_view_picture_write_mark(uint64_t p0, uint64_t p1);
-static void sec1_der_part_Tuple2EncodePart_prepend_part(uint64_t p0, uint64_t p1);
-static void sec1_der_back_writer_BackWriter_prepend_long_header(uint64_t p0, uint32_t p1,
+static void sec1_der_optional_OptionalEncodePart_prepend_part(uint64_t p0, uint64_t p1);
+static uint64_t sec1_der_back_writer_prepend_long_header(uint64_t p0, uint64_t p1, uint32_t p2,
+    uint64_t p3);
+static void sec1_der_optional_OptionalEncodePart_prepend_part_2(uint64_t p0, uint64_t p1);
+static void sec1_der_required_RequiredEncodePart_prepend_part(uint64_t p0, uint64_t p1,
     uint64_t p2);
-static void sec1_der_required_RequiredEncodePart_prepend_part(uint64_t p0, uint64_t p1);
-static uint64_t sec1_c_algorithm_write_curve(uint32_t p0, uint64_t p1);
+static void sec1_der_required_RequiredEncodePart_prepend_part_2(uint64_t p0, uint64_t p1,
+    uint64_t p2);
 static void pkix_algorithm_AlgorithmIdentifierEncodePart_prepend_part(uint64_t p0, uint64_t p1);
-static void sec1_der_codec_element_len(uint64_t p0, uint64_t p1);
+static void sec1_der_codec_element_len_3(uint64_t p0, uint64_t p1);
+static void sec1_der_codec_element_len_2(uint64_t p0, uint64_t p1);
 static uint32_t export_sec1_certificate_read_public_key(uint64_t bytes, uint64_t bytes_len,
     uint64_t part);
 static uint32_t export_sec1_curve_field_len(uint64_t content, uint64_t content_len,
@@ -794,11 +798,11 @@ static uint32_t export_sec1_private_key_read(uint64_t bytes, uint64_t bytes_len,
 static uint32_t export_sec1_picture_lines(uint64_t input, uint64_t input_len, uint64_t room,
     uint64_t room_len, uint64_t lines, uint64_t lines_len, uint64_t count);
 static uint32_t export_sec1_point_check(uint64_t bytes, uint64_t bytes_len, uint64_t field_len);
-static uint32_t export_sec1_point_compare(uint64_t first, uint64_t first_len, uint64_t second,
-    uint64_t second_len, uint64_t field_len, uint64_t order);
 static uint32_t export_sec1_point_read(uint64_t bytes, uint64_t bytes_len, uint64_t field_len,
     uint64_t parts);
 static uint32_t export_sec1_public_key_read(uint64_t bytes, uint64_t bytes_len, uint64_t parts);
+static uint32_t export_sec1_point_compare(uint64_t first, uint64_t first_len, uint64_t second,
+    uint64_t second_len, uint64_t field_len, uint64_t order);
 static uint32_t export_sec1_key_len(uint64_t private_key, uint64_t private_key_len,
     uint64_t curve, uint64_t curve_len, uint64_t public_key, uint64_t public_key_len,
     uint64_t has_public_key, uint64_t len);
@@ -2257,126 +2261,6 @@ after_2:;
   store8(p0, (uint8_t)v5);
 }
 
-/* sec1_der::part::Tuple2EncodePart::part_len::<#747f884ef42d177c> */
-static void sec1_der_part_Tuple2EncodePart_part_len_2(uint64_t p0, uint64_t p1)
-{
-  uint32_t v3 = 0, v7 = 0, v8 = 0;
-  uint64_t v2 = 0, v4 = 0, v5 = 0, v6 = 0;
-  v2 = 0;
-  v3 = load8(p1 + 16);
-  if (v3 != 1u)
-    goto after_1;
-  v2 = load64(p1 + 32);
-after_1:;
-  v4 = load64(p1 + 8);
-  if (v4 == 0)
-    goto after_2;
-  v5 = load64(p1);
-  v6 = 0;
-  v7 = 1;
-again_4:;
-  v8 = (uint32_t)(int8_t)(uint32_t)load8(v5 + v6);
-  if ((v7 & 1u) == 0u)
-    goto after_3;
-  if (v8 == 0xffffff80u)
-    goto after_2;
-after_3:;
-  v7 = (uint32_t)((int32_t)v8 > -1);
-  v6 = v6 + 1;
-  if (v4 != v6)
-    goto again_4;
-  if (v4 > 0xfffffff)
-    goto after_2;
-  if ((int32_t)v8 < 0)
-    goto after_2;
-  if (v4 >= 128)
-    goto after_5;
-  v6 = 2;
-  goto after_6;
-after_5:;
-  if (v4 >= 256)
-    goto after_7;
-  v6 = 3;
-  goto after_6;
-after_7:;
-  if (v4 >= 0x10000)
-    goto after_8;
-  v6 = 4;
-  goto after_6;
-after_8:;
-  v6 = (v4 < 0x1000000) ? 5ull : 6ull;
-after_6:;
-  v6 = v6 + v4;
-  if (v6 > 0xfffffff)
-    goto after_2;
-  v4 = 0;
-  if (v3 != 1u)
-    goto after_9;
-  v4 = v2;
-  if (v2 > 0xfffffff)
-    goto after_2;
-after_9:;
-  v6 = v4 + v6;
-  if (v6 > 0xfffffff)
-    goto after_2;
-  if (v6 >= 128)
-    goto after_10;
-  v4 = 2;
-  goto after_11;
-after_10:;
-  if (v6 >= 256)
-    goto after_12;
-  v4 = 3;
-  goto after_11;
-after_12:;
-  if (v6 >= 0x10000)
-    goto after_13;
-  v4 = 4;
-  goto after_11;
-after_13:;
-  v4 = (v6 < 0x1000000) ? 5ull : 6ull;
-after_11:;
-  v4 = v4 + v6;
-  if (v4 > 0xfffffff)
-    goto after_2;
-  v6 = load64(p1 + 80) + 1;
-  if (v6 > 0xfffffff)
-    goto after_14;
-  if (v6 >= 128)
-    goto after_15;
-  v5 = 2;
-  goto after_16;
-after_15:;
-  if (v6 >= 256)
-    goto after_17;
-  v5 = 3;
-  goto after_16;
-after_17:;
-  if (v6 >= 0x10000)
-    goto after_18;
-  v5 = 4;
-  goto after_16;
-after_18:;
-  v5 = (v6 < 0x1000000) ? 5ull : 6ull;
-after_16:;
-  v6 = v5 + v6;
-  if (v6 >= 0x10000000)
-    goto after_14;
-  v6 = v6 + v4;
-  v8 = (uint32_t)(v6 > 0xfffffff);
-  store8(p0, (uint8_t)v8);
-  store32(p0 + 4, v8 ? 0u : (uint32_t)v6);
-  store8(p0 + 1, (uint8_t)(v8 ? 5u : 0u));
-  return;
-after_14:;
-  store16(p0, 1281);
-  store32(p0 + 4, 0);
-  return;
-after_2:;
-  store16(p0, 1281);
-  store32(p0 + 4, 0);
-}
-
 /* curves::curve::Curve::from_content */
 static void curves_curve_Curve_from_content(uint64_t p0, uint64_t p1, uint64_t p2)
 {
@@ -2685,11 +2569,17 @@ static uint32_t core_slice_scan_any_in_quarters(uint64_t p0, uint64_t p1, uint64
 /* sec1_c::key::sec1_key_read */
 static uint32_t sec1_c_key_sec1_key_read(uint64_t p0, uint64_t p1, uint64_t p2)
 {
-  FRAME(112)
+  FRAME(80)
   uint32_t v4 = 0, v7 = 0, v9 = 0;
-  uint64_t v5 = 0, v6 = 0, v8 = 0, v10 = 0, v11 = 0;
+  uint64_t v5 = 0, v6 = 0, v8 = 0, v10 = 0, v11 = 0, v12 = 0, v13 = 0, v14 = 0;
+  store64(frame + 72, 0);
+  store64(frame + 64, 0);
+  store64(frame + 56, 0);
+  store64(frame + 48, 0);
+  store64(frame + 40, 0);
+  store64(frame + 32, 0);
+  store64(frame + 24, 0);
   v4 = 0;
-  fill(frame + 16, 0, 96);
   if (p1 == 0)
     goto after_1;
   if (load8(p0) == 48u)
@@ -2741,653 +2631,583 @@ after_3:;
   p0 = v7;
   if (v6 < p0)
     goto after_1;
-  sec1_private_key_EcPrivateKeyReadInPlace_read_content(frame, frame + 8, v5, p0);
-  if (load8(frame))
+  sec1_borrowed_key_BorrowedKeyReadInPlace_read_content(frame + 8, frame + 16, v5, p0);
+  if (load8(frame + 8))
     goto after_6;
   if (v6 == p0)
     goto after_7;
   v4 = 3;
   goto after_1;
 after_7:;
-  v4 = load8(frame + 24);
-  v6 = load64(frame + 104);
-  p0 = load64(frame + 80);
-  v5 = load64(frame + 16);
+  v5 = load64(frame + 48);
+  v4 = load8(frame + 32);
+  v6 = load64(frame + 24);
   v8 = 0;
-  v7 = load8(frame + 88);
-  if (v7 != 1u)
+  v10 = 0;
+  p0 = 0;
+  v11 = 0;
+  v12 = 0;
+  if (load8(frame + 56) != 1u)
     goto after_8;
-  if (v6 > 0xffffffe)
+  p0 = load64(frame + 72);
+  if (p0 > 0xffffffe)
     goto after_9;
-  v8 = v6 + 1;
-  if (v6 >= 127)
+  v10 = p0 + 1;
+  if (p0 >= 127)
     goto after_10;
-  v10 = 2;
+  v11 = 2;
   goto after_11;
 after_10:;
-  if (v6 >= 255)
+  if (p0 >= 255)
     goto after_12;
-  v10 = 3;
+  v11 = 3;
   goto after_11;
 after_12:;
-  if (v6 >= 65535)
+  if (p0 >= 65535)
     goto after_13;
-  v10 = 4;
+  v11 = 4;
   goto after_11;
 after_13:;
-  v10 = (v6 < 0xffffff) ? 5ull : 6ull;
+  v11 = (p0 < 0xffffff) ? 5ull : 6ull;
 after_11:;
-  v8 = v8 + v10;
-  if (v8 > 0xfffffff)
+  v11 = v10 + v11;
+  if (v11 > 0xfffffff)
     goto after_9;
-  if (v8 >= 128)
+  if (v11 >= 128)
     goto after_14;
-  v10 = 2;
+  v12 = 2;
   goto after_15;
 after_14:;
-  if (v8 >= 256)
+  if (v11 >= 256)
     goto after_16;
-  v10 = 3;
+  v12 = 3;
   goto after_15;
 after_16:;
-  if (v8 >= 0x10000)
+  if (v11 >= 0x10000)
     goto after_17;
-  v10 = 4;
+  v12 = 4;
   goto after_15;
 after_17:;
-  v10 = (v8 < 0x1000000) ? 5ull : 6ull;
+  v12 = (v11 < 0x1000000) ? 5ull : 6ull;
 after_15:;
-  v8 = v10 + v8;
+  v10 = p1 - p0;
+  v12 = v12 + v11;
+  v11 = 1;
 after_8:;
-  v9 = v4 & 0xffu;
-  if (v9 != 1u)
+  p1 = p1 - v12;
+  v12 = 0;
+  v13 = 0;
+  v14 = 0;
+  if ((v4 & 0xffu) != 1u)
     goto after_18;
-  if (p0 > 0xfffffff)
-    goto after_9;
-  if (p0 >= 128)
-    goto after_19;
-  v10 = 2;
-  goto after_20;
-after_19:;
-  if (p0 >= 256)
-    goto after_21;
-  v10 = 3;
-  goto after_20;
-after_21:;
-  if (p0 >= 0x10000)
-    goto after_22;
-  v10 = 4;
-  goto after_20;
-after_22:;
-  v10 = (p0 < 0x1000000) ? 5ull : 6ull;
-after_20:;
-  v10 = v10 + p0;
-  if (v10 > 0xfffffff)
-    goto after_9;
-  if (v10 >= 128)
-    goto after_23;
-  v11 = 2;
-  goto after_24;
-after_23:;
-  if (v10 >= 256)
-    goto after_25;
-  v11 = 3;
-  goto after_24;
-after_25:;
-  if (v10 >= 0x10000)
-    goto after_26;
-  v11 = 4;
-  goto after_24;
-after_26:;
-  v11 = (v10 < 0x1000000) ? 5ull : 6ull;
-after_24:;
-  v10 = (v10 + v5) + v11;
-  goto after_27;
+  v14 = 0xfffffffffffffffcull - v5;
+  v8 = p1 - v5;
+  v13 = 1;
+  v12 = v5;
 after_18:;
-  p0 = v9 ? p0 : 0ull;
-  v10 = v5;
-after_27:;
-  store64(p2 + 64, v7);
-  store64(p2 + 40, (uint64_t)v4 & 0xff);
+  store64(p2 + 64, v11);
+  store64(p2 + 56, p0);
+  store64(p2 + 48, v10);
+  store64(p2 + 40, v13);
+  store64(p2 + 32, v12);
+  store64(p2 + 24, v8);
   store64(p2 + 16, 1);
-  store64(p2 + 8, v5);
-  v5 = p1 - v8;
-  store64(p2, v5 - v10);
-  v9 = v7 & 1u;
-  store64(p2 + 56, v9 ? v6 : 0ull);
-  v4 = v4 & 1u;
-  store64(p2 + 32, v4 ? p0 : 0ull);
-  store64(p2 + 24, v4 ? (v5 - p0) : 0ull);
-  store64(p2 + 48, v9 ? (p1 - (v7 ? v6 : 0ull)) : 0ull);
+  store64(p2 + 8, v6);
+  store64(p2, (p1 - v6) + v14);
   v7 = 0;
-  goto after_28;
+  goto after_19;
 after_6:;
   v7 = 15;
-  v4 = load8(frame + 1);
+  v4 = load8(frame + 9);
   if ((v4 & 0xffu) == 10u)
-    goto after_28;
+    goto after_19;
 after_1:;
   v7 = load32(CONSTANT(10340) + (((uint64_t)v4 & 0xff) << 2));
-after_28:;
+after_19:;
   return v7;
 after_9:;
   trap();
 }
 
-/* sec1::private_key::EcPrivateKeyReadInPlace::read_content */
-static void sec1_private_key_EcPrivateKeyReadInPlace_read_content(uint64_t p0, uint64_t p1,
+/* sec1::borrowed_key::BorrowedKeyReadInPlace::read_content */
+static void sec1_borrowed_key_BorrowedKeyReadInPlace_read_content(uint64_t p0, uint64_t p1,
     uint64_t p2, uint64_t p3)
 {
-  FRAME(80)
-  uint32_t v5 = 0, v6 = 0, v8 = 0, v10 = 0, v14 = 0, v17 = 0, v18 = 0, v19 = 0, v20 = 0,
-      v21 = 0, t0, t1, t2, t3, t4, t5, t6;
-  uint64_t v4 = 0, v7 = 0, v9 = 0, v11 = 0, v12 = 0, v13 = 0, v15 = 0, v16 = 0, v22 = 0;
-  v4 = frame;
-  store64(frame + 32, 0);
-  store64(frame + 24, 0);
-  store64(frame + 16, 0);
-  store64(frame + 8, 0);
-  v5 = 0;
+  uint32_t v4 = 0, v5 = 0, v7 = 0, v9 = 0, v13 = 0, v16 = 0, v17 = 0, v18 = 0, v19 = 0, v20 = 0,
+      t0, t1, t2, t3, t4, t5, t6;
+  uint64_t v6 = 0, v8 = 0, v10 = 0, v11 = 0, v12 = 0, v14 = 0, v15 = 0, v21 = 0;
+  v4 = 0;
   if (p3 != 0)
     goto after_1;
-  v6 = 1;
+  v5 = 1;
   goto after_2;
 after_1:;
-  v6 = 1;
+  v5 = 1;
   if (load8(p2) == 2u)
     goto after_3;
-  v5 = 1;
+  v4 = 1;
   goto after_2;
 after_3:;
   if (p3 == 1)
     goto after_2;
-  v7 = p2 + 2;
+  v6 = p2 + 2;
   p3 = p3 + 0xfffffffffffffffe;
-  v8 = (uint32_t)(int8_t)(uint32_t)load8(p2 + 1);
-  if ((int32_t)v8 >= 0)
+  v7 = (uint32_t)(int8_t)(uint32_t)load8(p2 + 1);
+  if ((int32_t)v7 >= 0)
     goto after_4;
-  v5 = 2;
-  if (((v8 + 123u) & 0xffu) < 252u)
+  v4 = 2;
+  if (((v7 + 123u) & 0xffu) < 252u)
     goto after_2;
-  v9 = (uint64_t)(int32_t)v8 + 128;
-  if (p3 < v9)
+  v8 = (uint64_t)(int32_t)v7 + 128;
+  if (p3 < v8)
     goto after_5;
-  v8 = load8(v7);
-  v10 = 0;
-  if (v9 == 1)
+  v7 = load8(v6);
+  v9 = 0;
+  if (v8 == 1)
     goto after_6;
-  v10 = v8 << 8;
-  v8 = v10 | (uint32_t)load8(p2 + 3);
-  if (v9 == 2)
+  v9 = v7 << 8;
+  v7 = v9 | (uint32_t)load8(p2 + 3);
+  if (v8 == 2)
     goto after_6;
-  v10 = v8 << 8;
-  v8 = v10 | (uint32_t)load8(p2 + 4);
-  if (v9 == 3)
+  v9 = v7 << 8;
+  v7 = v9 | (uint32_t)load8(p2 + 4);
+  if (v8 == 3)
     goto after_6;
-  v10 = v8 << 8;
-  v8 = v10 | (uint32_t)load8(p2 + 5);
+  v9 = v7 << 8;
+  v7 = v9 | (uint32_t)load8(p2 + 5);
 after_6:;
-  if (v8 < 128u)
+  if (v7 < 128u)
     goto after_2;
-  if (((uint32_t)load8(v7) & 0xffu) == 0u)
+  if (((uint32_t)load8(v6) & 0xffu) == 0u)
     goto after_2;
-  if (v10 > 0xfffffffu)
+  if (v9 > 0xfffffffu)
     goto after_2;
-  v7 = v7 + v9;
-  p3 = p3 - v9;
+  v6 = v6 + v8;
+  p3 = p3 - v8;
 after_4:;
-  p2 = v8;
+  p2 = v7;
   if (p3 < p2)
     goto after_5;
-  v6 = 1;
-  v5 = 4;
-  if (v8 != 1u)
+  v5 = 1;
+  v4 = 4;
+  if (v7 != 1u)
     goto after_2;
-  v6 = 1;
-  if (load8(v7) != 1u)
+  v5 = 1;
+  if (load8(v6) != 1u)
     goto after_2;
   if (p3 == p2)
     goto after_5;
-  v6 = 1;
-  v7 = v7 + p2;
-  if (load8(v7) == 4u)
-    goto after_7;
   v5 = 1;
+  v6 = v6 + p2;
+  if (load8(v6) == 4u)
+    goto after_7;
+  v4 = 1;
   goto after_2;
 after_7:;
   p3 = p3 - p2;
   if (p3 == 1)
     goto after_5;
-  p2 = v7 + 2;
+  p2 = v6 + 2;
   p3 = p3 + 0xfffffffffffffffe;
-  v8 = (uint32_t)(int8_t)(uint32_t)load8(v7 + 1);
-  if ((int32_t)v8 >= 0)
+  v7 = (uint32_t)(int8_t)(uint32_t)load8(v6 + 1);
+  if ((int32_t)v7 >= 0)
     goto after_8;
-  v5 = 2;
-  if (((v8 + 123u) & 0xffu) < 252u)
+  v4 = 2;
+  if (((v7 + 123u) & 0xffu) < 252u)
     goto after_2;
-  v9 = (uint64_t)(int32_t)v8 + 128;
-  if (p3 < v9)
+  v8 = (uint64_t)(int32_t)v7 + 128;
+  if (p3 < v8)
     goto after_5;
-  v8 = load8(p2);
-  v10 = 0;
-  if (v9 == 1)
+  v7 = load8(p2);
+  v9 = 0;
+  if (v8 == 1)
     goto after_9;
-  v10 = v8 << 8;
-  v8 = v10 | (uint32_t)load8(v7 + 3);
-  if (v9 == 2)
+  v9 = v7 << 8;
+  v7 = v9 | (uint32_t)load8(v6 + 3);
+  if (v8 == 2)
     goto after_9;
-  v10 = v8 << 8;
-  v8 = v10 | (uint32_t)load8(v7 + 4);
-  if (v9 == 3)
+  v9 = v7 << 8;
+  v7 = v9 | (uint32_t)load8(v6 + 4);
+  if (v8 == 3)
     goto after_9;
-  v10 = v8 << 8;
-  v8 = v10 | (uint32_t)load8(v7 + 5);
+  v9 = v7 << 8;
+  v7 = v9 | (uint32_t)load8(v6 + 5);
 after_9:;
-  if (v8 < 128u)
+  if (v7 < 128u)
     goto after_2;
   if (((uint32_t)load8(p2) & 0xffu) == 0u)
     goto after_2;
-  if (v10 > 0xfffffffu)
+  if (v9 > 0xfffffffu)
     goto after_2;
-  p2 = p2 + v9;
-  p3 = p3 - v9;
+  p2 = p2 + v8;
+  p3 = p3 - v8;
 after_8:;
-  v7 = v8;
-  if (p3 < v7)
+  v6 = v7;
+  if (p3 < v6)
     goto after_5;
-  v11 = 0;
-  p3 = p3 - v7;
+  v10 = 0;
+  p3 = p3 - v6;
   if (p3 != 0)
     goto after_10;
-  store64(p1 + 8, v7);
+  store64(p1 + 8, v6);
   store64(p1, p2);
   goto after_11;
 after_10:;
-  v9 = p2 + v7;
-  v8 = load8(v9);
-  if (v8 == 160u)
+  v8 = p2 + v6;
+  v7 = load8(v8);
+  if (v7 == 160u)
     goto after_12;
-  v12 = 0;
-  v5 = v8;
+  v11 = 0;
+  v4 = v7;
   goto after_13;
 after_12:;
   if (p3 == 1)
     goto after_5;
-  v13 = v9 + 2;
+  v12 = v8 + 2;
   p3 = p3 + 0xfffffffffffffffe;
-  v10 = (uint32_t)(int8_t)(uint32_t)load8(v9 + 1);
-  if ((int32_t)v10 >= 0)
+  v9 = (uint32_t)(int8_t)(uint32_t)load8(v8 + 1);
+  if ((int32_t)v9 >= 0)
     goto after_14;
-  v5 = 2;
-  if (((v10 + 123u) & 0xffu) < 252u)
+  v4 = 2;
+  if (((v9 + 123u) & 0xffu) < 252u)
     goto after_2;
-  v11 = (uint64_t)(int32_t)v10 + 128;
-  if (p3 < v11)
+  v10 = (uint64_t)(int32_t)v9 + 128;
+  if (p3 < v10)
     goto after_5;
-  v10 = load8(v13);
-  v14 = 0;
-  if (v11 == 1)
+  v9 = load8(v12);
+  v13 = 0;
+  if (v10 == 1)
     goto after_15;
-  v14 = v10 << 8;
-  v10 = v14 | (uint32_t)load8(v9 + 3);
-  if (v11 == 2)
+  v13 = v9 << 8;
+  v9 = v13 | (uint32_t)load8(v8 + 3);
+  if (v10 == 2)
     goto after_15;
-  v14 = v10 << 8;
-  v10 = v14 | (uint32_t)load8(v9 + 4);
-  if (v11 == 3)
+  v13 = v9 << 8;
+  v9 = v13 | (uint32_t)load8(v8 + 4);
+  if (v10 == 3)
     goto after_15;
-  v14 = v10 << 8;
-  v10 = v14 | (uint32_t)load8(v9 + 5);
+  v13 = v9 << 8;
+  v9 = v13 | (uint32_t)load8(v8 + 5);
 after_15:;
-  if (v10 < 128u)
+  if (v9 < 128u)
     goto after_2;
-  if (((uint32_t)load8(v13) & 0xffu) == 0u)
+  if (((uint32_t)load8(v12) & 0xffu) == 0u)
     goto after_2;
-  if (v14 > 0xfffffffu)
+  if (v13 > 0xfffffffu)
     goto after_2;
-  v13 = v13 + v11;
-  p3 = p3 - v11;
+  v12 = v12 + v10;
+  p3 = p3 - v10;
 after_14:;
-  v9 = v10;
-  if (p3 < v9)
+  v8 = v9;
+  if (p3 < v8)
     goto after_5;
-  if (v10 == 0u)
+  if (v9 == 0u)
     goto after_5;
-  if (load8(v13) == 6u)
+  if (load8(v12) == 6u)
     goto after_16;
-  v5 = 1;
+  v4 = 1;
   goto after_2;
 after_16:;
-  if (v10 == 1u)
+  if (v9 == 1u)
     goto after_17;
-  v11 = v13 + 2;
-  v12 = v9 + 0xfffffffffffffffe;
-  v10 = (uint32_t)(int8_t)(uint32_t)load8(v13 + 1);
-  if ((int32_t)v10 >= 0)
+  v10 = v12 + 2;
+  v11 = v8 + 0xfffffffffffffffe;
+  v9 = (uint32_t)(int8_t)(uint32_t)load8(v12 + 1);
+  if ((int32_t)v9 >= 0)
     goto after_18;
-  v5 = 2;
-  if (((v10 + 123u) & 0xffu) >= 252u)
+  v4 = 2;
+  if (((v9 + 123u) & 0xffu) >= 252u)
     goto after_19;
-  v6 = 1;
+  v5 = 1;
   goto after_2;
 after_19:;
-  v15 = (uint64_t)(int32_t)v10 + 128;
-  if (v12 >= v15)
+  v14 = (uint64_t)(int32_t)v9 + 128;
+  if (v11 >= v14)
     goto after_20;
-  v5 = 0;
-  v6 = 1;
+  v4 = 0;
+  v5 = 1;
   goto after_2;
 after_20:;
-  v10 = load8(v11);
-  v14 = 0;
-  if (v15 == 1)
+  v9 = load8(v10);
+  v13 = 0;
+  if (v14 == 1)
     goto after_21;
-  v14 = v10 << 8;
-  v10 = v14 | (uint32_t)load8(v13 + 3);
-  if (v15 == 2)
+  v13 = v9 << 8;
+  v9 = v13 | (uint32_t)load8(v12 + 3);
+  if (v14 == 2)
     goto after_21;
-  v14 = v10 << 8;
-  v10 = v14 | (uint32_t)load8(v13 + 4);
-  if (v15 == 3)
+  v13 = v9 << 8;
+  v9 = v13 | (uint32_t)load8(v12 + 4);
+  if (v14 == 3)
     goto after_21;
-  v14 = v10 << 8;
-  v10 = v14 | (uint32_t)load8(v13 + 5);
+  v13 = v9 << 8;
+  v9 = v13 | (uint32_t)load8(v12 + 5);
 after_21:;
-  if (v10 >= 128u)
+  if (v9 >= 128u)
     goto after_22;
-  v6 = 1;
+  v5 = 1;
   goto after_2;
 after_22:;
-  if ((uint32_t)load8(v11) & 0xffu)
+  if ((uint32_t)load8(v10) & 0xffu)
     goto after_23;
-  v6 = 1;
+  v5 = 1;
   goto after_2;
 after_23:;
-  if (v14 <= 0xfffffffu)
+  if (v13 <= 0xfffffffu)
     goto after_24;
-  v6 = 1;
+  v5 = 1;
   goto after_2;
 after_24:;
-  v11 = v11 + v15;
-  v12 = v12 - v15;
+  v10 = v10 + v14;
+  v11 = v11 - v14;
 after_18:;
-  v16 = v10;
-  if (v12 < v16)
+  v15 = v9;
+  if (v11 < v15)
     goto after_17;
-  if (v10 != 8u)
+  if (v9 != 8u)
     goto after_25;
-  v5 = (uint32_t)(int8_t)(uint32_t)load8(v11);
-  v10 = (uint32_t)(int8_t)(uint32_t)load8(v11 + 1);
-  t0 = (uint32_t)((v5 & 0xffu) == 128u) | ((uint32_t)((v10 & 0xffu) == 128u) << 1);
-  v14 = (uint32_t)(int8_t)(uint32_t)load8(v11 + 3);
-  v17 = (uint32_t)(int8_t)(uint32_t)load8(v11 + 2);
-  t1 = ((uint32_t)((v14 & 0xffu) == 128u) << 3) | ((uint32_t)((v17 & 0xffu) == 128u) << 2);
-  v18 = (uint32_t)(int8_t)(uint32_t)load8(v11 + 4);
-  v19 = (uint32_t)(int8_t)(uint32_t)load8(v11 + 5);
-  t2 = (uint32_t)((v18 & 0xffu) == 128u) | ((uint32_t)((v19 & 0xffu) == 128u) << 1);
-  v20 = (uint32_t)(int8_t)(uint32_t)load8(v11 + 7);
-  v21 = (uint32_t)(int8_t)(uint32_t)load8(v11 + 6);
-  t3 = ((uint32_t)((v20 & 0xffu) == 128u) << 3) | ((uint32_t)((v21 & 0xffu) == 128u) << 2);
+  v4 = (uint32_t)(int8_t)(uint32_t)load8(v10);
+  v9 = (uint32_t)(int8_t)(uint32_t)load8(v10 + 1);
+  t0 = (uint32_t)((v4 & 0xffu) == 128u) | ((uint32_t)((v9 & 0xffu) == 128u) << 1);
+  v13 = (uint32_t)(int8_t)(uint32_t)load8(v10 + 3);
+  v16 = (uint32_t)(int8_t)(uint32_t)load8(v10 + 2);
+  t1 = ((uint32_t)((v13 & 0xffu) == 128u) << 3) | ((uint32_t)((v16 & 0xffu) == 128u) << 2);
+  v17 = (uint32_t)(int8_t)(uint32_t)load8(v10 + 4);
+  v18 = (uint32_t)(int8_t)(uint32_t)load8(v10 + 5);
+  t2 = (uint32_t)((v17 & 0xffu) == 128u) | ((uint32_t)((v18 & 0xffu) == 128u) << 1);
+  v19 = (uint32_t)(int8_t)(uint32_t)load8(v10 + 7);
+  v20 = (uint32_t)(int8_t)(uint32_t)load8(v10 + 6);
+  t3 = ((uint32_t)((v19 & 0xffu) == 128u) << 3) | ((uint32_t)((v20 & 0xffu) == 128u) << 2);
   if ((t0 | t1) | ((t2 | t3) << 4))
     goto after_26;
-  t4 = ((uint32_t)((int32_t)v5 > -1) | ((uint32_t)((int32_t)v10 > -1) << 1)) |
-      (((uint32_t)((int32_t)v14 > -1) << 3) | ((uint32_t)((int32_t)v17 > -1) << 2));
-  t5 = ((uint32_t)((int32_t)v18 > -1) | ((uint32_t)((int32_t)v19 > -1) << 1)) |
-      (((uint32_t)((int32_t)v20 > -1) << 3) | ((uint32_t)((int32_t)v21 > -1) << 2));
-  v15 = t4 | (t5 << 4);
-  if (((v15 >> 1) | v15) == 255)
+  t4 = ((uint32_t)((int32_t)v4 > -1) | ((uint32_t)((int32_t)v9 > -1) << 1)) |
+      (((uint32_t)((int32_t)v13 > -1) << 3) | ((uint32_t)((int32_t)v16 > -1) << 2));
+  t5 = ((uint32_t)((int32_t)v17 > -1) | ((uint32_t)((int32_t)v18 > -1) << 1)) |
+      (((uint32_t)((int32_t)v19 > -1) << 3) | ((uint32_t)((int32_t)v20 > -1) << 2));
+  v14 = t4 | (t5 << 4);
+  if (((v14 >> 1) | v14) == 255)
     goto after_27;
   goto after_26;
 after_25:;
-  if ((v10 + 0xffffffd8u) >= 0xffffffd9u)
+  if ((v9 + 0xffffffd8u) >= 0xffffffd9u)
     goto after_26;
   goto after_28;
 after_27:;
-  if (v12 != v16)
+  if (v11 != v15)
     goto after_29;
   goto after_30;
 after_26:;
-  v22 = v16 + 0xffffffffffffffff;
-  v5 = 0;
-  v15 = v11;
+  v21 = v15 + 0xffffffffffffffff;
+  v4 = 0;
+  v14 = v10;
 again_36:;
-  v10 = (uint32_t)(int8_t)(uint32_t)load8(v15);
-  if ((int32_t)v10 > -1)
+  v9 = (uint32_t)(int8_t)(uint32_t)load8(v14);
+  if ((int32_t)v9 > -1)
     goto after_31;
-  v14 = v5 & 0xffu;
-  if (v14)
+  v13 = v4 & 0xffu;
+  if (v13)
     goto after_32;
-  if (v10 == 0xffffff80u)
+  if (v9 == 0xffffff80u)
     goto after_28;
-  v5 = (v10 < 0xffffff90u) ? 1u : 2u;
+  v4 = (v9 < 0xffffff90u) ? 1u : 2u;
   goto after_33;
 after_32:;
-  if (v14 > 3u)
+  if (v13 > 3u)
     goto after_28;
-  v5 = v5 + 1u;
+  v4 = v4 + 1u;
 after_33:;
-  if (v22 == 0)
+  if (v21 == 0)
     goto after_28;
   goto after_34;
 after_31:;
-  v5 = 0;
-  if (v22 == 0)
+  v4 = 0;
+  if (v21 == 0)
     goto after_35;
 after_34:;
-  v15 = v15 + 1;
-  v22 = v22 + 0xffffffffffffffff;
+  v14 = v14 + 1;
+  v21 = v21 + 0xffffffffffffffff;
   goto again_36;
 after_35:;
-  if (v12 == v16)
+  if (v11 == v15)
     goto after_30;
 after_29:;
-  v5 = 3;
-  v6 = 1;
+  v4 = 3;
+  v5 = 1;
   goto after_2;
 after_30:;
-  v15 = 0;
-  p3 = p3 - v9;
-  if (p3 != 0)
+  p3 = p3 - v8;
+  if (p3 == 0)
     goto after_37;
-  store64(p1 + 8, v7);
-  store64(p1, p2);
-  v5 = 0;
-  v16 = 0;
-  goto after_38;
-after_37:;
-  v9 = v13 + v9;
-  v5 = load8(v9);
+  v8 = v12 + v8;
+  v4 = load8(v8);
 after_13:;
-  if ((v5 & 0xffu) == 161u)
-    goto after_39;
-  v5 = 3;
+  if ((v4 & 0xffu) == 161u)
+    goto after_38;
+  v4 = 3;
   goto after_2;
-after_39:;
+after_38:;
   if (p3 == 1)
     goto after_5;
-  v13 = v9 + 2;
+  v12 = v8 + 2;
   p3 = p3 + 0xfffffffffffffffe;
-  v10 = (uint32_t)(int8_t)(uint32_t)load8(v9 + 1);
-  if ((int32_t)v10 >= 0)
+  v9 = (uint32_t)(int8_t)(uint32_t)load8(v8 + 1);
+  if ((int32_t)v9 >= 0)
+    goto after_39;
+  v4 = 2;
+  if (((v9 + 123u) & 0xffu) < 252u)
+    goto after_2;
+  v14 = (uint64_t)(int32_t)v9 + 128;
+  if (p3 < v14)
+    goto after_5;
+  v9 = load8(v12);
+  v13 = 0;
+  if (v14 == 1)
     goto after_40;
-  v5 = 2;
-  if (((v10 + 123u) & 0xffu) < 252u)
-    goto after_2;
-  v15 = (uint64_t)(int32_t)v10 + 128;
-  if (p3 < v15)
-    goto after_5;
-  v10 = load8(v13);
-  v14 = 0;
-  if (v15 == 1)
-    goto after_41;
-  v14 = v10 << 8;
-  v10 = v14 | (uint32_t)load8(v9 + 3);
-  if (v15 == 2)
-    goto after_41;
-  v14 = v10 << 8;
-  v10 = v14 | (uint32_t)load8(v9 + 4);
-  if (v15 == 3)
-    goto after_41;
-  v14 = v10 << 8;
-  v10 = v14 | (uint32_t)load8(v9 + 5);
-after_41:;
-  if (v10 < 128u)
-    goto after_2;
-  if (((uint32_t)load8(v13) & 0xffu) == 0u)
-    goto after_2;
-  if (v14 > 0xfffffffu)
-    goto after_2;
-  v13 = v13 + v15;
-  p3 = p3 - v15;
+  v13 = v9 << 8;
+  v9 = v13 | (uint32_t)load8(v8 + 3);
+  if (v14 == 2)
+    goto after_40;
+  v13 = v9 << 8;
+  v9 = v13 | (uint32_t)load8(v8 + 4);
+  if (v14 == 3)
+    goto after_40;
+  v13 = v9 << 8;
+  v9 = v13 | (uint32_t)load8(v8 + 5);
 after_40:;
-  if (v10 == 0u)
+  if (v9 < 128u)
+    goto after_2;
+  if (((uint32_t)load8(v12) & 0xffu) == 0u)
+    goto after_2;
+  if (v13 > 0xfffffffu)
+    goto after_2;
+  v12 = v12 + v14;
+  p3 = p3 - v14;
+after_39:;
+  if (v9 == 0u)
     goto after_5;
-  v9 = v10;
-  if (p3 < v9)
+  v8 = v9;
+  if (p3 < v8)
     goto after_5;
+  v4 = 1;
+  if (load8(v12) != 3u)
+    goto after_2;
   v5 = 1;
-  if (load8(v13) != 3u)
-    goto after_2;
-  v6 = 1;
-  if (v10 == 1u)
+  if (v9 == 1u)
     goto after_5;
-  v22 = v13 + 2;
-  v15 = v9 + 0xfffffffffffffffe;
-  v10 = (uint32_t)(int8_t)(uint32_t)load8(v13 + 1);
-  if ((int32_t)v10 >= 0)
+  v21 = v12 + 2;
+  v14 = v8 + 0xfffffffffffffffe;
+  v9 = (uint32_t)(int8_t)(uint32_t)load8(v12 + 1);
+  if ((int32_t)v9 >= 0)
+    goto after_41;
+  v4 = 2;
+  if (((v9 + 123u) & 0xffu) < 252u)
+    goto after_2;
+  v15 = (uint64_t)(int32_t)v9 + 128;
+  if (v14 < v15)
+    goto after_5;
+  v9 = load8(v21);
+  v13 = 0;
+  if (v15 == 1)
     goto after_42;
-  v5 = 2;
-  if (((v10 + 123u) & 0xffu) < 252u)
-    goto after_2;
-  v16 = (uint64_t)(int32_t)v10 + 128;
-  if (v15 < v16)
-    goto after_5;
-  v10 = load8(v22);
-  v14 = 0;
-  if (v16 == 1)
-    goto after_43;
-  v14 = v10 << 8;
-  v10 = v14 | (uint32_t)load8(v13 + 3);
-  if (v16 == 2)
-    goto after_43;
-  v14 = v10 << 8;
-  v10 = v14 | (uint32_t)load8(v13 + 4);
-  if (v16 == 3)
-    goto after_43;
-  v14 = v10 << 8;
-  v10 = v14 | (uint32_t)load8(v13 + 5);
-after_43:;
-  if (v10 < 128u)
-    goto after_2;
-  if (((uint32_t)load8(v22) & 0xffu) == 0u)
-    goto after_2;
-  if (v14 > 0xfffffffu)
-    goto after_2;
-  v22 = v22 + v16;
-  v15 = v15 - v16;
+  v13 = v9 << 8;
+  v9 = v13 | (uint32_t)load8(v12 + 3);
+  if (v15 == 2)
+    goto after_42;
+  v13 = v9 << 8;
+  v9 = v13 | (uint32_t)load8(v12 + 4);
+  if (v15 == 3)
+    goto after_42;
+  v13 = v9 << 8;
+  v9 = v13 | (uint32_t)load8(v12 + 5);
 after_42:;
-  v13 = v10;
-  if (v15 < v13)
+  if (v9 < 128u)
+    goto after_2;
+  if (((uint32_t)load8(v21) & 0xffu) == 0u)
+    goto after_2;
+  if (v13 > 0xfffffffu)
+    goto after_2;
+  v21 = v21 + v15;
+  v14 = v14 - v15;
+after_41:;
+  v12 = v9;
+  if (v14 < v12)
     goto after_5;
-  v5 = 4;
-  if (v10)
+  v4 = 4;
+  if (v9)
+    goto after_43;
+  v4 = 4;
+  goto after_2;
+after_43:;
+  v9 = load8(v21);
+  v15 = v12 + 0xffffffffffffffff;
+  if (v15 != 0)
     goto after_44;
-  v5 = 4;
+  if (v9 & 0xffu)
+    goto after_2;
+  v4 = 3;
+  if (p3 != v8)
+    goto after_2;
+  if (v14 == v12)
+    goto after_45;
   goto after_2;
 after_44:;
-  v10 = load8(v22);
-  v16 = v13 + 0xffffffffffffffff;
-  if (v16 != 0)
-    goto after_45;
-  if (v10 & 0xffu)
-    goto after_2;
-  v5 = 3;
-  if (p3 != v9)
-    goto after_2;
-  if (v15 == v13)
+  v4 = v9 & 0xffu;
+  if (v4 <= 7u)
     goto after_46;
+  v4 = 4;
   goto after_2;
-after_45:;
-  v5 = v10 & 0xffu;
-  if (v5 <= 7u)
-    goto after_47;
-  v5 = 4;
-  goto after_2;
-after_47:;
-  t6 = (uint32_t)((((0xffffffffu << (v5 & 0x1fu)) ^ 0xffffffffu) & (uint32_t)load8(v16 + v22))
+after_46:;
+  t6 = (uint32_t)((((0xffffffffu << (v4 & 0x1fu)) ^ 0xffffffffu) & (uint32_t)load8(v15 + v21))
       == 0u);
   if (t6)
+    goto after_47;
+  v4 = 4;
+  goto after_2;
+after_47:;
+  v4 = 3;
+  if (v14 != v12)
+    goto after_2;
+  if ((v9 & 0xffu) == 0u)
     goto after_48;
-  v5 = 4;
+  v4 = 4;
   goto after_2;
 after_48:;
-  v5 = 3;
-  if (v15 != v13)
+  if (p3 != v8)
     goto after_2;
-  if ((v10 & 0xffu) == 0u)
-    goto after_49;
-  v5 = 4;
-  goto after_2;
-after_49:;
-  if (p3 != v9)
-    goto after_2;
-after_46:;
-  v15 = v22 + 1;
-  store64(p1 + 8, v7);
+after_45:;
+  p3 = v21 + 1;
+  store64(p1 + 8, v6);
   store64(p1, p2);
-  v5 = 1;
-  if (v8 != 160u)
-    goto after_50;
-after_38:;
-  store64(v4 + 71, 0);
-  store64(v4 + 64, 0);
-  store64(v4 + 56, 0);
-  store64(v4 + 48, 0);
-  store64(v4 + 40, 0);
-  if (v12 == 0)
-    goto after_51;
-  move(v4 + 40, v11, v12);
-after_51:;
-  p3 = load64(v4 + 64);
-  store64(v4 + 32, p3);
-  p2 = load64(v4 + 56);
-  store64(v4 + 24, p2);
-  v7 = load64(v4 + 48);
-  store64(v4 + 16, v7);
-  v9 = load64(v4 + 40);
-  store64(v4 + 8, v9);
-  v11 = load8(v4 + 78);
-  v13 = load16(v4 + 76);
-  v4 = load32(v4 + 72);
-  store64(p1 + 24, 0);
+  if (v7 != 160u)
+    goto after_49;
+  store64(p1 + 32, v11);
+  store64(p1 + 24, v10);
   store64(p1 + 16, 1);
-  store64(p1 + 32, v9);
-  store64(p1 + 40, v7);
-  store64(p1 + 48, p2);
-  store64(p1 + 56, p3);
-  store64(p1 + 72, v12);
-  store64(p1 + 64, v4 | ((v11 << 48) | (v13 << 32)));
-  if (v5 == 0u)
-    goto after_11;
-after_50:;
-  store64(p1 + 96, v16);
-  store64(p1 + 88, v15);
-  store64(p1 + 80, 1);
+after_49:;
+  store64(p1 + 56, v15);
+  store64(p1 + 48, p3);
+  store64(p1 + 40, 1);
+  goto after_11;
+after_37:;
+  store64(p1 + 8, v6);
+  store64(p1, p2);
+  store64(p1 + 32, v11);
+  store64(p1 + 24, v10);
+  store64(p1 + 16, 1);
 after_11:;
-  v6 = 0;
+  v5 = 0;
   goto after_5;
 after_28:;
-  v5 = 4;
-  v6 = 1;
+  v4 = 4;
+  v5 = 1;
   goto after_2;
 after_17:;
-  v6 = 1;
+  v5 = 1;
 after_5:;
-  v5 = 0;
+  v4 = 0;
 after_2:;
-  store8(p0 + 1, (uint8_t)v5);
-  store8(p0, (uint8_t)v6);
+  store8(p0 + 1, (uint8_t)v4);
+  store8(p0, (uint8_t)v5);
 }
 
 /* pkix::private_key::PrivateKeyInfo::from_der */
@@ -4185,233 +4005,6 @@ after_1:;
 after_21:;
 }
 
-/* sec1_c::fields::fields_len::<#19b6bbbb548dea63> */
-static uint64_t sec1_c_fields_fields_len(uint64_t p0)
-{
-  uint32_t v9 = 0, v10 = 0, t0;
-  uint64_t v2 = 0, v3 = 0, v4 = 0, v5 = 0, v6 = 0, v7 = 0, v8 = 0, v11 = 0, v12 = 0, v13 = 0,
-      v14 = 0;
-  v2 = 0;
-  v3 = 0;
-  if (load8(p0) != 1u)
-    goto after_1;
-  v4 = load64(p0 + 8);
-  v5 = v4;
-  v6 = load64(p0 + 16);
-  v7 = v6;
-again_12:;
-  if (v7 == 0)
-    goto after_2;
-  if (v7 == 1)
-    goto after_3;
-  if (((uint32_t)load8(v5) & 0xffu) != 48u)
-    goto after_3;
-  v8 = v5 + 2;
-  v7 = v7 + 0xfffffffffffffffe;
-  v9 = (uint32_t)(int8_t)(uint32_t)load8(v5 + 1);
-  if ((int32_t)v9 >= 0)
-    goto after_4;
-  if (((v9 + 123u) & 0xffu) < 252u)
-    goto after_3;
-  v3 = (uint64_t)(int32_t)v9 + 128;
-  if (v7 < v3)
-    goto after_3;
-  v9 = load8(v8);
-  v10 = 0;
-  if (v3 == 1)
-    goto after_5;
-  v10 = v9 << 8;
-  v9 = v10 | (uint32_t)load8(v5 + 3);
-  if (v3 == 2)
-    goto after_5;
-  v10 = v9 << 8;
-  v9 = v10 | (uint32_t)load8(v5 + 4);
-  if (v3 == 3)
-    goto after_5;
-  v10 = v9 << 8;
-  v9 = v10 | (uint32_t)load8(v5 + 5);
-after_5:;
-  if (v9 < 128u)
-    goto after_3;
-  if (((uint32_t)load8(v8) & 0xffu) == 0u)
-    goto after_3;
-  if (v10 > 0xfffffffu)
-    goto after_3;
-  v8 = v8 + v3;
-  v7 = v7 - v3;
-after_4:;
-  v5 = v9;
-  if (v7 < v5)
-    goto after_3;
-  if (v9 == 0u)
-    goto after_3;
-  if (v9 == 1u)
-    goto after_3;
-  if (((uint32_t)load8(v8) & 0xffu) != 6u)
-    goto after_3;
-  v3 = v8 + 2;
-  v11 = v5 + 0xfffffffffffffffe;
-  v9 = (uint32_t)(int8_t)(uint32_t)load8(v8 + 1);
-  if ((int32_t)v9 >= 0)
-    goto after_6;
-  if (((v9 + 123u) & 0xffu) < 252u)
-    goto after_3;
-  v12 = (uint64_t)(int32_t)v9 + 128;
-  if (v11 < v12)
-    goto after_3;
-  v9 = load8(v3);
-  v10 = 0;
-  if (v12 == 1)
-    goto after_7;
-  v10 = v9 << 8;
-  v9 = v10 | (uint32_t)load8(v8 + 3);
-  if (v12 == 2)
-    goto after_7;
-  v10 = v9 << 8;
-  v9 = v10 | (uint32_t)load8(v8 + 4);
-  if (v12 == 3)
-    goto after_7;
-  v10 = v9 << 8;
-  v9 = v10 | (uint32_t)load8(v8 + 5);
-after_7:;
-  if (v9 < 128u)
-    goto after_3;
-  if (((uint32_t)load8(v3) & 0xffu) == 0u)
-    goto after_3;
-  if (v10 > 0xfffffffu)
-    goto after_3;
-  v3 = v3 + v12;
-  v11 = v11 - v12;
-after_6:;
-  v12 = v9;
-  if (v11 < v12)
-    goto after_3;
-  if (v9 == 0u)
-    goto after_3;
-  v7 = v7 - v5;
-  v5 = v8 + v5;
-  v13 = v11 - v12;
-  v14 = v3 + v12;
-  v8 = v12;
-  v10 = 1;
-again_9:;
-  v9 = (uint32_t)(int8_t)(uint32_t)load8(v3);
-  if ((v10 & 1u) == 0u)
-    goto after_8;
-  if (v9 == 0xffffff80u)
-    goto after_3;
-after_8:;
-  v3 = v3 + 1;
-  v10 = (uint32_t)((int32_t)v9 > -1);
-  v8 = v8 + 0xffffffffffffffff;
-  if (v8 != 0)
-    goto again_9;
-  if (v11 == v12)
-    goto after_3;
-  if ((int32_t)v9 < 0)
-    goto after_3;
-  if (load8(v14) != 49u)
-    goto after_3;
-  if (v13 == 1)
-    goto after_3;
-  v3 = v13 + 0xfffffffffffffffe;
-  v9 = (uint32_t)(int8_t)(uint32_t)load8(v14 + 1);
-  if ((int32_t)v9 >= 0)
-    goto after_10;
-  if (((v9 + 123u) & 0xffu) < 252u)
-    goto after_3;
-  v8 = (uint64_t)(int32_t)v9 + 128;
-  if (v3 < v8)
-    goto after_3;
-  v11 = v14 + 2;
-  v9 = load8(v11);
-  v10 = 0;
-  if (v8 == 1)
-    goto after_11;
-  v10 = v9 << 8;
-  v9 = v10 | (uint32_t)load8(v14 + 3);
-  if (v8 == 2)
-    goto after_11;
-  v10 = v9 << 8;
-  v9 = v10 | (uint32_t)load8(v14 + 4);
-  if (v8 == 3)
-    goto after_11;
-  v10 = v9 << 8;
-  v9 = v10 | (uint32_t)load8(v14 + 5);
-after_11:;
-  if (v9 < 128u)
-    goto after_3;
-  if (((uint32_t)load8(v11) & 0xffu) == 0u)
-    goto after_3;
-  if (v10 > 0xfffffffu)
-    goto after_3;
-  v3 = v3 - v8;
-after_10:;
-  if (v3 == (uint64_t)v9)
-    goto again_12;
-  goto after_3;
-after_2:;
-  t0 = der_types_set_of_is_ascending(v4, v6);
-  if (t0 == 0u)
-    goto after_3;
-  if (v6 > 0xfffffff)
-    goto after_3;
-  if (v6 >= 128)
-    goto after_13;
-  v3 = 2;
-  goto after_14;
-after_13:;
-  if (v6 >= 256)
-    goto after_15;
-  v3 = 3;
-  goto after_14;
-after_15:;
-  if (v6 >= 0x10000)
-    goto after_16;
-  v3 = 4;
-  goto after_14;
-after_16:;
-  v3 = (v6 < 0x1000000) ? 5ull : 6ull;
-after_14:;
-  v3 = v3 + v6;
-  if (v3 > 0xfffffff)
-    goto after_3;
-after_1:;
-  if (load8(p0 + 24) != 1u)
-    goto after_17;
-  v8 = load64(p0 + 48) + 1;
-  if (v8 > 0xfffffff)
-    goto after_3;
-  if (v8 >= 128)
-    goto after_18;
-  v11 = 2;
-  goto after_19;
-after_18:;
-  if (v8 >= 256)
-    goto after_20;
-  v11 = 3;
-  goto after_19;
-after_20:;
-  if (v8 >= 0x10000)
-    goto after_21;
-  v11 = 4;
-  goto after_19;
-after_21:;
-  v11 = (v8 < 0x1000000) ? 5ull : 6ull;
-after_19:;
-  v2 = v11 + v8;
-  if (v2 > 0xfffffff)
-    goto after_3;
-after_17:;
-  v3 = v2 + v3;
-  if (v3 <= 0xfffffff)
-    goto after_22;
-after_3:;
-  trap();
-after_22:;
-  return v3;
-}
-
 /* sec1_der::required::RequiredDecodePart::decode_part::<#bae983b3689e6e8f> */
 static void sec1_der_required_RequiredDecodePart_decode_part(uint64_t p0, uint64_t p1)
 {
@@ -4844,6 +4437,449 @@ after_10:;
   v2 = (uint32_t)(load8(v5 + p0) == 48u);
 after_1:;
   return v2;
+}
+
+/* sec1_c::private_key::names_curve */
+static uint32_t sec1_c_private_key_names_curve(uint64_t p0, uint32_t p1)
+{
+  FRAME(96)
+  uint32_t v3 = 0, v6 = 0, v7 = 0, v8 = 0, v9 = 0, v10 = 0, v11 = 0, v12 = 0, v13 = 0, v14 = 0,
+      v15 = 0, v16 = 0, v17 = 0, v18 = 0, v19 = 0, v20 = 0, v21 = 0, v22 = 0, v23 = 0, v24 = 0,
+      v25 = 0, v26 = 0, v27 = 0, v28 = 0, v29 = 0, v30 = 0, v31 = 0, v32 = 0, v33 = 0, v34 = 0,
+      v35 = 0, v36 = 0, v37 = 0, t0, t1, t2, t3, t4;
+  uint64_t v4 = 0, v5 = 0, v38 = 0;
+  store64(frame + 48, 0);
+  store64(frame + 40, 0);
+  store64(frame + 32, 0);
+  store64(frame + 24, 0);
+  store64(frame + 16, 0);
+  store64(frame + 8, 0);
+  v3 = 1;
+  if (load8(p0 + 16) != 1u)
+    goto after_1;
+  v4 = load64(p0 + 32);
+  p0 = load64(p0 + 24);
+  store64(frame + 87, 0);
+  store64(frame + 80, 0);
+  store64(frame + 72, 0);
+  store64(frame + 64, 0);
+  store64(frame + 56, 0);
+  if (v4 == 0)
+    goto after_2;
+  move(frame + 56, p0, v4);
+after_2:;
+  p0 = load8(frame + 94);
+  v5 = load16(frame + 92);
+  v6 = load8(frame + 87);
+  v7 = load8(frame + 86);
+  v8 = load8(frame + 85);
+  v9 = load8(frame + 84);
+  v10 = load8(frame + 83);
+  v11 = load8(frame + 82);
+  v12 = load8(frame + 81);
+  v13 = load8(frame + 80);
+  v14 = load8(frame + 79);
+  v15 = load8(frame + 78);
+  v16 = load8(frame + 77);
+  v17 = load8(frame + 76);
+  v18 = load8(frame + 75);
+  v19 = load8(frame + 74);
+  v20 = load8(frame + 73);
+  v21 = load8(frame + 72);
+  v22 = load8(frame + 71);
+  v23 = load8(frame + 70);
+  v24 = load8(frame + 69);
+  v25 = load8(frame + 68);
+  v26 = load8(frame + 67);
+  v27 = load8(frame + 66);
+  v28 = load8(frame + 65);
+  v29 = load8(frame + 64);
+  v30 = load8(frame + 63);
+  v31 = load8(frame + 62);
+  v32 = load8(frame + 61);
+  v33 = load8(frame + 60);
+  v34 = load8(frame + 59);
+  v35 = load8(frame + 58);
+  v36 = load8(frame + 57);
+  v37 = load8(frame + 56);
+  v38 = load32(frame + 88);
+  curves_curve_Curve_identifier(frame + 8, p1);
+  v3 = 0;
+  if (v37 != load8(frame + 8))
+    goto after_1;
+  if ((v36 & 0xffu) != ((uint32_t)load8(frame + 9) & 0xffu))
+    goto after_1;
+  if ((v35 & 0xffu) != ((uint32_t)load8(frame + 10) & 0xffu))
+    goto after_1;
+  if ((v34 & 0xffu) != ((uint32_t)load8(frame + 11) & 0xffu))
+    goto after_1;
+  if ((v33 & 0xffu) != ((uint32_t)load8(frame + 12) & 0xffu))
+    goto after_1;
+  if ((v32 & 0xffu) != ((uint32_t)load8(frame + 13) & 0xffu))
+    goto after_1;
+  if ((v31 & 0xffu) != ((uint32_t)load8(frame + 14) & 0xffu))
+    goto after_1;
+  if ((v30 & 0xffu) != ((uint32_t)load8(frame + 15) & 0xffu))
+    goto after_1;
+  if ((v29 & 0xffu) != ((uint32_t)load8(frame + 16) & 0xffu))
+    goto after_1;
+  if ((v22 & 0xffu) != ((uint32_t)load8(frame + 23) & 0xffu))
+    goto after_1;
+  if ((v23 & 0xffu) != ((uint32_t)load8(frame + 22) & 0xffu))
+    goto after_1;
+  if ((v24 & 0xffu) != ((uint32_t)load8(frame + 21) & 0xffu))
+    goto after_1;
+  if ((v25 & 0xffu) != ((uint32_t)load8(frame + 20) & 0xffu))
+    goto after_1;
+  if ((v26 & 0xffu) != ((uint32_t)load8(frame + 19) & 0xffu))
+    goto after_1;
+  if ((v27 & 0xffu) != ((uint32_t)load8(frame + 18) & 0xffu))
+    goto after_1;
+  if ((v28 & 0xffu) != ((uint32_t)load8(frame + 17) & 0xffu))
+    goto after_1;
+  if ((v14 & 0xffu) != ((uint32_t)load8(frame + 31) & 0xffu))
+    goto after_1;
+  if ((v15 & 0xffu) != ((uint32_t)load8(frame + 30) & 0xffu))
+    goto after_1;
+  if ((v16 & 0xffu) != ((uint32_t)load8(frame + 29) & 0xffu))
+    goto after_1;
+  if ((v17 & 0xffu) != ((uint32_t)load8(frame + 28) & 0xffu))
+    goto after_1;
+  if ((v18 & 0xffu) != ((uint32_t)load8(frame + 27) & 0xffu))
+    goto after_1;
+  if ((v19 & 0xffu) != ((uint32_t)load8(frame + 26) & 0xffu))
+    goto after_1;
+  if ((v20 & 0xffu) != ((uint32_t)load8(frame + 25) & 0xffu))
+    goto after_1;
+  if ((v21 & 0xffu) != ((uint32_t)load8(frame + 24) & 0xffu))
+    goto after_1;
+  if ((v6 & 0xffu) != ((uint32_t)load8(frame + 39) & 0xffu))
+    goto after_1;
+  if ((v7 & 0xffu) != ((uint32_t)load8(frame + 38) & 0xffu))
+    goto after_1;
+  if ((v8 & 0xffu) != ((uint32_t)load8(frame + 37) & 0xffu))
+    goto after_1;
+  if ((v9 & 0xffu) != ((uint32_t)load8(frame + 36) & 0xffu))
+    goto after_1;
+  if ((v10 & 0xffu) != ((uint32_t)load8(frame + 35) & 0xffu))
+    goto after_1;
+  if ((v11 & 0xffu) != ((uint32_t)load8(frame + 34) & 0xffu))
+    goto after_1;
+  if ((v12 & 0xffu) != ((uint32_t)load8(frame + 33) & 0xffu))
+    goto after_1;
+  if ((v13 & 0xffu) != ((uint32_t)load8(frame + 32) & 0xffu))
+    goto after_1;
+  if (((uint32_t)load8(frame + 40) & 0xffu) != ((uint32_t)v38 & 0xffu))
+    goto after_1;
+  v5 = (p0 << 48) | (v5 << 32);
+  v38 = v38 | v5;
+  t0 = (uint32_t)(((uint32_t)load8(frame + 41) & 0xffu) != ((uint32_t)(v38 >> 8) & 0xffu));
+  if (t0)
+    goto after_1;
+  t1 = (uint32_t)(((uint32_t)load8(frame + 42) & 0xffu) != ((uint32_t)(v38 >> 16) & 0xffu));
+  if (t1)
+    goto after_1;
+  t2 = (uint32_t)(((uint32_t)load8(frame + 43) & 0xffu) != ((uint32_t)(v38 >> 24) & 0xffu));
+  if (t2)
+    goto after_1;
+  t3 = (uint32_t)(((uint32_t)load8(frame + 44) & 0xffu) != ((uint32_t)(v5 >> 32) & 0xffu));
+  if (t3)
+    goto after_1;
+  t4 = (uint32_t)(((uint32_t)load8(frame + 45) & 0xffu) != ((uint32_t)(v5 >> 40) & 0xffu));
+  if (t4)
+    goto after_1;
+  if (((uint32_t)load8(frame + 46) & 0xffu) != (uint32_t)p0)
+    goto after_1;
+  v3 = (uint32_t)(v4 == load64(frame + 48));
+after_1:;
+  return v3;
+}
+
+/* curves::curve::Curve::identifier */
+static void curves_curve_Curve_identifier(uint64_t p0, uint32_t p1)
+{
+  FRAME(112)
+  uint32_t v6 = 0, v7 = 0, v8 = 0, v9 = 0, v10 = 0, v11 = 0, v12 = 0, t0, t1, t2, t3, t4, t5;
+  uint64_t v2 = 0, v3 = 0, v4 = 0, v5 = 0, v13 = 0, v14 = 0, v15 = 0, v16 = 0;
+  v2 = frame;
+  store64(frame + 30, 0);
+  store64(frame + 24, 0);
+  store64(frame + 16, 0);
+  store64(frame + 8, 0);
+  store64(frame, 0);
+  v3 = CONSTANT(74);
+  v4 = CONSTANT(34);
+  v5 = 5;
+  switch ((uint32_t)((uint64_t)p1 & 0xff)) {
+  case 2:
+    goto after_1;
+  case 3:
+    goto after_2;
+  case 4:
+    goto after_3;
+  case 5:
+    goto after_4;
+  case 6:
+    goto after_5;
+  case 7:
+    goto after_6;
+  case 9:
+    goto after_7;
+  case 10:
+    goto after_8;
+  case 11:
+    goto after_9;
+  case 13:
+    goto after_10;
+  case 14:
+    goto after_11;
+  case 15:
+    goto after_12;
+  case 16:
+    goto after_13;
+  case 17:
+    goto after_14;
+  case 18:
+    goto after_15;
+  case 19:
+    goto after_16;
+  case 20:
+    goto after_17;
+  case 21:
+    goto after_18;
+  case 22:
+    goto after_19;
+  case 23:
+    goto after_20;
+  case 24:
+    goto after_21;
+  case 25:
+    goto after_22;
+  case 26:
+    goto after_23;
+  case 27:
+    goto after_24;
+  case 28:
+    goto after_25;
+  case 29:
+    goto after_26;
+  case 30:
+    goto after_27;
+  case 31:
+    goto after_28;
+  case 32:
+    goto after_29;
+  case 33:
+    goto after_30;
+  case 12:
+    goto after_31;
+  case 8:
+    goto after_32;
+  case 1:
+    goto after_33;
+  default:
+    goto after_34;
+  }
+after_1:;
+  v4 = CONSTANT(44);
+  goto after_34;
+after_2:;
+  v4 = CONSTANT(49);
+  goto after_34;
+after_3:;
+  v4 = CONSTANT(54);
+  goto after_34;
+after_4:;
+  v4 = CONSTANT(59);
+  goto after_34;
+after_5:;
+  v4 = CONSTANT(64);
+  goto after_34;
+after_6:;
+  v4 = CONSTANT(69);
+  goto after_34;
+after_7:;
+  v4 = CONSTANT(82);
+  goto after_34;
+after_8:;
+  v4 = CONSTANT(87);
+  goto after_34;
+after_9:;
+  v4 = CONSTANT(92);
+  goto after_34;
+after_10:;
+  v4 = CONSTANT(105);
+  goto after_34;
+after_11:;
+  v4 = CONSTANT(110);
+  goto after_34;
+after_12:;
+  v3 = CONSTANT(115);
+  goto after_32;
+after_13:;
+  v3 = CONSTANT(123);
+  goto after_32;
+after_14:;
+  v3 = CONSTANT(131);
+  goto after_32;
+after_15:;
+  v3 = CONSTANT(139);
+  goto after_32;
+after_16:;
+  v3 = CONSTANT(147);
+  goto after_32;
+after_17:;
+  v4 = CONSTANT(155);
+  v5 = 9;
+  goto after_34;
+after_18:;
+  v4 = CONSTANT(164);
+  v5 = 9;
+  goto after_34;
+after_19:;
+  v4 = CONSTANT(173);
+  v5 = 9;
+  goto after_34;
+after_20:;
+  v4 = CONSTANT(182);
+  v5 = 9;
+  goto after_34;
+after_21:;
+  v4 = CONSTANT(191);
+  v5 = 9;
+  goto after_34;
+after_22:;
+  v4 = CONSTANT(200);
+  v5 = 9;
+  goto after_34;
+after_23:;
+  v4 = CONSTANT(209);
+  v5 = 9;
+  goto after_34;
+after_24:;
+  v4 = CONSTANT(218);
+  v5 = 9;
+  goto after_34;
+after_25:;
+  v4 = CONSTANT(227);
+  v5 = 9;
+  goto after_34;
+after_26:;
+  v4 = CONSTANT(236);
+  v5 = 9;
+  goto after_34;
+after_27:;
+  v4 = CONSTANT(245);
+  v5 = 9;
+  goto after_34;
+after_28:;
+  v4 = CONSTANT(254);
+  v5 = 9;
+  goto after_34;
+after_29:;
+  v4 = CONSTANT(263);
+  v5 = 9;
+  goto after_34;
+after_30:;
+  v4 = CONSTANT(272);
+  v5 = 9;
+  goto after_34;
+after_31:;
+  v3 = CONSTANT(97);
+after_32:;
+  v5 = 8;
+  p1 = (uint32_t)(int8_t)(uint32_t)load8(v3);
+  v6 = (uint32_t)(int8_t)(uint32_t)load8(v3 + 1);
+  t0 = (uint32_t)((p1 & 0xffu) == 128u) | ((uint32_t)((v6 & 0xffu) == 128u) << 1);
+  v7 = (uint32_t)(int8_t)(uint32_t)load8(v3 + 3);
+  v8 = (uint32_t)(int8_t)(uint32_t)load8(v3 + 2);
+  t1 = ((uint32_t)((v7 & 0xffu) == 128u) << 3) | ((uint32_t)((v8 & 0xffu) == 128u) << 2);
+  v9 = (uint32_t)(int8_t)(uint32_t)load8(v3 + 4);
+  v10 = (uint32_t)(int8_t)(uint32_t)load8(v3 + 5);
+  t2 = (uint32_t)((v9 & 0xffu) == 128u) | ((uint32_t)((v10 & 0xffu) == 128u) << 1);
+  v11 = (uint32_t)(int8_t)(uint32_t)load8(v3 + 7);
+  v12 = (uint32_t)(int8_t)(uint32_t)load8(v3 + 6);
+  t3 = ((uint32_t)((v11 & 0xffu) == 128u) << 3) | ((uint32_t)((v12 & 0xffu) == 128u) << 2);
+  if (((t0 | t1) | ((t2 | t3) << 4)) == 0u)
+    goto after_35;
+  v4 = v3;
+  goto after_34;
+after_33:;
+  v4 = CONSTANT(39);
+  goto after_34;
+after_35:;
+  v4 = v3;
+  t4 = ((uint32_t)((int32_t)p1 > -1) | ((uint32_t)((int32_t)v6 > -1) << 1)) |
+      (((uint32_t)((int32_t)v7 > -1) << 3) | ((uint32_t)((int32_t)v8 > -1) << 2));
+  t5 = ((uint32_t)((int32_t)v9 > -1) | ((uint32_t)((int32_t)v10 > -1) << 1)) |
+      (((uint32_t)((int32_t)v11 > -1) << 3) | ((uint32_t)((int32_t)v12 > -1) << 2));
+  v13 = t4 | (t5 << 4);
+  if (((v13 >> 1) | v13) == 255)
+    goto after_36;
+after_34:;
+  v13 = v5 + 0xffffffffffffffff;
+  p1 = 0;
+  v3 = 0;
+again_42:;
+  v6 = (uint32_t)(int8_t)(uint32_t)load8(v4 + v3);
+  if ((int32_t)v6 > -1)
+    goto after_37;
+  v7 = p1 & 0xffu;
+  if (v7)
+    goto after_38;
+  if (v6 == 0xffffff80u)
+    goto after_39;
+  p1 = (v6 < 0xffffff90u) ? 1u : 2u;
+  goto after_40;
+after_38:;
+  if (v7 > 3u)
+    goto after_39;
+  p1 = p1 + 1u;
+after_40:;
+  if (v13 == v3)
+    goto after_39;
+  goto after_41;
+after_37:;
+  p1 = 0;
+  if (v13 != v3)
+    goto after_41;
+  v3 = v4;
+  goto after_36;
+after_41:;
+  v3 = v3 + 1;
+  goto again_42;
+after_39:;
+  trap();
+after_36:;
+  store64(v2 + 103, 0);
+  store64(v2 + 96, 0);
+  store64(v2 + 88, 0);
+  store64(v2 + 80, 0);
+  store64(v2 + 72, 0);
+  if (v5 == 0)
+    goto after_43;
+  move(v2 + 72, v3, v5);
+after_43:;
+  v3 = load64(v2 + 96);
+  store64(v2 + 64, v3);
+  v4 = load64(v2 + 88);
+  store64(v2 + 56, v4);
+  v13 = load64(v2 + 72);
+  store64(v2 + 40, v13);
+  store64(v2 + 6, v13);
+  v14 = load64(v2 + 80);
+  store64(v2 + 14, v14);
+  store64(v2 + 22, v4);
+  store64(v2 + 30, v3);
+  v15 = load8(v2 + 110);
+  v16 = load16(v2 + 108);
+  v2 = load32(v2 + 104);
+  store64(p0 + 24, v3);
+  store64(p0 + 16, v4);
+  store64(p0 + 8, v14);
+  store64(p0, v13);
+  store64(p0 + 40, v5);
+  store64(p0 + 32, v2 | ((v15 << 48) | (v16 << 32)));
 }
 
 /* der_view::text::Sources::new */
@@ -6846,25 +6882,25 @@ after_5:;
 static void sec1_c_picture_lines_Lines_push_bytes(uint64_t p0, uint64_t p1, uint64_t p2,
     uint64_t p3)
 {
-  FRAME(4960)
+  FRAME(4912)
   uint32_t v5 = 0, v6 = 0, v7 = 0, v8 = 0, v10 = 0, v11 = 0, t0;
   uint64_t v9 = 0, v12 = 0, v13 = 0, v14 = 0, v15 = 0, t1;
-  fill(frame + 552, 0, 2152);
-  fill(frame + 344, 0, 208);
-  fill(frame + 192, 0, 152);
-  fill(frame + 16, 0, 176);
-  der_view_rows_Rows_new(frame + 552, p2, p3, 0);
-  move(frame + 2704, frame + 552, 2152);
-  v5 = load8(frame + 2737);
-  v6 = load8(frame + 2736);
-  der_view_rows_Rows_next_row(frame + 344, frame + 2704);
-  if (load8(frame + 344) != 1u)
+  fill(frame + 544, 0, 2152);
+  fill(frame + 336, 0, 208);
+  fill(frame + 184, 0, 152);
+  fill(frame + 8, 0, 176);
+  der_view_rows_Rows_new(frame + 544, p2, p3, 0);
+  move(frame + 2696, frame + 544, 2152);
+  v5 = load8(frame + 2729);
+  v6 = load8(frame + 2728);
+  der_view_rows_Rows_next_row(frame + 336, frame + 2696);
+  if (load8(frame + 336) != 1u)
     goto after_1;
   v7 = v6 + 0xfffffff9u;
   v8 = (uint32_t)((v7 & 0xffu) < 4u);
 again_10:;
-  v6 = load8(frame + 440);
-  v9 = load64(frame + 352);
+  v6 = load8(frame + 432);
+  v9 = load64(frame + 344);
   if (v5 & 1u)
     goto after_2;
   v5 = 0;
@@ -6878,11 +6914,11 @@ after_2:;
     goto after_3;
   if (v5 == 0u)
     goto after_3;
-  if (((uint32_t)load8(frame + 433) & 0xffu) != 1u)
+  if (((uint32_t)load8(frame + 425) & 0xffu) != 1u)
     goto after_4;
   v5 = 1;
   v10 = 1;
-  switch (load8(frame + 434)) {
+  switch (load8(frame + 426)) {
   case 6: case 7: case 17: case 18: case 26: case 27: case 28: case 29: case 32: case 33:
     goto after_3;
   default:
@@ -6896,11 +6932,11 @@ after_3:;
   v13 = load64(v12);
   if (v13 >= load64(p0 + 8))
     goto after_5;
-  v11 = load8(frame + 504);
-  v14 = load64(frame + 424);
-  v15 = load64(frame + 392);
+  v11 = load8(frame + 496);
+  v14 = load64(frame + 416);
+  v15 = load64(frame + 384);
   v13 = load64(p0) + (v13 * 48);
-  store64(v13 + 32, load64(frame + 360));
+  store64(v13 + 32, load64(frame + 352));
   store64(v13 + 24, v14);
   store64(v13 + 16, v15);
   store64(v13 + 8, v9);
@@ -6909,7 +6945,7 @@ after_3:;
   store64(v13 + 40, t0);
   v13 = load64(v12);
 after_5:;
-  v10 = load8(frame + 472);
+  v10 = load8(frame + 464);
   v13 = v13 + 1;
   v13 = (v13 == 0) ? 0xffffffffffffffffull : v13;
   store64(v12, v13);
@@ -6946,8 +6982,8 @@ after_9:;
   v13 = v13 + 1;
   store64(p0 + 16, (v13 == 0) ? 0xffffffffffffffffull : v13);
 after_8:;
-  der_view_rows_Rows_next_row(frame + 344, frame + 2704);
-  if (load8(frame + 344) == 1u)
+  der_view_rows_Rows_next_row(frame + 336, frame + 2696);
+  if (load8(frame + 336) == 1u)
     goto again_10;
 after_1:;
   v5 = load8(p1);
@@ -6965,7 +7001,7 @@ after_11:;
 after_12:;
   v5 = 2;
 after_13:;
-  der_view_picture_verdict_Subject_new(frame + 16, p2, p3, v5);
+  der_view_picture_verdict_Subject_new(frame + 8, p2, p3, v5);
   v5 = 0;
   if (p3 == 0)
     goto after_14;
@@ -7015,11 +7051,11 @@ after_15:;
   v9 = v6;
   if (v13 < v9)
     goto after_14;
-  sec1_private_key_EcPrivateKeyReadInPlace_read_content(frame + 8, frame + 4856, v12, v9);
-  v5 = (uint32_t)(v13 == v9) & (uint32_t)(load8(frame + 8) == 0u);
+  sec1_borrowed_key_BorrowedKeyReadInPlace_read_content(frame, frame + 4848, v12, v9);
+  v5 = (uint32_t)(v13 == v9) & (uint32_t)(load8(frame) == 0u);
 after_14:;
-  der_view_picture_verdict_Subject_verdict(frame + 192, frame + 16, v5);
-  v9 = load64(frame + 312);
+  der_view_picture_verdict_Subject_verdict(frame + 184, frame + 8, v5);
+  v9 = load64(frame + 304);
   v12 = p0 + 16;
   v13 = load64(v12);
   if (v13 >= load64(p0 + 8))
@@ -7033,7 +7069,7 @@ after_14:;
   store64(v13 + 40, 0);
   v13 = load64(v12);
 after_18:;
-  v5 = load8(frame + 320);
+  v5 = load8(frame + 312);
   v13 = v13 + 1;
   v13 = (v13 == 0) ? 0xffffffffffffffffull : v13;
   store64(v12, v13);
@@ -16917,143 +16953,171 @@ after_1:;
 after_9:;
 }
 
-/* sec1_der::part::Tuple2EncodePart::part_len::<#4ae47bafd251ed8c> */
-static void sec1_der_part_Tuple2EncodePart_part_len(uint64_t p0, uint64_t p1)
+/* sec1_der::codec::element_len::<#f9f0f5ce30fdb27e> */
+static void sec1_der_codec_element_len(uint64_t p0, uint64_t p1)
 {
-  uint32_t v6 = 0;
-  uint64_t v2 = 0, v3 = 0, v4 = 0, v5 = 0;
-  v2 = load64(p1 + 8);
-  if (v2 > 0xfffffff)
-    goto after_1;
-  if (v2 >= 128)
-    goto after_2;
-  v3 = 2;
-  goto after_3;
-after_2:;
-  if (v2 >= 256)
-    goto after_4;
-  v3 = 3;
-  goto after_3;
-after_4:;
-  if (v2 >= 0x10000)
-    goto after_5;
-  v3 = 4;
-  goto after_3;
-after_5:;
-  v3 = (v2 < 0x1000000) ? 5ull : 6ull;
-after_3:;
-  v2 = v3 + v2;
-  if (v2 > 0xfffffff)
-    goto after_1;
-  v4 = 0;
+  uint32_t v4 = 0, v5 = 0, v6 = 0;
+  uint64_t v2 = 0, v3 = 0, v7 = 0, v8 = 0, v9 = 0;
+  v2 = 0;
   v3 = 0;
-  if (load8(p1 + 16) != 1u)
-    goto after_6;
+  v4 = load8(p1 + 16);
+  if (v4 != 1u)
+    goto after_1;
   v3 = load64(p1 + 32);
-  if (v3 > 0xfffffff)
-    goto after_1;
-  if (v3 >= 128)
-    goto after_7;
-  v5 = 2;
-  goto after_8;
-after_7:;
-  if (v3 >= 256)
-    goto after_9;
-  v5 = 3;
-  goto after_8;
-after_9:;
-  if (v3 >= 0x10000)
-    goto after_10;
-  v5 = 4;
-  goto after_8;
-after_10:;
-  v5 = (v3 < 0x1000000) ? 5ull : 6ull;
-after_8:;
-  v3 = v5 + v3;
-  if (v3 > 0xfffffff)
-    goto after_1;
-  if (v3 >= 128)
-    goto after_11;
-  v5 = 2;
-  goto after_12;
-after_11:;
-  if (v3 >= 256)
-    goto after_13;
-  v5 = 3;
-  goto after_12;
-after_13:;
-  if (v3 >= 0x10000)
-    goto after_14;
-  v5 = 4;
-  goto after_12;
-after_14:;
-  v5 = (v3 < 0x1000000) ? 5ull : 6ull;
-after_12:;
-  v3 = v5 + v3;
-  if (v3 > 0xfffffff)
-    goto after_1;
-after_6:;
-  if (load8(p1 + 40) != 1u)
-    goto after_15;
-  p1 = load64(p1 + 56);
-  if (p1 > 0xffffffe)
-    goto after_1;
-  v4 = p1 + 1;
-  if (p1 >= 127)
-    goto after_16;
-  p1 = 2;
-  goto after_17;
-after_16:;
-  if (p1 >= 255)
-    goto after_18;
-  p1 = 3;
-  goto after_17;
-after_18:;
-  if (p1 >= 65535)
-    goto after_19;
-  p1 = 4;
-  goto after_17;
-after_19:;
-  p1 = (p1 < 0xffffff) ? 5ull : 6ull;
-after_17:;
-  p1 = v4 + p1;
-  if (p1 > 0xfffffff)
-    goto after_1;
-  if (p1 >= 128)
-    goto after_20;
-  v4 = 2;
-  goto after_21;
-after_20:;
-  if (p1 >= 256)
-    goto after_22;
-  v4 = 3;
-  goto after_21;
-after_22:;
-  if (p1 >= 0x10000)
-    goto after_23;
-  v4 = 4;
-  goto after_21;
-after_23:;
-  v4 = (p1 < 0x1000000) ? 5ull : 6ull;
-after_21:;
-  v4 = v4 + p1;
-  if (v4 > 0xfffffff)
-    goto after_1;
-after_15:;
-  p1 = v4 + v3;
-  if (p1 > 0xfffffff)
-    goto after_1;
-  p1 = p1 + v2;
-  if (p1 >= 0x10000000)
-    goto after_1;
-  v6 = (uint32_t)(p1 > 0xffffffc);
-  store8(p0, (uint8_t)v6);
-  store8(p0 + 1, (uint8_t)(v6 ? 5u : 0u));
-  store32(p0 + 4, v6 ? 0u : ((uint32_t)p1 + 3u));
-  return;
 after_1:;
-  store16(p0, 1281);
-  store32(p0 + 4, 0);
+  v5 = load8(p1 + 40);
+  if (v5 != 1u)
+    goto after_2;
+  v2 = load64(p1 + 56);
+after_2:;
+  v6 = 0;
+  v7 = 0;
+  p1 = load64(p1 + 8);
+  if (p1 > 0xfffffff)
+    goto after_3;
+  if (p1 >= 128)
+    goto after_4;
+  v8 = 2;
+  goto after_5;
+after_4:;
+  if (p1 >= 256)
+    goto after_6;
+  v8 = 3;
+  goto after_5;
+after_6:;
+  if (p1 >= 0x10000)
+    goto after_7;
+  v8 = 4;
+  goto after_5;
+after_7:;
+  v8 = (p1 < 0x1000000) ? 5ull : 6ull;
+after_5:;
+  p1 = v8 + p1;
+  if (p1 > 0xfffffff)
+    goto after_3;
+  v9 = 0;
+  v8 = 0;
+  if (v4 != 1u)
+    goto after_8;
+  v7 = 0;
+  if (v3 > 0xfffffff)
+    goto after_3;
+  if (v3 >= 128)
+    goto after_9;
+  v8 = 2;
+  goto after_10;
+after_9:;
+  if (v3 >= 256)
+    goto after_11;
+  v8 = 3;
+  goto after_10;
+after_11:;
+  if (v3 >= 0x10000)
+    goto after_12;
+  v8 = 4;
+  goto after_10;
+after_12:;
+  v8 = (v3 < 0x1000000) ? 5ull : 6ull;
+after_10:;
+  v3 = v8 + v3;
+  if (v3 > 0xfffffff)
+    goto after_3;
+  if (v3 >= 128)
+    goto after_13;
+  v8 = 2;
+  goto after_14;
+after_13:;
+  if (v3 >= 256)
+    goto after_15;
+  v8 = 3;
+  goto after_14;
+after_15:;
+  if (v3 >= 0x10000)
+    goto after_16;
+  v8 = 4;
+  goto after_14;
+after_16:;
+  v8 = (v3 < 0x1000000) ? 5ull : 6ull;
+after_14:;
+  v8 = v8 + v3;
+  if (v8 > 0xfffffff)
+    goto after_3;
+after_8:;
+  if (v5 != 1u)
+    goto after_17;
+  v7 = 0;
+  if (v2 > 0xffffffe)
+    goto after_3;
+  v3 = v2 + 1;
+  if (v2 >= 127)
+    goto after_18;
+  v2 = 2;
+  goto after_19;
+after_18:;
+  if (v2 >= 255)
+    goto after_20;
+  v2 = 3;
+  goto after_19;
+after_20:;
+  if (v2 >= 65535)
+    goto after_21;
+  v2 = 4;
+  goto after_19;
+after_21:;
+  v2 = (v2 < 0xffffff) ? 5ull : 6ull;
+after_19:;
+  v3 = v3 + v2;
+  if (v3 > 0xfffffff)
+    goto after_3;
+  if (v3 >= 128)
+    goto after_22;
+  v2 = 2;
+  goto after_23;
+after_22:;
+  if (v3 >= 256)
+    goto after_24;
+  v2 = 3;
+  goto after_23;
+after_24:;
+  if (v3 >= 0x10000)
+    goto after_25;
+  v2 = 4;
+  goto after_23;
+after_25:;
+  v2 = (v3 < 0x1000000) ? 5ull : 6ull;
+after_23:;
+  v9 = v2 + v3;
+  if (v9 > 0xfffffff)
+    goto after_3;
+after_17:;
+  v7 = 0;
+  v3 = v9 + v8;
+  if (v3 > 0xfffffff)
+    goto after_3;
+  p1 = v3 + p1;
+  if (p1 > 0xffffffc)
+    goto after_3;
+  v7 = 3;
+  v3 = p1 + 3;
+  if (p1 >= 125)
+    goto after_26;
+  v7 = 2;
+  goto after_27;
+after_26:;
+  if (p1 < 253)
+    goto after_27;
+  if (p1 >= 65533)
+    goto after_28;
+  v7 = 4;
+  goto after_27;
+after_28:;
+  v7 = (p1 < 0xfffffd) ? 5ull : 6ull;
+after_27:;
+  v7 = v3 + v7;
+  v6 = 1;
+after_3:;
+  store64(p0 + 8, v7);
+  store8(p0, (uint8_t)v6);
   return;
 }
 
@@ -19185,170 +19249,170 @@ after_12:;
 /* sec1_c::container::fault::tell_curve */
 static uint32_t sec1_c_container_fault_tell_curve(uint64_t p0, uint64_t p1, uint64_t p2)
 {
-  FRAME(112)
-  uint32_t v6 = 0, v12 = 0, v16 = 0, t0;
-  uint64_t v3 = 0, v5 = 0, v7 = 0, v8 = 0, v9 = 0, v10 = 0, v11 = 0, v13 = 0, v14 = 0, v15 = 0, t1;
+  FRAME(16)
+  uint32_t v6 = 0, v8 = 0, v11 = 0, t0;
+  uint64_t v3 = 0, v5 = 0, v7 = 0, v9 = 0, v10 = 0, v12 = 0, v13 = 0, t1;
   v3 = frame;
-  v5 = load64(p1);
-  v3 = load64(p1 + 8);
-  if (v3 != 7)
+  v5 = load64(p1 + 8);
+  if (v5 != 7)
     goto after_1;
-  if (load8(v5) != 42u)
+  v3 = load64(p1);
+  if (load8(v3) != 42u)
     goto after_1;
-  if (((uint32_t)load8(v5 + 1) & 0xffu) != 134u)
+  if (((uint32_t)load8(v3 + 1) & 0xffu) != 134u)
     goto after_1;
-  if (((uint32_t)load8(v5 + 2) & 0xffu) != 72u)
+  if (((uint32_t)load8(v3 + 2) & 0xffu) != 72u)
     goto after_1;
-  if (((uint32_t)load8(v5 + 3) & 0xffu) != 206u)
+  if (((uint32_t)load8(v3 + 3) & 0xffu) != 206u)
     goto after_1;
-  t0 = core_cmp_slices_groups_equal(v5, 7, CONSTANT(281));
+  t0 = core_cmp_slices_groups_equal(v3, 7, CONSTANT(281));
   if (t0 == 0u)
     goto after_1;
   if (load8(p1 + 16) != 1u)
     goto after_1;
   if (load8(p1 + 40) != 6u)
     goto after_1;
-  curves_curve_Curve_from_content(frame, load64(p1 + 48), load64(p1 + 56));
+  curves_curve_Curve_from_content(frame + 8, load64(p1 + 48), load64(p1 + 56));
   v6 = 0;
-  if (load8(frame) == 1u)
+  if (load8(frame + 8) == 1u)
     goto after_2;
 after_1:;
   v7 = 0;
-  store64(frame + 104, 0);
-  store64(frame + 96, 0);
-  store64(frame + 88, 0);
-  v8 = 0;
-  v9 = load8(p1 + 80);
-  if (v9 != 1)
+  v6 = load8(p1 + 80);
+  if (v6 != 1u)
     goto after_3;
-  v8 = load64(p1 + 96);
-  v7 = load64(p1 + 88);
+  v7 = load32(p1 + 96);
 after_3:;
-  v10 = load8(p1 + 104);
-  if (v10 != 1)
+  v3 = 1;
+  v8 = load8(p1 + 104);
+  if (v8 != 1u)
     goto after_4;
-  store64(frame + 104, load64(p1 + 128));
-  store64(frame + 96, load64(p1 + 120));
-  store64(frame + 88, load64(p1 + 112));
+  v3 = load64(p1 + 128) + 1;
 after_4:;
-  v11 = 0;
-  v12 = load8(p1 + 16);
-  if (v12 != 1u)
+  v9 = 0;
+  v10 = 0;
+  v11 = load8(p1 + 16);
+  if (v11 != 1u)
     goto after_5;
-  v11 = load64(p1 + 32);
+  v10 = load64(p1 + 32);
 after_5:;
-  v13 = load64(frame + 88);
-  store64(frame + 8, v13);
-  v14 = load64(frame + 96);
-  store64(frame + 16, v14);
-  v15 = load64(frame + 104);
-  store64(frame + 24, v15);
-  store64(frame + 56, v10);
-  store64(frame + 48, v8);
-  store64(frame + 40, v7);
-  store64(frame + 32, v9);
-  store64(frame + 64, v13);
-  store64(frame + 72, v14);
-  store64(frame + 80, v15);
-  p1 = load64(p1 + 72);
-  t1 = sec1_c_fields_fields_len(frame + 32);
-  v8 = t1;
-  if (p1 > 0xfffffff)
+  p1 = p1 + 72;
+  if (v6 != 1u)
     goto after_6;
-  if (p1 >= 128)
+  v6 = (uint32_t)v7;
+  if (v6 >= 128u)
     goto after_7;
-  v7 = 2;
+  v9 = 0xfffffffffffffffe;
   goto after_8;
 after_7:;
-  if (p1 >= 256)
+  if (v6 >= 256u)
     goto after_9;
-  v7 = 3;
+  v9 = 0xfffffffffffffffd;
   goto after_8;
 after_9:;
-  if (p1 >= 0x10000)
+  if (v6 >= 0x10000u)
     goto after_10;
-  v7 = 4;
+  v9 = 0xfffffffffffffffc;
   goto after_8;
 after_10:;
-  v7 = (p1 < 0x1000000) ? 5ull : 6ull;
+  v9 = (v6 < 0x1000000u) ? 0xfffffffffffffffbull : 0xfffffffffffffffaull;
 after_8:;
-  v7 = v7 + p1;
-  if (v7 >= 0x10000000)
-    goto after_6;
-  if (v3 == 0)
-    goto after_6;
-  p1 = 0;
-  v16 = 1;
-again_12:;
-  v6 = (uint32_t)(int8_t)(uint32_t)load8(v5 + p1);
-  if ((v16 & 1u) == 0u)
+  v9 = v9 - v7;
+after_6:;
+  p1 = load64(p1);
+  v7 = 0;
+  if (v8 != 1u)
     goto after_11;
-  if (v6 == 0xffffff80u)
-    goto after_6;
-after_11:;
-  v16 = (uint32_t)((int32_t)v6 > -1);
-  p1 = p1 + 1;
-  if (v3 != p1)
-    goto again_12;
-  if (v3 > 0xfffffff)
-    goto after_6;
-  if ((int32_t)v6 < 0)
-    goto after_6;
+  if (v3 >= 0x10000000)
+    goto after_12;
   if (v3 >= 128)
     goto after_13;
-  p1 = 2;
+  v7 = 0xfffffffffffffffe;
   goto after_14;
 after_13:;
   if (v3 >= 256)
     goto after_15;
-  p1 = 3;
+  v7 = 0xfffffffffffffffd;
   goto after_14;
 after_15:;
   if (v3 >= 0x10000)
     goto after_16;
-  p1 = 4;
+  v7 = 0xfffffffffffffffc;
   goto after_14;
 after_16:;
-  p1 = (v3 < 0x1000000) ? 5ull : 6ull;
+  v7 = (v3 < 0x1000000) ? 0xfffffffffffffffbull : 0xfffffffffffffffaull;
 after_14:;
-  v3 = p1 + v3;
-  if (v3 > 0xfffffff)
-    goto after_6;
-  p1 = 0;
-  if (v12 != 1u)
-    goto after_17;
-  p1 = v11;
-  if (v11 > 0xfffffff)
-    goto after_6;
-after_17:;
-  p1 = p1 + v3;
-  if (p1 > 0xfffffff)
-    goto after_6;
-  if (p1 >= 128)
-    goto after_18;
-  v3 = 2;
-  goto after_19;
-after_18:;
-  if (p1 >= 256)
-    goto after_20;
-  v3 = 3;
-  goto after_19;
-after_20:;
-  if (p1 >= 0x10000)
-    goto after_21;
-  v3 = 4;
-  goto after_19;
-after_21:;
-  v3 = (p1 < 0x1000000) ? 5ull : 6ull;
-after_19:;
-  p1 = v3 + p1;
+  v7 = v7 - v3;
+after_11:;
   if (p1 >= 0x10000000)
-    goto after_6;
-  store64(p2, p0 - ((v8 + v7) + p1));
+    goto after_12;
+  if (p1 >= 128)
+    goto after_17;
+  v12 = 0xfffffffffffffffe;
+  goto after_18;
+after_17:;
+  if (p1 >= 256)
+    goto after_19;
+  v12 = 0xfffffffffffffffd;
+  goto after_18;
+after_19:;
+  if (p1 >= 0x10000)
+    goto after_20;
+  v12 = 0xfffffffffffffffc;
+  goto after_18;
+after_20:;
+  v12 = (p1 < 0x1000000) ? 0xfffffffffffffffbull : 0xfffffffffffffffaull;
+after_18:;
+  v6 = (uint32_t)v5;
+  if (v6 >= 128u)
+    goto after_21;
+  v13 = 2;
+  goto after_22;
+after_21:;
+  if (v6 >= 256u)
+    goto after_23;
+  v13 = 3;
+  goto after_22;
+after_23:;
+  if (v6 >= 0x10000u)
+    goto after_24;
+  v13 = 4;
+  goto after_22;
+after_24:;
+  v13 = (v6 < 0x1000000u) ? 5ull : 6ull;
+after_22:;
+  v3 = 0;
+  if (v11 != 1u)
+    goto after_25;
+  v3 = v10;
+  if (v10 >= 0x10000000)
+    goto after_12;
+after_25:;
+  v3 = (v13 + v5) + v3;
+  v6 = (uint32_t)v3;
+  if (v6 >= 128u)
+    goto after_26;
+  v5 = 0xfffffffffffffffe;
+  goto after_27;
+after_26:;
+  if (v6 >= 256u)
+    goto after_28;
+  v5 = 0xfffffffffffffffd;
+  goto after_27;
+after_28:;
+  if (v6 >= 0x10000u)
+    goto after_29;
+  v5 = 0xfffffffffffffffc;
+  goto after_27;
+after_29:;
+  v5 = (v6 < 0x1000000u) ? 0xfffffffffffffffbull : 0xfffffffffffffffaull;
+after_27:;
+  t1 = ((((p0 - p1) + v9) + v7) + v12) - (v3 & 0xffffffff);
+  store64(p2, t1 + v5);
   v6 = 11;
 after_2:;
   return v6;
-after_6:;
+after_12:;
   trap();
 }
 
@@ -22968,7 +23032,7 @@ after_288:;
   v46 = p4;
   if (v5 < v46)
     goto after_287;
-  sec1_private_key_EcPrivateKeyReadInPlace_read_content(frame, frame + 2712, v49, v46);
+  sec1_borrowed_key_BorrowedKeyReadInPlace_read_content(frame, frame + 2712, v49, v46);
   v7 = (uint32_t)(v5 == v46) & (uint32_t)(load8(frame) == 0u);
 after_287:;
   der_view_picture_verdict_Subject_new(frame + 24, p1, p2, p3);
@@ -24591,1181 +24655,1460 @@ after_128:;
 after_1:;
 }
 
-/* sec1_der::part::Tuple2EncodePart::prepend_part::<#4ae47bafd251ed8c> */
-static void sec1_der_part_Tuple2EncodePart_prepend_part(uint64_t p0, uint64_t p1)
+/* sec1_der::optional::OptionalEncodePart::prepend_part::<#5bf5a3832346df17> */
+static void sec1_der_optional_OptionalEncodePart_prepend_part(uint64_t p0, uint64_t p1)
 {
   uint64_t v3 = 0, v4 = 0, v5 = 0, v6 = 0, v7 = 0, v8 = 0, v9 = 0, v10 = 0, v11 = 0, v12 = 0,
-      v13 = 0;
-  if (load8(p0 + 40) != 1u)
+      v13 = 0, v14 = 0, t0, t1;
+  if (load8(p0) != 1u)
     goto after_1;
   v3 = load64(p1);
   v4 = load64(p1 + 16);
-  v5 = load64(p0 + 56);
+  v5 = load64(p0 + 16);
   v6 = v4 - v5;
   v7 = v3 + v6;
-  v8 = load64(p0 + 48);
-  if (v5 > 32)
+  p0 = load64(p0 + 8);
+  if (v5 < 33)
     goto after_2;
-  v9 = v8 + v5;
-  if (v5 < 16)
+  v8 = p0 + v5;
+  if (v5 > 64)
     goto after_3;
-  v10 = load64(v8);
-  store64(v7 + 8, load64(v8 + 8));
-  store64(v7, v10);
-  v9 = v9 + 0xfffffffffffffff0;
-  v10 = load64(v9);
-  v11 = (v3 + v4) + 0xfffffffffffffff0;
-  store64(v11 + 8, load64(v9 + 8));
-  store64(v11, v10);
+  v9 = load64(p0);
+  v10 = load64(p0 + 8);
+  v5 = load64(p0 + 16);
+  store64(v7 + 24, load64(p0 + 24));
+  store64(v7 + 16, v5);
+  store64(v7 + 8, v10);
+  store64(v7, v9);
+  p0 = v8 + 0xffffffffffffffe0;
+  v9 = load64(p0);
+  v10 = load64(p0 + 8);
+  v7 = load64(p0 + 16);
+  v8 = (v3 + v4) + 0xffffffffffffffe0;
+  store64(v8 + 24, load64(p0 + 24));
+  store64(v8 + 16, v7);
+  store64(v8 + 8, v10);
+  store64(v8, v9);
   goto after_4;
 after_3:;
-  if ((v5 + 0xfffffffffffffff7) < 0xfffffffffffffffb)
-    goto after_2;
-  store32(v7, load32(v8));
-  store32((v3 + v4) + 0xfffffffffffffffc, load32(v9 + 0xfffffffffffffffc));
+  if (v5 > 128)
+    goto after_5;
+  v9 = load64(p0);
+  v10 = load64(p0 + 8);
+  v5 = load64(p0 + 16);
+  v11 = load64(p0 + 24);
+  v12 = load64(p0 + 32);
+  v13 = load64(p0 + 40);
+  v14 = load64(p0 + 48);
+  store64(v7 + 56, load64(p0 + 56));
+  store64(v7 + 48, v14);
+  store64(v7 + 40, v13);
+  store64(v7 + 32, v12);
+  store64(v7 + 24, v11);
+  store64(v7 + 16, v5);
+  store64(v7 + 8, v10);
+  store64(v7, v9);
+  p0 = v8 + 0xffffffffffffffc0;
+  v9 = load64(p0);
+  v10 = load64(p0 + 8);
+  v7 = load64(p0 + 16);
+  v5 = load64(p0 + 24);
+  v11 = load64(p0 + 32);
+  v12 = load64(p0 + 40);
+  v13 = load64(p0 + 48);
+  v8 = (v3 + v4) + 0xffffffffffffffc0;
+  store64(v8 + 56, load64(p0 + 56));
+  store64(v8 + 48, v13);
+  store64(v8 + 40, v12);
+  store64(v8 + 32, v11);
+  store64(v8 + 24, v5);
+  store64(v8 + 16, v7);
+  store64(v8 + 8, v10);
+  store64(v8, v9);
   goto after_4;
 after_2:;
-  if ((v7 - v8) >= v5)
-    goto after_5;
-  v12 = v5 & 3;
-  v10 = 0;
-  if (v5 < 4)
+  v8 = p0 + v5;
+  if (v5 < 16)
     goto after_6;
-  v13 = v5 & 0xfffffffffffffffc;
-  v10 = 0;
-again_7:;
-  v9 = v7 + v10;
-  v11 = v8 + v10;
-  store8(v9, (uint8_t)(uint32_t)load8(v11));
-  store8(v9 + 1, (uint8_t)(uint32_t)load8(v11 + 1));
-  store8(v9 + 2, (uint8_t)(uint32_t)load8(v11 + 2));
-  store8(v9 + 3, (uint8_t)(uint32_t)load8(v11 + 3));
-  v10 = v10 + 4;
-  if (v13 != v10)
-    goto again_7;
-  if (v12 == 0)
-    goto after_4;
+  v9 = load64(p0);
+  store64(v7 + 8, load64(p0 + 8));
+  store64(v7, v9);
+  p0 = v8 + 0xfffffffffffffff0;
+  v8 = load64(p0);
+  v9 = (v3 + v4) + 0xfffffffffffffff0;
+  store64(v9 + 8, load64(p0 + 8));
+  store64(v9, v8);
+  goto after_4;
 after_6:;
-  v9 = v8 + v10;
-  v10 = v3 + ((v10 + v4) - v5);
-again_8:;
-  store8(v10, (uint8_t)(uint32_t)load8(v9));
-  v10 = v10 + 1;
-  v9 = v9 + 1;
-  v12 = v12 + 0xffffffffffffffff;
-  if (v12 != 0)
-    goto again_8;
+  if (v5 < 8)
+    goto after_7;
+  store64(v7, load64(p0));
+  store64((v3 + v4) + 0xfffffffffffffff8, load64(v8 + 0xfffffffffffffff8));
+  goto after_4;
+after_7:;
+  if (v5 < 4)
+    goto after_5;
+  store32(v7, load32(p0));
+  store32((v3 + v4) + 0xfffffffffffffffc, load32(v8 + 0xfffffffffffffffc));
   goto after_4;
 after_5:;
+  if ((v7 - p0) >= v5)
+    goto after_8;
+  v11 = v5 & 3;
+  v8 = 0;
+  if (v5 < 4)
+    goto after_9;
+  v12 = v5 & 0xfffffffffffffffc;
+  v8 = 0;
+again_10:;
+  v9 = v7 + v8;
+  v10 = p0 + v8;
+  store8(v9, (uint8_t)(uint32_t)load8(v10));
+  store8(v9 + 1, (uint8_t)(uint32_t)load8(v10 + 1));
+  store8(v9 + 2, (uint8_t)(uint32_t)load8(v10 + 2));
+  store8(v9 + 3, (uint8_t)(uint32_t)load8(v10 + 3));
+  v8 = v8 + 4;
+  if (v12 != v8)
+    goto again_10;
+  if (v11 == 0)
+    goto after_4;
+after_9:;
+  p0 = p0 + v8;
+  v8 = v3 + ((v8 + v4) - v5);
+again_11:;
+  store8(v8, (uint8_t)(uint32_t)load8(p0));
+  v8 = v8 + 1;
+  p0 = p0 + 1;
+  v11 = v11 + 0xffffffffffffffff;
+  if (v11 != 0)
+    goto again_11;
+  goto after_4;
+after_8:;
   if (v5 == 0)
     goto after_4;
-  move(v7, v8, v5);
+  move(v7, p0, v5);
 after_4:;
-  v9 = v6 + 0xffffffffffffffff;
-  store8(load64(p1) + v9, 0);
-  v10 = p1 + 16;
-  store64(v10, v9);
-  v11 = v4 - v9;
-  if (v11 > 127)
-    goto after_9;
-  v9 = v6 + 0xfffffffffffffffd;
-  store16(load64(p1) + v9, (uint16_t)(((uint32_t)v11 << 8) | 3u));
-  store64(v10, v9);
-  goto after_10;
-after_9:;
-  sec1_der_back_writer_BackWriter_prepend_long_header(p1, 3, v11);
-  v9 = load64(v10);
-after_10:;
-  v10 = v4 - v9;
-  if (v10 > 127)
-    goto after_11;
-  v9 = v9 + 0xfffffffffffffffe;
-  store16(load64(p1) + v9, (uint16_t)(((uint32_t)v10 << 8) | 0xa1u));
-  store64(p1 + 16, v9);
-  goto after_1;
-after_11:;
-  sec1_der_back_writer_BackWriter_prepend_long_header(p1, 161, v10);
-after_1:;
-  if (load8(p0 + 16) != 1u)
+  p0 = v6 + 0xffffffffffffffff;
+  store8(load64(p1) + p0, 0);
+  v8 = v4 - p0;
+  if (v8 > 127)
     goto after_12;
-  v3 = load64(p1);
-  v4 = load64(p1 + 16);
-  v5 = load64(p0 + 32);
-  v6 = v4 - v5;
-  v7 = v3 + v6;
-  v8 = load64(p0 + 24);
-  if (v5 > 32)
-    goto after_13;
-  v9 = v8 + v5;
-  if (v5 < 16)
+  p0 = v6 + 0xfffffffffffffffd;
+  store16(load64(p1) + p0, (uint16_t)(((uint32_t)v8 << 8) | 3u));
+  goto after_13;
+after_12:;
+  t0 = sec1_der_back_writer_prepend_long_header(load64(p1), p0, 3, v8);
+  p0 = t0;
+after_13:;
+  v8 = v4 - p0;
+  if (v8 > 127)
     goto after_14;
-  v10 = load64(v8);
-  store64(v7 + 8, load64(v8 + 8));
-  store64(v7, v10);
-  v9 = v9 + 0xfffffffffffffff0;
-  v10 = load64(v9);
-  v11 = (v3 + v4) + 0xfffffffffffffff0;
-  store64(v11 + 8, load64(v9 + 8));
-  store64(v11, v10);
+  p0 = p0 + 0xfffffffffffffffe;
+  store16(load64(p1) + p0, (uint16_t)(((uint32_t)v8 << 8) | 0xa1u));
   goto after_15;
 after_14:;
-  if ((v5 + 0xfffffffffffffff7) < 0xfffffffffffffffb)
-    goto after_13;
-  store32(v7, load32(v8));
-  store32((v3 + v4) + 0xfffffffffffffffc, load32(v9 + 0xfffffffffffffffc));
-  goto after_15;
-after_13:;
-  if ((v7 - v8) >= v5)
-    goto after_16;
-  v12 = v5 & 3;
-  v10 = 0;
-  if (v5 < 4)
-    goto after_17;
-  v13 = v5 & 0xfffffffffffffffc;
-  v10 = 0;
-again_18:;
-  v9 = v7 + v10;
-  v11 = v8 + v10;
-  store8(v9, (uint8_t)(uint32_t)load8(v11));
-  store8(v9 + 1, (uint8_t)(uint32_t)load8(v11 + 1));
-  store8(v9 + 2, (uint8_t)(uint32_t)load8(v11 + 2));
-  store8(v9 + 3, (uint8_t)(uint32_t)load8(v11 + 3));
-  v10 = v10 + 4;
-  if (v13 != v10)
-    goto again_18;
-  if (v12 == 0)
-    goto after_19;
-after_17:;
-  v9 = v8 + v10;
-  v10 = v3 + ((v10 + v4) - v5);
-again_20:;
-  store8(v10, (uint8_t)(uint32_t)load8(v9));
-  v10 = v10 + 1;
-  v9 = v9 + 1;
-  v12 = v12 + 0xffffffffffffffff;
-  if (v12 != 0)
-    goto again_20;
-  goto after_19;
-after_16:;
-  if (v5 == 0)
-    goto after_19;
-  move(v7, v8, v5);
-after_19:;
-  v9 = p1 + 16;
-  store64(v9, v6);
-  if (v5 > 127)
-    goto after_21;
+  t1 = sec1_der_back_writer_prepend_long_header(load64(p1), p0, 161, v8);
+  p0 = t1;
 after_15:;
-  v9 = v6 + 0xfffffffffffffffe;
-  store16(load64(p1) + v9, (uint16_t)(((uint32_t)v5 << 8) | 6u));
-  store64(p1 + 16, v9);
-  goto after_22;
-after_21:;
-  sec1_der_back_writer_BackWriter_prepend_long_header(p1, 6, v5);
-  v9 = load64(v9);
-after_22:;
-  v10 = v4 - v9;
-  if (v10 > 127)
-    goto after_23;
-  v9 = v9 + 0xfffffffffffffffe;
-  store16(load64(p1) + v9, (uint16_t)(((uint32_t)v10 << 8) | 0xa0u));
-  store64(p1 + 16, v9);
-  goto after_12;
-after_23:;
-  sec1_der_back_writer_BackWriter_prepend_long_header(p1, 160, v10);
-after_12:;
-  v4 = load64(p1);
-  v6 = load64(p1 + 16);
-  v7 = load64(p0 + 8);
-  v13 = v6 - v7;
-  v8 = v4 + v13;
-  p0 = load64(p0);
-  if (v7 > 32)
-    goto after_24;
-  v9 = p0 + v7;
-  if (v7 < 16)
-    goto after_25;
-  v10 = load64(p0);
-  store64(v8 + 8, load64(p0 + 8));
-  store64(v8, v10);
-  v9 = v9 + 0xfffffffffffffff0;
-  v10 = load64(v9);
-  v11 = (v4 + v6) + 0xfffffffffffffff0;
-  store64(v11 + 8, load64(v9 + 8));
-  store64(v11, v10);
-  goto after_26;
-after_25:;
-  if ((v7 + 0xfffffffffffffff7) < 0xfffffffffffffffb)
-    goto after_24;
-  store32(v8, load32(p0));
-  store32((v4 + v6) + 0xfffffffffffffffc, load32(v9 + 0xfffffffffffffffc));
-  goto after_26;
-after_24:;
-  if ((v8 - p0) >= v7)
-    goto after_27;
-  v12 = v7 & 3;
-  v10 = 0;
-  if (v7 < 4)
-    goto after_28;
-  v5 = v7 & 0xfffffffffffffffc;
-  v10 = 0;
-again_29:;
-  v9 = v8 + v10;
-  v11 = p0 + v10;
-  store8(v9, (uint8_t)(uint32_t)load8(v11));
-  store8(v9 + 1, (uint8_t)(uint32_t)load8(v11 + 1));
-  store8(v9 + 2, (uint8_t)(uint32_t)load8(v11 + 2));
-  store8(v9 + 3, (uint8_t)(uint32_t)load8(v11 + 3));
-  v10 = v10 + 4;
-  if (v5 != v10)
-    goto again_29;
-  if (v12 == 0)
-    goto after_30;
-after_28:;
-  v9 = p0 + v10;
-  v10 = v4 + ((v10 + v6) - v7);
-again_31:;
-  store8(v10, (uint8_t)(uint32_t)load8(v9));
-  v10 = v10 + 1;
-  v9 = v9 + 1;
-  v12 = v12 + 0xffffffffffffffff;
-  if (v12 != 0)
-    goto again_31;
-  goto after_30;
-after_27:;
-  if (v7 == 0)
-    goto after_30;
-  move(v8, p0, v7);
-after_30:;
-  v9 = p1 + 16;
-  store64(v9, v13);
-  if (v7 > 127)
-    goto after_32;
-after_26:;
-  v9 = v13 + 0xfffffffffffffffe;
-  store16(load64(p1) + v9, (uint16_t)(((uint32_t)v7 << 8) | 4u));
-  goto after_33;
-after_32:;
-  sec1_der_back_writer_BackWriter_prepend_long_header(p1, 4, v7);
-  v9 = load64(v9);
-after_33:;
-  store8((load64(p1) + v9) + 0xffffffffffffffff, 1);
-  v9 = v9 + 0xfffffffffffffffd;
-  store16(load64(p1) + v9, 258);
-  store64(p1 + 16, v9);
+  store64(p1 + 16, p0);
+after_1:;
   return;
 }
 
-/* sec1_der::back_writer::BackWriter::prepend_long_header */
-static void sec1_der_back_writer_BackWriter_prepend_long_header(uint64_t p0, uint32_t p1,
-    uint64_t p2)
+/* sec1_der::back_writer::prepend_long_header */
+static uint64_t sec1_der_back_writer_prepend_long_header(uint64_t p0, uint64_t p1, uint32_t p2,
+    uint64_t p3)
 {
   FRAME(16)
-  uint32_t v4 = 0, v5 = 0, v7 = 0, v8 = 0, v9 = 0, v10 = 0;
-  uint64_t v6 = 0, v11 = 0, v12 = 0, v13 = 0;
-  v4 = 0;
-  v5 = (uint32_t)p2;
-  if (v5 >= 128u)
+  uint32_t v5 = 0, v6 = 0, v8 = 0, v9 = 0, v10 = 0, v11 = 0;
+  uint64_t v7 = 0, v12 = 0;
+  v5 = 0;
+  v6 = (uint32_t)p3;
+  if (v6 >= 128u)
     goto after_1;
-  v6 = 2;
-  v7 = v5;
-  v8 = 0;
+  v7 = 2;
+  v8 = v6;
+  v9 = 0;
   goto after_2;
 after_1:;
-  if (v5 >= 256u)
+  if (v6 >= 256u)
     goto after_3;
-  v6 = 3;
-  v7 = 129;
-  v8 = v5;
+  v7 = 3;
+  v8 = 129;
+  v9 = v6;
   goto after_2;
 after_3:;
-  v8 = (uint32_t)(p2 >> 8);
-  if (v5 >= 0x10000u)
+  v9 = (uint32_t)(p3 >> 8);
+  if (v6 >= 0x10000u)
     goto after_4;
-  v6 = 4;
-  v7 = 130;
-  v9 = 0;
+  v7 = 4;
+  v8 = 130;
+  v10 = 0;
   goto after_5;
 after_4:;
-  v7 = (uint32_t)(v5 < 0x1000000u);
-  v6 = v7 ? 5ull : 6ull;
-  v9 = (v5 > 0x1000000u) ? v5 : 0x1000000u;
-  v4 = v7 ? v5 : v8;
-  v10 = (uint32_t)(p2 >> 16);
-  v5 = v7 ? v8 : v10;
-  v8 = v7 ? v10 : (uint32_t)(p2 >> 24);
-  v7 = v7 ? 0xffffff83u : 0xffffff84u;
+  v8 = (uint32_t)(v6 < 0x1000000u);
+  v7 = v8 ? 5ull : 6ull;
+  v10 = (v6 > 0x1000000u) ? v6 : 0x1000000u;
+  v5 = v8 ? v6 : v9;
+  v11 = (uint32_t)(p3 >> 16);
+  v6 = v8 ? v9 : v11;
+  v9 = v8 ? v11 : (uint32_t)(p3 >> 24);
+  v8 = v8 ? 0xffffff83u : 0xffffff84u;
   goto after_5;
 after_2:;
-  v5 = 0;
-  v9 = 0;
+  v6 = 0;
+  v10 = 0;
 after_5:;
-  store8(frame + 13, (uint8_t)v9);
-  store8(frame + 12, (uint8_t)v4);
-  store8(frame + 11, (uint8_t)v5);
-  store8(frame + 10, (uint8_t)v8);
-  store8(frame + 9, (uint8_t)v7);
-  store8(frame + 8, (uint8_t)p1);
-  v11 = load64(p0);
-  v12 = load64(p0 + 16);
-  p2 = v12 - v6;
-  v13 = v11 + p2;
-  if (v6 < 4)
+  store8(frame + 13, (uint8_t)v10);
+  store8(frame + 12, (uint8_t)v5);
+  store8(frame + 11, (uint8_t)v6);
+  store8(frame + 10, (uint8_t)v9);
+  store8(frame + 9, (uint8_t)v8);
+  store8(frame + 8, (uint8_t)p2);
+  p3 = p1 - v7;
+  v12 = p0 + p3;
+  if (v7 < 4)
     goto after_6;
-  store32(v13, load32(frame + 8));
-  store32((v11 + v12) + 0xfffffffffffffffc, load32(((frame + 8) + v6) + 0xfffffffffffffffc));
-  goto after_7;
+  store32(v12, load32(frame + 8));
+  store32((p0 + p1) + 0xfffffffffffffffc, load32(((frame + 8) + v7) + 0xfffffffffffffffc));
+  return p3;
 after_6:;
-  if (v6 == 0)
+  if (v7 == 0)
     goto after_7;
-  move(v13, frame + 8, v6);
+  move(v12, frame + 8, v7);
 after_7:;
-  store64(p0 + 16, p2);
+  return p3;
+}
+
+/* sec1_der::optional::OptionalEncodePart::prepend_part::<#f70a924d5919e516> */
+static void sec1_der_optional_OptionalEncodePart_prepend_part_2(uint64_t p0, uint64_t p1)
+{
+  uint64_t v3 = 0, v4 = 0, v5 = 0, v6 = 0, v7 = 0, v8 = 0, v9 = 0, v10 = 0, v11 = 0, v12 = 0,
+      v13 = 0, v14 = 0, v15 = 0, t0, t1;
+  if (load8(p0) != 1u)
+    goto after_1;
+  v3 = load64(p1);
+  v4 = load64(p1 + 16);
+  v5 = load64(p0 + 16);
+  v6 = v4 - v5;
+  v7 = v3 + v6;
+  p0 = load64(p0 + 8);
+  if (v5 < 33)
+    goto after_2;
+  v8 = p0 + v5;
+  if (v5 > 64)
+    goto after_3;
+  v9 = load64(p0);
+  v10 = load64(p0 + 8);
+  v11 = load64(p0 + 16);
+  store64(v7 + 24, load64(p0 + 24));
+  store64(v7 + 16, v11);
+  store64(v7 + 8, v10);
+  store64(v7, v9);
+  p0 = v8 + 0xffffffffffffffe0;
+  v9 = load64(p0);
+  v10 = load64(p0 + 8);
+  v7 = load64(p0 + 16);
+  v8 = (v3 + v4) + 0xffffffffffffffe0;
+  store64(v8 + 24, load64(p0 + 24));
+  store64(v8 + 16, v7);
+  store64(v8 + 8, v10);
+  store64(v8, v9);
+  goto after_4;
+after_3:;
+  if (v5 > 128)
+    goto after_5;
+  v9 = load64(p0);
+  v10 = load64(p0 + 8);
+  v11 = load64(p0 + 16);
+  v12 = load64(p0 + 24);
+  v13 = load64(p0 + 32);
+  v14 = load64(p0 + 40);
+  v15 = load64(p0 + 48);
+  store64(v7 + 56, load64(p0 + 56));
+  store64(v7 + 48, v15);
+  store64(v7 + 40, v14);
+  store64(v7 + 32, v13);
+  store64(v7 + 24, v12);
+  store64(v7 + 16, v11);
+  store64(v7 + 8, v10);
+  store64(v7, v9);
+  p0 = v8 + 0xffffffffffffffc0;
+  v9 = load64(p0);
+  v10 = load64(p0 + 8);
+  v7 = load64(p0 + 16);
+  v11 = load64(p0 + 24);
+  v12 = load64(p0 + 32);
+  v13 = load64(p0 + 40);
+  v14 = load64(p0 + 48);
+  v8 = (v3 + v4) + 0xffffffffffffffc0;
+  store64(v8 + 56, load64(p0 + 56));
+  store64(v8 + 48, v14);
+  store64(v8 + 40, v13);
+  store64(v8 + 32, v12);
+  store64(v8 + 24, v11);
+  store64(v8 + 16, v7);
+  store64(v8 + 8, v10);
+  store64(v8, v9);
+  goto after_6;
+after_2:;
+  v8 = p0 + v5;
+  if (v5 < 16)
+    goto after_7;
+  v9 = load64(p0);
+  store64(v7 + 8, load64(p0 + 8));
+  store64(v7, v9);
+  p0 = v8 + 0xfffffffffffffff0;
+  v8 = load64(p0);
+  v9 = (v3 + v4) + 0xfffffffffffffff0;
+  store64(v9 + 8, load64(p0 + 8));
+  store64(v9, v8);
+  goto after_4;
+after_7:;
+  if (v5 < 8)
+    goto after_8;
+  store64(v7, load64(p0));
+  store64((v3 + v4) + 0xfffffffffffffff8, load64(v8 + 0xfffffffffffffff8));
+  goto after_4;
+after_8:;
+  if (v5 < 4)
+    goto after_5;
+  store32(v7, load32(p0));
+  store32((v3 + v4) + 0xfffffffffffffffc, load32(v8 + 0xfffffffffffffffc));
+  goto after_4;
+after_5:;
+  if ((v7 - p0) >= v5)
+    goto after_9;
+  v11 = v5 & 3;
+  v8 = 0;
+  if (v5 < 4)
+    goto after_10;
+  v12 = v5 & 0xfffffffffffffffc;
+  v8 = 0;
+again_11:;
+  v9 = v7 + v8;
+  v10 = p0 + v8;
+  store8(v9, (uint8_t)(uint32_t)load8(v10));
+  store8(v9 + 1, (uint8_t)(uint32_t)load8(v10 + 1));
+  store8(v9 + 2, (uint8_t)(uint32_t)load8(v10 + 2));
+  store8(v9 + 3, (uint8_t)(uint32_t)load8(v10 + 3));
+  v8 = v8 + 4;
+  if (v12 != v8)
+    goto again_11;
+  if (v11 == 0)
+    goto after_6;
+after_10:;
+  p0 = p0 + v8;
+  v8 = v3 + ((v8 + v4) - v5);
+again_12:;
+  store8(v8, (uint8_t)(uint32_t)load8(p0));
+  v8 = v8 + 1;
+  p0 = p0 + 1;
+  v11 = v11 + 0xffffffffffffffff;
+  if (v11 != 0)
+    goto again_12;
+  goto after_6;
+after_9:;
+  if (v5 == 0)
+    goto after_6;
+  move(v7, p0, v5);
+after_6:;
+  if (v5 > 127)
+    goto after_13;
+after_4:;
+  p0 = v6 + 0xfffffffffffffffe;
+  store16(load64(p1) + p0, (uint16_t)(((uint32_t)v5 << 8) | 6u));
+  goto after_14;
+after_13:;
+  t0 = sec1_der_back_writer_prepend_long_header(load64(p1), v6, 6, v5);
+  p0 = t0;
+after_14:;
+  v8 = v4 - p0;
+  if (v8 > 127)
+    goto after_15;
+  p0 = p0 + 0xfffffffffffffffe;
+  store16(load64(p1) + p0, (uint16_t)(((uint32_t)v8 << 8) | 0xa0u));
+  goto after_16;
+after_15:;
+  t1 = sec1_der_back_writer_prepend_long_header(load64(p1), p0, 160, v8);
+  p0 = t1;
+after_16:;
+  store64(p1 + 16, p0);
+after_1:;
+  return;
+}
+
+/* sec1_der::required::RequiredEncodePart::prepend_part::<#cd705672d5d1d156> */
+static void sec1_der_required_RequiredEncodePart_prepend_part(uint64_t p0, uint64_t p1, uint64_t p2)
+{
+  uint64_t v4 = 0, v5 = 0, v6 = 0, v7 = 0, v8 = 0, v9 = 0, v10 = 0, v11 = 0, v12 = 0, v13 = 0,
+      v14 = 0, v15 = 0, t0;
+  v4 = load64(p2);
+  v5 = load64(p2 + 16);
+  v6 = v5 - p1;
+  v7 = v4 + v6;
+  if (p1 < 33)
+    goto after_1;
+  v8 = p0 + p1;
+  if (p1 > 64)
+    goto after_2;
+  v9 = load64(p0);
+  v10 = load64(p0 + 8);
+  v11 = load64(p0 + 16);
+  store64(v7 + 24, load64(p0 + 24));
+  store64(v7 + 16, v11);
+  store64(v7 + 8, v10);
+  store64(v7, v9);
+  p0 = v8 + 0xffffffffffffffe0;
+  v9 = load64(p0);
+  v10 = load64(p0 + 8);
+  v7 = load64(p0 + 16);
+  v8 = (v4 + v5) + 0xffffffffffffffe0;
+  store64(v8 + 24, load64(p0 + 24));
+  store64(v8 + 16, v7);
+  store64(v8 + 8, v10);
+  store64(v8, v9);
+  goto after_3;
+after_2:;
+  if (p1 > 128)
+    goto after_4;
+  v9 = load64(p0);
+  v10 = load64(p0 + 8);
+  v11 = load64(p0 + 16);
+  v12 = load64(p0 + 24);
+  v13 = load64(p0 + 32);
+  v14 = load64(p0 + 40);
+  v15 = load64(p0 + 48);
+  store64(v7 + 56, load64(p0 + 56));
+  store64(v7 + 48, v15);
+  store64(v7 + 40, v14);
+  store64(v7 + 32, v13);
+  store64(v7 + 24, v12);
+  store64(v7 + 16, v11);
+  store64(v7 + 8, v10);
+  store64(v7, v9);
+  p0 = v8 + 0xffffffffffffffc0;
+  v9 = load64(p0);
+  v10 = load64(p0 + 8);
+  v7 = load64(p0 + 16);
+  v11 = load64(p0 + 24);
+  v12 = load64(p0 + 32);
+  v13 = load64(p0 + 40);
+  v14 = load64(p0 + 48);
+  v8 = (v4 + v5) + 0xffffffffffffffc0;
+  store64(v8 + 56, load64(p0 + 56));
+  store64(v8 + 48, v14);
+  store64(v8 + 40, v13);
+  store64(v8 + 32, v12);
+  store64(v8 + 24, v11);
+  store64(v8 + 16, v7);
+  store64(v8 + 8, v10);
+  store64(v8, v9);
+  goto after_5;
+after_1:;
+  v8 = p0 + p1;
+  if (p1 < 16)
+    goto after_6;
+  v9 = load64(p0);
+  store64(v7 + 8, load64(p0 + 8));
+  store64(v7, v9);
+  p0 = v8 + 0xfffffffffffffff0;
+  v8 = load64(p0);
+  v9 = (v4 + v5) + 0xfffffffffffffff0;
+  store64(v9 + 8, load64(p0 + 8));
+  store64(v9, v8);
+  goto after_3;
+after_6:;
+  if (p1 < 8)
+    goto after_7;
+  store64(v7, load64(p0));
+  store64((v4 + v5) + 0xfffffffffffffff8, load64(v8 + 0xfffffffffffffff8));
+  goto after_3;
+after_7:;
+  if (p1 < 4)
+    goto after_4;
+  store32(v7, load32(p0));
+  store32((v4 + v5) + 0xfffffffffffffffc, load32(v8 + 0xfffffffffffffffc));
+  goto after_3;
+after_4:;
+  if ((v7 - p0) >= p1)
+    goto after_8;
+  v11 = p1 & 3;
+  v8 = 0;
+  if (p1 < 4)
+    goto after_9;
+  v12 = p1 & 0xfffffffffffffffc;
+  v8 = 0;
+again_10:;
+  v9 = v7 + v8;
+  v10 = p0 + v8;
+  store8(v9, (uint8_t)(uint32_t)load8(v10));
+  store8(v9 + 1, (uint8_t)(uint32_t)load8(v10 + 1));
+  store8(v9 + 2, (uint8_t)(uint32_t)load8(v10 + 2));
+  store8(v9 + 3, (uint8_t)(uint32_t)load8(v10 + 3));
+  v8 = v8 + 4;
+  if (v12 != v8)
+    goto again_10;
+  if (v11 == 0)
+    goto after_5;
+after_9:;
+  p0 = p0 + v8;
+  v8 = v4 + ((v8 + v5) - p1);
+again_11:;
+  store8(v8, (uint8_t)(uint32_t)load8(p0));
+  v8 = v8 + 1;
+  p0 = p0 + 1;
+  v11 = v11 + 0xffffffffffffffff;
+  if (v11 != 0)
+    goto again_11;
+  goto after_5;
+after_8:;
+  if (p1 == 0)
+    goto after_5;
+  move(v7, p0, p1);
+after_5:;
+  if (p1 > 127)
+    goto after_12;
+after_3:;
+  p0 = v6 + 0xfffffffffffffffe;
+  store16(load64(p2) + p0, (uint16_t)(((uint32_t)p1 << 8) | 4u));
+  goto after_13;
+after_12:;
+  t0 = sec1_der_back_writer_prepend_long_header(load64(p2), v6, 4, p1);
+  p0 = t0;
+after_13:;
+  store64(p2 + 16, p0);
+  return;
 }
 
 /* sec1_der::required::RequiredEncodePart::prepend_part::<#6053cb6a5d4ca589> */
-static void sec1_der_required_RequiredEncodePart_prepend_part(uint64_t p0, uint64_t p1)
+static void sec1_der_required_RequiredEncodePart_prepend_part_2(uint64_t p0, uint64_t p1,
+    uint64_t p2)
 {
-  uint64_t v3 = 0, v4 = 0, v5 = 0, v6 = 0, v7 = 0, v8 = 0, v9 = 0, v10 = 0, v11 = 0, v12 = 0,
-      v13 = 0;
-  v3 = load64(p1);
-  v4 = load64(p1 + 16);
-  v5 = load64(p0 + 8);
-  v6 = v4 - v5;
-  v7 = v3 + v6;
-  v8 = load64(p0);
-  if (v5 > 32)
+  uint64_t v4 = 0, v5 = 0, v6 = 0, v7 = 0, v8 = 0, v9 = 0, v10 = 0, v11 = 0, v12 = 0, v13 = 0,
+      v14 = 0, t0;
+  v4 = load64(p2);
+  v5 = load64(p2 + 16);
+  v6 = v5 - p1;
+  v7 = v4 + v6;
+  if (p1 < 33)
     goto after_1;
-  v9 = v8 + v5;
-  if (v5 < 16)
+  v8 = p0 + p1;
+  if (p1 > 64)
     goto after_2;
-  v10 = load64(v8);
-  store64(v7 + 8, load64(v8 + 8));
-  store64(v7, v10);
-  v9 = v9 + 0xfffffffffffffff0;
-  v10 = load64(v9);
-  v11 = (v3 + v4) + 0xfffffffffffffff0;
-  store64(v11 + 8, load64(v9 + 8));
-  store64(v11, v10);
+  v9 = load64(p0);
+  p1 = load64(p0 + 8);
+  v10 = load64(p0 + 16);
+  store64(v7 + 24, load64(p0 + 24));
+  store64(v7 + 16, v10);
+  store64(v7 + 8, p1);
+  store64(v7, v9);
+  v8 = v8 + 0xffffffffffffffe0;
+  p1 = load64(v8);
+  v10 = load64(v8 + 8);
+  v7 = load64(v8 + 16);
+  v9 = (v4 + v5) + 0xffffffffffffffe0;
+  store64(v9 + 24, load64(v8 + 24));
+  store64(v9 + 16, v7);
+  store64(v9 + 8, v10);
+  store64(v9, p1);
   goto after_3;
 after_2:;
-  if ((v5 + 0xfffffffffffffff7) < 0xfffffffffffffffb)
-    goto after_1;
-  store32(v7, load32(v8));
-  store32((v3 + v4) + 0xfffffffffffffffc, load32(v9 + 0xfffffffffffffffc));
+  if (p1 > 128)
+    goto after_4;
+  v9 = load64(p0);
+  p1 = load64(p0 + 8);
+  v10 = load64(p0 + 16);
+  v11 = load64(p0 + 24);
+  v12 = load64(p0 + 32);
+  v13 = load64(p0 + 40);
+  v14 = load64(p0 + 48);
+  store64(v7 + 56, load64(p0 + 56));
+  store64(v7 + 48, v14);
+  store64(v7 + 40, v13);
+  store64(v7 + 32, v12);
+  store64(v7 + 24, v11);
+  store64(v7 + 16, v10);
+  store64(v7 + 8, p1);
+  store64(v7, v9);
+  v8 = v8 + 0xffffffffffffffc0;
+  p1 = load64(v8);
+  v10 = load64(v8 + 8);
+  v7 = load64(v8 + 16);
+  v11 = load64(v8 + 24);
+  v12 = load64(v8 + 32);
+  v13 = load64(v8 + 40);
+  v14 = load64(v8 + 48);
+  v9 = (v4 + v5) + 0xffffffffffffffc0;
+  store64(v9 + 56, load64(v8 + 56));
+  store64(v9 + 48, v14);
+  store64(v9 + 40, v13);
+  store64(v9 + 32, v12);
+  store64(v9 + 24, v11);
+  store64(v9 + 16, v7);
+  store64(v9 + 8, v10);
+  store64(v9, p1);
   goto after_3;
 after_1:;
-  if ((v7 - v8) >= v5)
-    goto after_4;
-  v12 = v5 & 3;
-  v10 = 0;
-  if (v5 < 4)
+  v8 = p0 + p1;
+  if (p1 < 16)
     goto after_5;
-  v13 = v5 & 0xfffffffffffffffc;
-  v10 = 0;
-again_6:;
-  v9 = v7 + v10;
-  v11 = v8 + v10;
-  store8(v9, (uint8_t)(uint32_t)load8(v11));
-  store8(v9 + 1, (uint8_t)(uint32_t)load8(v11 + 1));
-  store8(v9 + 2, (uint8_t)(uint32_t)load8(v11 + 2));
-  store8(v9 + 3, (uint8_t)(uint32_t)load8(v11 + 3));
-  v10 = v10 + 4;
-  if (v13 != v10)
-    goto again_6;
-  if (v12 == 0)
-    goto after_3;
-after_5:;
-  v9 = v8 + v10;
-  v10 = v3 + ((v10 + v4) - v5);
-again_7:;
-  store8(v10, (uint8_t)(uint32_t)load8(v9));
-  v10 = v10 + 1;
-  v9 = v9 + 1;
-  v12 = v12 + 0xffffffffffffffff;
-  if (v12 != 0)
-    goto again_7;
+  v9 = load64(p0);
+  store64(v7 + 8, load64(p0 + 8));
+  store64(v7, v9);
+  v8 = v8 + 0xfffffffffffffff0;
+  v9 = load64(v8);
+  p1 = (v4 + v5) + 0xfffffffffffffff0;
+  store64(p1 + 8, load64(v8 + 8));
+  store64(p1, v9);
   goto after_3;
-after_4:;
-  if (v5 == 0)
-    goto after_3;
-  move(v7, v8, v5);
-after_3:;
-  v9 = p1 + 16;
-  store64(v9, v6);
-  if (load64(p0 + 8) == 0)
-    goto after_8;
-  if ((int32_t)(uint32_t)(int8_t)(uint32_t)load8(load64(p0)) > -1)
-    goto after_9;
-after_8:;
-  v6 = v6 + 0xffffffffffffffff;
-  store8(load64(p1) + v6, 0);
-  store64(v9, v6);
-after_9:;
-  v9 = v4 - v6;
-  if (v9 > 127)
-    goto after_10;
-  v10 = v6 + 0xfffffffffffffffe;
-  store16(load64(p1) + v10, (uint16_t)(((uint32_t)v9 << 8) | 2u));
-  store64(p1 + 16, v10);
-  return;
-after_10:;
-  sec1_der_back_writer_BackWriter_prepend_long_header(p1, 2, v9);
-  return;
-}
-
-/* sec1_c::algorithm::write_curve */
-static uint64_t sec1_c_algorithm_write_curve(uint32_t p0, uint64_t p1)
-{
-  FRAME(192)
-  uint32_t v6 = 0, v7 = 0, v8 = 0, v9 = 0, v10 = 0, v11 = 0, v12 = 0, t0, t1, t2, t3, t4, t5;
-  uint64_t v2 = 0, v4 = 0, v5 = 0, v13 = 0;
-  v2 = frame;
-  store64(frame + 72, 0);
-  store64(frame + 64, 0);
-  store64(frame + 56, 0);
-  store64(frame + 48, 0);
-  store64(frame, 0);
-  store64(frame + 8, 0);
-  store64(frame + 16, 0);
-  store64(frame + 24, 0);
-  store64(frame + 32, 0);
-  store64(frame + 40, 0);
-  store64(frame + 110, 0);
-  store64(frame + 104, 0);
-  store64(frame + 96, 0);
-  store64(frame + 88, 0);
-  store64(frame + 80, 0);
-  v2 = CONSTANT(74);
-  v4 = CONSTANT(34);
-  v5 = 5;
-  switch ((uint32_t)((uint64_t)p0 & 0xff)) {
-  case 2:
-    goto after_1;
-  case 3:
-    goto after_2;
-  case 4:
-    goto after_3;
-  case 5:
-    goto after_4;
-  case 6:
-    goto after_5;
-  case 7:
+after_5:;
+  if (p1 < 8)
     goto after_6;
-  case 9:
-    goto after_7;
-  case 10:
-    goto after_8;
-  case 11:
-    goto after_9;
-  case 13:
-    goto after_10;
-  case 14:
-    goto after_11;
-  case 15:
-    goto after_12;
-  case 16:
-    goto after_13;
-  case 17:
-    goto after_14;
-  case 18:
-    goto after_15;
-  case 19:
-    goto after_16;
-  case 20:
-    goto after_17;
-  case 21:
-    goto after_18;
-  case 22:
-    goto after_19;
-  case 23:
-    goto after_20;
-  case 24:
-    goto after_21;
-  case 25:
-    goto after_22;
-  case 26:
-    goto after_23;
-  case 27:
-    goto after_24;
-  case 28:
-    goto after_25;
-  case 29:
-    goto after_26;
-  case 30:
-    goto after_27;
-  case 31:
-    goto after_28;
-  case 32:
-    goto after_29;
-  case 33:
-    goto after_30;
-  case 12:
-    goto after_31;
-  case 8:
-    goto after_32;
-  case 1:
-    goto after_33;
-  default:
-    goto after_34;
-  }
-after_1:;
-  v4 = CONSTANT(44);
-  goto after_34;
-after_2:;
-  v4 = CONSTANT(49);
-  goto after_34;
-after_3:;
-  v4 = CONSTANT(54);
-  goto after_34;
-after_4:;
-  v4 = CONSTANT(59);
-  goto after_34;
-after_5:;
-  v4 = CONSTANT(64);
-  goto after_34;
+  store64(v7, load64(p0));
+  store64((v4 + v5) + 0xfffffffffffffff8, load64(v8 + 0xfffffffffffffff8));
+  goto after_3;
 after_6:;
-  v4 = CONSTANT(69);
-  goto after_34;
-after_7:;
-  v4 = CONSTANT(82);
-  goto after_34;
+  if (p1 < 4)
+    goto after_4;
+  store32(v7, load32(p0));
+  store32((v4 + v5) + 0xfffffffffffffffc, load32(v8 + 0xfffffffffffffffc));
+  goto after_3;
+after_4:;
+  if ((v7 - p0) >= p1)
+    goto after_7;
+  v11 = p1 & 3;
+  v9 = 0;
+  if (p1 < 4)
+    goto after_8;
+  v12 = p1 & 0xfffffffffffffffc;
+  v9 = 0;
+again_9:;
+  v8 = v7 + v9;
+  v10 = p0 + v9;
+  store8(v8, (uint8_t)(uint32_t)load8(v10));
+  store8(v8 + 1, (uint8_t)(uint32_t)load8(v10 + 1));
+  store8(v8 + 2, (uint8_t)(uint32_t)load8(v10 + 2));
+  store8(v8 + 3, (uint8_t)(uint32_t)load8(v10 + 3));
+  v9 = v9 + 4;
+  if (v12 != v9)
+    goto again_9;
+  if (v11 == 0)
+    goto after_10;
 after_8:;
-  v4 = CONSTANT(87);
-  goto after_34;
-after_9:;
-  v4 = CONSTANT(92);
-  goto after_34;
+  v8 = p0 + v9;
+  v9 = v4 + ((v9 + v5) - p1);
+again_11:;
+  store8(v9, (uint8_t)(uint32_t)load8(v8));
+  v9 = v9 + 1;
+  v8 = v8 + 1;
+  v11 = v11 + 0xffffffffffffffff;
+  if (v11 != 0)
+    goto again_11;
+  goto after_10;
+after_7:;
+  if (p1 == 0)
+    goto after_10;
+  move(v7, p0, p1);
 after_10:;
-  v4 = CONSTANT(105);
-  goto after_34;
-after_11:;
-  v4 = CONSTANT(110);
-  goto after_34;
-after_12:;
-  v2 = CONSTANT(115);
-  goto after_32;
+  store64(p2 + 16, v6);
+  if (p1 == 0)
+    goto after_12;
+  goto after_13;
+after_3:;
+  store64(p2 + 16, v6);
 after_13:;
-  v2 = CONSTANT(123);
-  goto after_32;
+  if ((int32_t)(uint32_t)(int8_t)(uint32_t)load8(p0) > -1)
+    goto after_14;
+after_12:;
+  v6 = v6 + 0xffffffffffffffff;
+  store8(load64(p2) + v6, 0);
 after_14:;
-  v2 = CONSTANT(131);
-  goto after_32;
+  p0 = v5 - v6;
+  if (p0 > 127)
+    goto after_15;
+  v8 = v6 + 0xfffffffffffffffe;
+  store16(load64(p2) + v8, (uint16_t)(((uint32_t)p0 << 8) | 2u));
+  goto after_16;
 after_15:;
-  v2 = CONSTANT(139);
-  goto after_32;
+  t0 = sec1_der_back_writer_prepend_long_header(load64(p2), v6, 2, p0);
+  v8 = t0;
 after_16:;
-  v2 = CONSTANT(147);
-  goto after_32;
-after_17:;
-  v4 = CONSTANT(155);
-  v5 = 9;
-  goto after_34;
-after_18:;
-  v4 = CONSTANT(164);
-  v5 = 9;
-  goto after_34;
-after_19:;
-  v4 = CONSTANT(173);
-  v5 = 9;
-  goto after_34;
-after_20:;
-  v4 = CONSTANT(182);
-  v5 = 9;
-  goto after_34;
-after_21:;
-  v4 = CONSTANT(191);
-  v5 = 9;
-  goto after_34;
-after_22:;
-  v4 = CONSTANT(200);
-  v5 = 9;
-  goto after_34;
-after_23:;
-  v4 = CONSTANT(209);
-  v5 = 9;
-  goto after_34;
-after_24:;
-  v4 = CONSTANT(218);
-  v5 = 9;
-  goto after_34;
-after_25:;
-  v4 = CONSTANT(227);
-  v5 = 9;
-  goto after_34;
-after_26:;
-  v4 = CONSTANT(236);
-  v5 = 9;
-  goto after_34;
-after_27:;
-  v4 = CONSTANT(245);
-  v5 = 9;
-  goto after_34;
-after_28:;
-  v4 = CONSTANT(254);
-  v5 = 9;
-  goto after_34;
-after_29:;
-  v4 = CONSTANT(263);
-  v5 = 9;
-  goto after_34;
-after_30:;
-  v4 = CONSTANT(272);
-  v5 = 9;
-  goto after_34;
-after_31:;
-  v2 = CONSTANT(97);
-after_32:;
-  v5 = 8;
-  p0 = (uint32_t)(int8_t)(uint32_t)load8(v2);
-  v6 = (uint32_t)(int8_t)(uint32_t)load8(v2 + 1);
-  t0 = (uint32_t)((p0 & 0xffu) == 128u) | ((uint32_t)((v6 & 0xffu) == 128u) << 1);
-  v7 = (uint32_t)(int8_t)(uint32_t)load8(v2 + 3);
-  v8 = (uint32_t)(int8_t)(uint32_t)load8(v2 + 2);
-  t1 = ((uint32_t)((v7 & 0xffu) == 128u) << 3) | ((uint32_t)((v8 & 0xffu) == 128u) << 2);
-  v9 = (uint32_t)(int8_t)(uint32_t)load8(v2 + 4);
-  v10 = (uint32_t)(int8_t)(uint32_t)load8(v2 + 5);
-  t2 = (uint32_t)((v9 & 0xffu) == 128u) | ((uint32_t)((v10 & 0xffu) == 128u) << 1);
-  v11 = (uint32_t)(int8_t)(uint32_t)load8(v2 + 7);
-  v12 = (uint32_t)(int8_t)(uint32_t)load8(v2 + 6);
-  t3 = ((uint32_t)((v11 & 0xffu) == 128u) << 3) | ((uint32_t)((v12 & 0xffu) == 128u) << 2);
-  if (((t0 | t1) | ((t2 | t3) << 4)) == 0u)
-    goto after_35;
-  v4 = v2;
-  goto after_34;
-after_33:;
-  v4 = CONSTANT(39);
-  goto after_34;
-after_35:;
-  v4 = v2;
-  t4 = ((uint32_t)((int32_t)p0 > -1) | ((uint32_t)((int32_t)v6 > -1) << 1)) |
-      (((uint32_t)((int32_t)v7 > -1) << 3) | ((uint32_t)((int32_t)v8 > -1) << 2));
-  t5 = ((uint32_t)((int32_t)v9 > -1) | ((uint32_t)((int32_t)v10 > -1) << 1)) |
-      (((uint32_t)((int32_t)v11 > -1) << 3) | ((uint32_t)((int32_t)v12 > -1) << 2));
-  v13 = t4 | (t5 << 4);
-  if (((v13 >> 1) | v13) == 255)
-    goto after_36;
-after_34:;
-  v13 = v5 + 0xffffffffffffffff;
-  p0 = 0;
-  v2 = 0;
-again_42:;
-  v6 = (uint32_t)(int8_t)(uint32_t)load8(v4 + v2);
-  if ((int32_t)v6 > -1)
-    goto after_37;
-  v7 = p0 & 0xffu;
-  if (v7)
-    goto after_38;
-  if (v6 == 0xffffff80u)
-    goto after_39;
-  p0 = (v6 < 0xffffff90u) ? 1u : 2u;
-  goto after_40;
-after_38:;
-  if (v7 > 3u)
-    goto after_39;
-  p0 = p0 + 1u;
-after_40:;
-  if (v13 == v2)
-    goto after_39;
-  goto after_41;
-after_37:;
-  p0 = 0;
-  if (v13 != v2)
-    goto after_41;
-  v2 = v4;
-  goto after_36;
-after_41:;
-  v2 = v2 + 1;
-  goto again_42;
-after_39:;
-  trap();
-after_36:;
-  store64(frame + 183, 0);
-  store64(frame + 176, 0);
-  store64(frame + 168, 0);
-  store64(frame + 160, 0);
-  store64(frame + 152, 0);
-  p0 = (uint32_t)(v5 == 0);
-  if (p0)
-    goto after_43;
-  move(frame + 152, v2, v5);
-after_43:;
-  v4 = load64(frame + 176);
-  store64(frame + 144, v4);
-  v2 = load64(frame + 152);
-  store64(frame + 120, v2);
-  store64(frame + 86, v2);
-  store64(frame + 56, load64(frame + 160));
-  store64(frame + 72, v4);
-  store64(frame + 64, load64(frame + 168));
-  store64(frame + 48, v2);
-  v2 = load8(frame + 190);
-  v4 = load16(frame + 188);
-  v13 = load32(frame + 184);
-  store64(frame + 24, load64(frame + 72));
-  store64(frame + 16, load64(frame + 64));
-  store64(frame + 8, load64(frame + 56));
-  store64(frame, load64(frame + 48));
-  store64(frame + 40, v5);
-  store64(frame + 32, v13 | ((v2 << 48) | (v4 << 32)));
-  v4 = p1 + 2;
-  v2 = v5 + 2;
-  if (v5 == 9)
-    goto after_44;
-  store32(v4, load32(frame));
-  store32((p1 + v2) + 0xfffffffffffffffc, load32((frame + v5) + 0xfffffffffffffffc));
-  goto after_45;
-after_44:;
-  if (p0)
-    goto after_45;
-  move(v4, frame, v5);
-after_45:;
-  store16(p1, (uint16_t)(((uint32_t)v5 << 8) | 6u));
-  return v2;
+  store64(p2 + 16, v8);
 }
 
 /* pkix::algorithm::AlgorithmIdentifierEncodePart::prepend_part */
 static void pkix_algorithm_AlgorithmIdentifierEncodePart_prepend_part(uint64_t p0, uint64_t p1)
 {
   uint64_t v3 = 0, v4 = 0, v5 = 0, v6 = 0, v7 = 0, v8 = 0, v9 = 0, v10 = 0, v11 = 0, v12 = 0,
-      v13 = 0, v14 = 0;
+      v13 = 0, v14 = 0, v15 = 0, v16 = 0, t0, t1;
   v3 = load64(p1 + 16);
   if (load8(p0 + 16) == 1u)
     goto after_1;
   v4 = load64(p0 + 8);
-  v5 = load64(p0);
-  v6 = v3;
+  p0 = load64(p0);
+  v5 = v3;
   goto after_2;
 after_1:;
-  v7 = load64(p1);
-  v8 = load64(p0 + 32);
-  v6 = v3 - v8;
-  v9 = v7 + v6;
-  v10 = load64(p0 + 24);
+  v6 = load64(p1);
+  v7 = load64(p0 + 32);
+  v5 = v3 - v7;
+  v8 = v6 + v5;
+  v9 = load64(p0 + 24);
   v4 = load64(p0 + 8);
-  v5 = load64(p0);
-  if (v8 > 32)
+  p0 = load64(p0);
+  if (v7 < 33)
     goto after_3;
-  p0 = v10 + v8;
-  if (v8 < 16)
+  v10 = v9 + v7;
+  if (v7 > 64)
     goto after_4;
-  v11 = load64(v10);
-  store64(v9 + 8, load64(v10 + 8));
-  store64(v9, v11);
-  p0 = p0 + 0xfffffffffffffff0;
-  v11 = load64(p0);
-  v12 = (v7 + v3) + 0xfffffffffffffff0;
-  store64(v12 + 8, load64(p0 + 8));
-  store64(v12, v11);
+  v11 = load64(v9);
+  v12 = load64(v9 + 8);
+  v7 = load64(v9 + 16);
+  store64(v8 + 24, load64(v9 + 24));
+  store64(v8 + 16, v7);
+  store64(v8 + 8, v12);
+  store64(v8, v11);
+  v9 = v10 + 0xffffffffffffffe0;
+  v11 = load64(v9);
+  v12 = load64(v9 + 8);
+  v8 = load64(v9 + 16);
+  v10 = (v6 + v3) + 0xffffffffffffffe0;
+  store64(v10 + 24, load64(v9 + 24));
+  store64(v10 + 16, v8);
+  store64(v10 + 8, v12);
+  store64(v10, v11);
   goto after_5;
 after_4:;
-  if ((v8 + 0xfffffffffffffff7) < 0xfffffffffffffffb)
-    goto after_3;
-  store32(v9, load32(v10));
-  store32((v7 + v3) + 0xfffffffffffffffc, load32(p0 + 0xfffffffffffffffc));
+  if (v7 > 128)
+    goto after_6;
+  v11 = load64(v9);
+  v12 = load64(v9 + 8);
+  v7 = load64(v9 + 16);
+  v13 = load64(v9 + 24);
+  v14 = load64(v9 + 32);
+  v15 = load64(v9 + 40);
+  v16 = load64(v9 + 48);
+  store64(v8 + 56, load64(v9 + 56));
+  store64(v8 + 48, v16);
+  store64(v8 + 40, v15);
+  store64(v8 + 32, v14);
+  store64(v8 + 24, v13);
+  store64(v8 + 16, v7);
+  store64(v8 + 8, v12);
+  store64(v8, v11);
+  v9 = v10 + 0xffffffffffffffc0;
+  v11 = load64(v9);
+  v12 = load64(v9 + 8);
+  v8 = load64(v9 + 16);
+  v7 = load64(v9 + 24);
+  v13 = load64(v9 + 32);
+  v14 = load64(v9 + 40);
+  v15 = load64(v9 + 48);
+  v10 = (v6 + v3) + 0xffffffffffffffc0;
+  store64(v10 + 56, load64(v9 + 56));
+  store64(v10 + 48, v15);
+  store64(v10 + 40, v14);
+  store64(v10 + 32, v13);
+  store64(v10 + 24, v7);
+  store64(v10 + 16, v8);
+  store64(v10 + 8, v12);
+  store64(v10, v11);
   goto after_5;
 after_3:;
-  if ((v9 - v10) >= v8)
-    goto after_6;
-  v13 = v8 & 3;
-  v11 = 0;
-  if (v8 < 4)
+  v10 = v9 + v7;
+  if (v7 < 16)
     goto after_7;
-  v14 = v8 & 0xfffffffffffffffc;
-  v11 = 0;
-again_8:;
-  p0 = v9 + v11;
-  v12 = v10 + v11;
-  store8(p0, (uint8_t)(uint32_t)load8(v12));
-  store8(p0 + 1, (uint8_t)(uint32_t)load8(v12 + 1));
-  store8(p0 + 2, (uint8_t)(uint32_t)load8(v12 + 2));
-  store8(p0 + 3, (uint8_t)(uint32_t)load8(v12 + 3));
-  v11 = v11 + 4;
-  if (v14 != v11)
-    goto again_8;
-  if (v13 == 0)
-    goto after_5;
+  v11 = load64(v9);
+  store64(v8 + 8, load64(v9 + 8));
+  store64(v8, v11);
+  v9 = v10 + 0xfffffffffffffff0;
+  v10 = load64(v9);
+  v11 = (v6 + v3) + 0xfffffffffffffff0;
+  store64(v11 + 8, load64(v9 + 8));
+  store64(v11, v10);
+  goto after_5;
 after_7:;
-  p0 = v10 + v11;
-  v11 = v7 + ((v11 + v3) - v8);
-again_9:;
-  store8(v11, (uint8_t)(uint32_t)load8(p0));
-  v11 = v11 + 1;
-  p0 = p0 + 1;
-  v13 = v13 + 0xffffffffffffffff;
-  if (v13 != 0)
-    goto again_9;
+  if (v7 < 8)
+    goto after_8;
+  store64(v8, load64(v9));
+  store64((v6 + v3) + 0xfffffffffffffff8, load64(v10 + 0xfffffffffffffff8));
+  goto after_5;
+after_8:;
+  if (v7 < 4)
+    goto after_6;
+  store32(v8, load32(v9));
+  store32((v6 + v3) + 0xfffffffffffffffc, load32(v10 + 0xfffffffffffffffc));
   goto after_5;
 after_6:;
-  if (v8 == 0)
-    goto after_5;
-  move(v9, v10, v8);
-after_5:;
-  store64(p1 + 16, v6);
-after_2:;
-  v14 = load64(p1);
-  v8 = v6 - v4;
-  v10 = v14 + v8;
-  if (v4 > 32)
+  if ((v8 - v9) >= v7)
+    goto after_9;
+  v13 = v7 & 3;
+  v10 = 0;
+  if (v7 < 4)
     goto after_10;
-  p0 = v5 + v4;
-  if (v4 < 16)
-    goto after_11;
-  v11 = load64(v5);
-  store64(v10 + 8, load64(v5 + 8));
-  store64(v10, v11);
-  p0 = p0 + 0xfffffffffffffff0;
-  v11 = load64(p0);
-  v12 = (v14 + v6) + 0xfffffffffffffff0;
-  store64(v12 + 8, load64(p0 + 8));
-  store64(v12, v11);
-  goto after_12;
-after_11:;
-  if ((v4 + 0xfffffffffffffff7) < 0xfffffffffffffffb)
-    goto after_10;
-  store32(v10, load32(v5));
-  store32((v14 + v6) + 0xfffffffffffffffc, load32(p0 + 0xfffffffffffffffc));
-  goto after_12;
-after_10:;
-  if ((v10 - v5) >= v4)
-    goto after_13;
-  v13 = v4 & 3;
-  v11 = 0;
-  if (v4 < 4)
-    goto after_14;
-  v9 = v4 & 0xfffffffffffffffc;
-  v11 = 0;
-again_15:;
-  p0 = v10 + v11;
-  v12 = v5 + v11;
-  store8(p0, (uint8_t)(uint32_t)load8(v12));
-  store8(p0 + 1, (uint8_t)(uint32_t)load8(v12 + 1));
-  store8(p0 + 2, (uint8_t)(uint32_t)load8(v12 + 2));
-  store8(p0 + 3, (uint8_t)(uint32_t)load8(v12 + 3));
-  v11 = v11 + 4;
-  if (v9 != v11)
-    goto again_15;
+  v14 = v7 & 0xfffffffffffffffc;
+  v10 = 0;
+again_11:;
+  v11 = v8 + v10;
+  v12 = v9 + v10;
+  store8(v11, (uint8_t)(uint32_t)load8(v12));
+  store8(v11 + 1, (uint8_t)(uint32_t)load8(v12 + 1));
+  store8(v11 + 2, (uint8_t)(uint32_t)load8(v12 + 2));
+  store8(v11 + 3, (uint8_t)(uint32_t)load8(v12 + 3));
+  v10 = v10 + 4;
+  if (v14 != v10)
+    goto again_11;
   if (v13 == 0)
-    goto after_16;
-after_14:;
-  p0 = v5 + v11;
-  v11 = v14 + ((v6 + v11) - v4);
-again_17:;
-  store8(v11, (uint8_t)(uint32_t)load8(p0));
-  v11 = v11 + 1;
-  p0 = p0 + 1;
+    goto after_5;
+after_10:;
+  v9 = v9 + v10;
+  v10 = v6 + ((v10 + v3) - v7);
+again_12:;
+  store8(v10, (uint8_t)(uint32_t)load8(v9));
+  v10 = v10 + 1;
+  v9 = v9 + 1;
   v13 = v13 + 0xffffffffffffffff;
   if (v13 != 0)
-    goto again_17;
-  goto after_16;
-after_13:;
-  if (v4 == 0)
+    goto again_12;
+  goto after_5;
+after_9:;
+  if (v7 == 0)
+    goto after_5;
+  move(v8, v9, v7);
+after_5:;
+  store64(p1 + 16, v5);
+after_2:;
+  v13 = load64(p1);
+  v7 = v5 - v4;
+  v12 = v13 + v7;
+  if (v4 < 33)
+    goto after_13;
+  v9 = p0 + v4;
+  if (v4 > 64)
+    goto after_14;
+  v10 = load64(p0);
+  v11 = load64(p0 + 8);
+  v8 = load64(p0 + 16);
+  store64(v12 + 24, load64(p0 + 24));
+  store64(v12 + 16, v8);
+  store64(v12 + 8, v11);
+  store64(v12, v10);
+  p0 = v9 + 0xffffffffffffffe0;
+  v10 = load64(p0);
+  v11 = load64(p0 + 8);
+  v12 = load64(p0 + 16);
+  v9 = (v13 + v5) + 0xffffffffffffffe0;
+  store64(v9 + 24, load64(p0 + 24));
+  store64(v9 + 16, v12);
+  store64(v9 + 8, v11);
+  store64(v9, v10);
+  goto after_15;
+after_14:;
+  if (v4 > 128)
     goto after_16;
-  move(v10, v5, v4);
-after_16:;
-  p0 = p1 + 16;
-  store64(p0, v8);
-  if (v4 > 127)
+  v10 = load64(p0);
+  v11 = load64(p0 + 8);
+  v8 = load64(p0 + 16);
+  v6 = load64(p0 + 24);
+  v14 = load64(p0 + 32);
+  v15 = load64(p0 + 40);
+  v16 = load64(p0 + 48);
+  store64(v12 + 56, load64(p0 + 56));
+  store64(v12 + 48, v16);
+  store64(v12 + 40, v15);
+  store64(v12 + 32, v14);
+  store64(v12 + 24, v6);
+  store64(v12 + 16, v8);
+  store64(v12 + 8, v11);
+  store64(v12, v10);
+  p0 = v9 + 0xffffffffffffffc0;
+  v10 = load64(p0);
+  v11 = load64(p0 + 8);
+  v12 = load64(p0 + 16);
+  v8 = load64(p0 + 24);
+  v6 = load64(p0 + 32);
+  v14 = load64(p0 + 40);
+  v15 = load64(p0 + 48);
+  v9 = (v13 + v5) + 0xffffffffffffffc0;
+  store64(v9 + 56, load64(p0 + 56));
+  store64(v9 + 48, v15);
+  store64(v9 + 40, v14);
+  store64(v9 + 32, v6);
+  store64(v9 + 24, v8);
+  store64(v9 + 16, v12);
+  store64(v9 + 8, v11);
+  store64(v9, v10);
+  goto after_17;
+after_13:;
+  v9 = p0 + v4;
+  if (v4 < 16)
     goto after_18;
-after_12:;
-  p0 = v8 + 0xfffffffffffffffe;
-  store16(load64(p1) + p0, (uint16_t)(((uint32_t)v4 << 8) | 6u));
-  store64(p1 + 16, p0);
-  goto after_19;
+  v10 = load64(p0);
+  store64(v12 + 8, load64(p0 + 8));
+  store64(v12, v10);
+  p0 = v9 + 0xfffffffffffffff0;
+  v9 = load64(p0);
+  v10 = (v13 + v5) + 0xfffffffffffffff0;
+  store64(v10 + 8, load64(p0 + 8));
+  store64(v10, v9);
+  goto after_15;
 after_18:;
-  sec1_der_back_writer_BackWriter_prepend_long_header(p1, 6, v4);
-  p0 = load64(p0);
+  if (v4 < 8)
+    goto after_19;
+  store64(v12, load64(p0));
+  store64((v13 + v5) + 0xfffffffffffffff8, load64(v9 + 0xfffffffffffffff8));
+  goto after_15;
 after_19:;
-  v11 = v3 - p0;
-  if (v11 > 127)
+  if (v4 < 4)
+    goto after_16;
+  store32(v12, load32(p0));
+  store32((v13 + v5) + 0xfffffffffffffffc, load32(v9 + 0xfffffffffffffffc));
+  goto after_15;
+after_16:;
+  if ((v12 - p0) >= v4)
     goto after_20;
-  p0 = p0 + 0xfffffffffffffffe;
-  store16(load64(p1) + p0, (uint16_t)(((uint32_t)v11 << 8) | 0x30u));
-  store64(p1 + 16, p0);
-  return;
+  v8 = v4 & 3;
+  v9 = 0;
+  if (v4 < 4)
+    goto after_21;
+  v6 = v4 & 0xfffffffffffffffc;
+  v9 = 0;
+again_22:;
+  v10 = v12 + v9;
+  v11 = p0 + v9;
+  store8(v10, (uint8_t)(uint32_t)load8(v11));
+  store8(v10 + 1, (uint8_t)(uint32_t)load8(v11 + 1));
+  store8(v10 + 2, (uint8_t)(uint32_t)load8(v11 + 2));
+  store8(v10 + 3, (uint8_t)(uint32_t)load8(v11 + 3));
+  v9 = v9 + 4;
+  if (v6 != v9)
+    goto again_22;
+  if (v8 == 0)
+    goto after_17;
+after_21:;
+  p0 = p0 + v9;
+  v9 = v13 + ((v5 + v9) - v4);
+again_23:;
+  store8(v9, (uint8_t)(uint32_t)load8(p0));
+  v9 = v9 + 1;
+  p0 = p0 + 1;
+  v8 = v8 + 0xffffffffffffffff;
+  if (v8 != 0)
+    goto again_23;
+  goto after_17;
 after_20:;
-  sec1_der_back_writer_BackWriter_prepend_long_header(p1, 48, v11);
+  if (v4 == 0)
+    goto after_17;
+  move(v12, p0, v4);
+after_17:;
+  if (v4 > 127)
+    goto after_24;
+after_15:;
+  p0 = v7 + 0xfffffffffffffffe;
+  store16(load64(p1) + p0, (uint16_t)(((uint32_t)v4 << 8) | 6u));
+  goto after_25;
+after_24:;
+  t0 = sec1_der_back_writer_prepend_long_header(load64(p1), v7, 6, v4);
+  p0 = t0;
+after_25:;
+  v4 = v3 - p0;
+  if (v4 > 127)
+    goto after_26;
+  p0 = p0 + 0xfffffffffffffffe;
+  store16(load64(p1) + p0, (uint16_t)(((uint32_t)v4 << 8) | 0x30u));
+  goto after_27;
+after_26:;
+  t1 = sec1_der_back_writer_prepend_long_header(load64(p1), p0, 48, v4);
+  p0 = t1;
+after_27:;
+  store64(p1 + 16, p0);
   return;
 }
 
-/* sec1_der::codec::element_len::<#7c94a0521e1ad5a5> */
-static void sec1_der_codec_element_len(uint64_t p0, uint64_t p1)
+/* sec1_der::codec::element_len::<#1aa56edede66dd4d> */
+static void sec1_der_codec_element_len_3(uint64_t p0, uint64_t p1)
 {
-  FRAME(288)
-  uint32_t v3 = 0, v9 = 0, v10 = 0, v14 = 0, v15 = 0;
-  uint64_t v4 = 0, v5 = 0, v6 = 0, v7 = 0, v8 = 0, v11 = 0, v12 = 0, v13 = 0;
-  store64(frame + 176, 0);
-  store64(frame + 184, 0);
-  store64(frame + 192, 0);
-  store64(frame + 200, 0);
-  store64(frame + 208, 0);
-  v3 = load8(p1 + 16);
-  if (v3 != 1u)
+  uint32_t v4 = 0, v5 = 0, v9 = 0, v10 = 0, v13 = 0, v14 = 0;
+  uint64_t v2 = 0, v3 = 0, v6 = 0, v7 = 0, v8 = 0, v11 = 0, v12 = 0, t0;
+  v2 = 0;
+  v3 = 0;
+  v4 = load8(p1 + 16);
+  if (v4 != 1u)
     goto after_1;
-  v4 = load64(p1 + 32);
-  store64(frame + 224, v4);
-  v5 = load64(p1 + 24);
-  store64(frame + 216, v5);
-  v6 = load64(p1 + 40);
-  store64(frame + 232, v6);
-  v7 = load64(p1 + 48);
-  store64(frame + 240, v7);
-  v8 = load64(p1 + 56);
-  store64(frame + 248, v8);
-  store64(frame + 176, v5);
-  store64(frame + 184, v4);
-  store64(frame + 192, v6);
-  store64(frame + 200, v7);
-  store64(frame + 208, v8);
+  v3 = load64(p1 + 32);
 after_1:;
-  store64(frame + 32, load64(frame + 176));
-  store64(frame + 40, load64(frame + 184));
-  store64(frame + 48, load64(frame + 192));
-  store64(frame + 56, load64(frame + 200));
-  store64(frame + 64, load64(frame + 208));
-  v5 = load64(p1);
-  v4 = load64(p1 + 8);
-  v9 = load8(p1 + 80);
-  v10 = load8(p1 + 144);
-  store64(frame + 104, load64(p1 + 96));
-  store64(frame + 112, load64(p1 + 104));
-  store64(frame + 120, load64(p1 + 112));
-  store64(frame + 128, load64(p1 + 120));
-  store64(frame + 136, load64(p1 + 128));
-  store64(frame + 144, load64(p1 + 136));
-  if (v4 == 0)
+  v5 = load8(p1 + 80);
+  if (v5 != 1u)
     goto after_2;
-  v11 = p1 + 152;
-  v7 = p1 + 64;
-  v8 = (uint64_t)v10 & 0xff;
-  v12 = (uint64_t)v9 & 0xff;
-  v13 = (frame + 8) + 96;
-  v6 = load64(frame + 40);
-  p1 = 0;
-  v14 = 1;
-again_4:;
-  v15 = (uint32_t)(int8_t)(uint32_t)load8(v5 + p1);
-  if ((v14 & 1u) == 0u)
+  v2 = load64(p1 + 96);
+after_2:;
+  v6 = load64(p1 + 8);
+  v7 = 0;
+  v8 = 0;
+  v9 = load8(p1 + 104);
+  if (v9 != 1u)
     goto after_3;
-  if (v15 == 0xffffff80u)
+  v8 = load64(p1 + 120);
+after_3:;
+  v10 = 0;
+  if (v6 == 0)
+    goto after_4;
+  v11 = load64(p1);
+  v3 = (v4 != 1u) ? 0ull : v3;
+  v12 = load64(p1 + 72);
+  v7 = 0;
+  v13 = 1;
+  p1 = 0;
+again_6:;
+  v14 = (uint32_t)(int8_t)(uint32_t)load8(v11 + p1);
+  if ((v13 & 1u) == 0u)
+    goto after_5;
+  if (v14 == 0xffffff80u)
+    goto after_4;
+after_5:;
+  v13 = (uint32_t)((int32_t)v14 > -1);
+  p1 = p1 + 1;
+  if (v6 != p1)
+    goto again_6;
+  if (v6 > 0xfffffff)
+    goto after_4;
+  if ((int32_t)v14 < 0)
+    goto after_4;
+  if (v6 >= 128)
+    goto after_7;
+  p1 = 2;
+  goto after_8;
+after_7:;
+  if (v6 >= 256)
+    goto after_9;
+  p1 = 3;
+  goto after_8;
+after_9:;
+  if (v6 >= 0x10000)
+    goto after_10;
+  p1 = 4;
+  goto after_8;
+after_10:;
+  p1 = (v6 < 0x1000000) ? 5ull : 6ull;
+after_8:;
+  v10 = 0;
+  p1 = p1 + v6;
+  if (p1 > 0xfffffff)
+    goto after_4;
+  v14 = (uint32_t)(v4 != 1u);
+  if (v14)
+    goto after_11;
+  if (v3 > 0xfffffff)
+    goto after_4;
+after_11:;
+  v7 = 0;
+  t0 = p1 + (v14 ? 0ull : ((v3 < 0x10000000) ? (v3 & 0xffffffff) : 0ull));
+  p1 = t0;
+  if (p1 > 0xfffffff)
+    goto after_4;
+  if (p1 >= 128)
+    goto after_12;
+  v6 = 2;
+  goto after_13;
+after_12:;
+  if (p1 >= 256)
+    goto after_14;
+  v6 = 3;
+  goto after_13;
+after_14:;
+  if (p1 >= 0x10000)
+    goto after_15;
+  v6 = 4;
+  goto after_13;
+after_15:;
+  v6 = (p1 < 0x1000000) ? 5ull : 6ull;
+after_13:;
+  p1 = v6 + p1;
+  if (p1 > 0xfffffff)
+    goto after_4;
+  if (v12 > 0xfffffff)
+    goto after_4;
+  if (v12 >= 128)
+    goto after_16;
+  v6 = 2;
+  goto after_17;
+after_16:;
+  if (v12 >= 256)
+    goto after_18;
+  v6 = 3;
+  goto after_17;
+after_18:;
+  if (v12 >= 0x10000)
+    goto after_19;
+  v6 = 4;
+  goto after_17;
+after_19:;
+  v6 = (v12 < 0x1000000) ? 5ull : 6ull;
+after_17:;
+  v6 = v6 + v12;
+  if (v6 > 0xfffffff)
+    goto after_4;
+  v3 = 0;
+  v11 = 0;
+  if (v5 != 1u)
+    goto after_20;
+  v7 = 0;
+  if (v2 > 0xfffffff)
+    goto after_4;
+  if (v2 >= 128)
+    goto after_21;
+  v11 = 2;
+  goto after_22;
+after_21:;
+  if (v2 >= 256)
+    goto after_23;
+  v11 = 3;
+  goto after_22;
+after_23:;
+  if (v2 >= 0x10000)
+    goto after_24;
+  v11 = 4;
+  goto after_22;
+after_24:;
+  v11 = (v2 < 0x1000000) ? 5ull : 6ull;
+after_22:;
+  v11 = v11 + v2;
+  if (v11 > 0xfffffff)
+    goto after_4;
+  if (v11 >= 128)
+    goto after_25;
+  v2 = 2;
+  goto after_26;
+after_25:;
+  if (v11 >= 256)
+    goto after_27;
+  v2 = 3;
+  goto after_26;
+after_27:;
+  if (v11 >= 0x10000)
+    goto after_28;
+  v2 = 4;
+  goto after_26;
+after_28:;
+  v2 = (v11 < 0x1000000) ? 5ull : 6ull;
+after_26:;
+  v11 = v2 + v11;
+  if (v11 > 0xfffffff)
+    goto after_4;
+after_20:;
+  if (v9 != 1u)
+    goto after_29;
+  v7 = 0;
+  if (v8 > 0xffffffe)
+    goto after_4;
+  v3 = v8 + 1;
+  if (v8 >= 127)
+    goto after_30;
+  v2 = 2;
+  goto after_31;
+after_30:;
+  if (v8 >= 255)
+    goto after_32;
+  v2 = 3;
+  goto after_31;
+after_32:;
+  if (v8 >= 65535)
+    goto after_33;
+  v2 = 4;
+  goto after_31;
+after_33:;
+  v2 = (v8 < 0xffffff) ? 5ull : 6ull;
+after_31:;
+  v3 = v3 + v2;
+  if (v3 > 0xfffffff)
+    goto after_4;
+  if (v3 >= 128)
+    goto after_34;
+  v2 = 2;
+  goto after_35;
+after_34:;
+  if (v3 >= 256)
+    goto after_36;
+  v2 = 3;
+  goto after_35;
+after_36:;
+  if (v3 >= 0x10000)
+    goto after_37;
+  v2 = 4;
+  goto after_35;
+after_37:;
+  v2 = (v3 < 0x1000000) ? 5ull : 6ull;
+after_35:;
+  v3 = v2 + v3;
+  if (v3 > 0xfffffff)
+    goto after_4;
+after_29:;
+  v7 = 0;
+  v11 = v3 + v11;
+  if (v11 > 0xfffffff)
+    goto after_4;
+  v6 = v11 + v6;
+  if (v6 > 0xffffffc)
+    goto after_4;
+  v11 = 3;
+  v3 = v6 + 3;
+  if (v6 >= 125)
+    goto after_38;
+  v11 = 2;
+  goto after_39;
+after_38:;
+  if (v6 < 253)
+    goto after_39;
+  if (v6 >= 65533)
+    goto after_40;
+  v11 = 4;
+  goto after_39;
+after_40:;
+  v11 = (v6 < 0xfffffd) ? 5ull : 6ull;
+after_39:;
+  v6 = v3 + v11;
+  if (v6 > 0xfffffff)
+    goto after_4;
+  if (v6 >= 128)
+    goto after_41;
+  v11 = 2;
+  goto after_42;
+after_41:;
+  if (v6 >= 256)
+    goto after_43;
+  v11 = 3;
+  goto after_42;
+after_43:;
+  if (v6 >= 0x10000)
+    goto after_44;
+  v11 = 4;
+  goto after_42;
+after_44:;
+  v11 = (v6 < 0x1000000) ? 5ull : 6ull;
+after_42:;
+  v6 = v11 + v6;
+  if (v6 > 0xfffffff)
+    goto after_4;
+  p1 = v6 + p1;
+  if (p1 > 0xffffffc)
+    goto after_4;
+  v6 = 3;
+  v11 = p1 + 3;
+  if (p1 >= 125)
+    goto after_45;
+  v6 = 2;
+  goto after_46;
+after_45:;
+  if (p1 < 253)
+    goto after_46;
+  if (p1 >= 65533)
+    goto after_47;
+  v6 = 4;
+  goto after_46;
+after_47:;
+  v6 = (p1 < 0xfffffd) ? 5ull : 6ull;
+after_46:;
+  v7 = v11 + v6;
+  v10 = 1;
+after_4:;
+  store64(p0 + 8, v7);
+  store8(p0, (uint8_t)v10);
+  return;
+}
+
+/* sec1_der::codec::element_len::<#1deaba2dde898d37> */
+static void sec1_der_codec_element_len_2(uint64_t p0, uint64_t p1)
+{
+  uint32_t v4 = 0, v5 = 0, v6 = 0, v10 = 0;
+  uint64_t v2 = 0, v3 = 0, v7 = 0, v8 = 0, v9 = 0, t0;
+  v2 = 0;
+  v3 = 0;
+  v4 = load8(p1 + 16);
+  v5 = (uint32_t)(v4 != 1u);
+  if (v5)
+    goto after_1;
+  v3 = load64(p1 + 32);
+after_1:;
+  v6 = 0;
+  v7 = load64(p1 + 8);
+  if (v7 == 0)
+    goto after_2;
+  v8 = v5 ? 0ull : v3;
+  v9 = load64(p1 + 80);
+  v3 = load64(p1);
+  v2 = 0;
+  v10 = 1;
+  p1 = 0;
+again_4:;
+  v5 = (uint32_t)(int8_t)(uint32_t)load8(v3 + p1);
+  if ((v10 & 1u) == 0u)
+    goto after_3;
+  if (v5 == 0xffffff80u)
     goto after_2;
 after_3:;
-  v14 = (uint32_t)((int32_t)v15 > -1);
+  v10 = (uint32_t)((int32_t)v5 > -1);
   p1 = p1 + 1;
-  if (v4 != p1)
+  if (v7 != p1)
     goto again_4;
-  if (v4 > 0xfffffff)
+  if (v7 > 0xfffffff)
     goto after_2;
-  if ((int32_t)v15 < 0)
+  if ((int32_t)v5 < 0)
     goto after_2;
-  if (v4 >= 128)
+  if (v7 >= 128)
     goto after_5;
   p1 = 2;
   goto after_6;
 after_5:;
-  if (v4 >= 256)
+  if (v7 >= 256)
     goto after_7;
   p1 = 3;
   goto after_6;
 after_7:;
-  if (v4 >= 0x10000)
+  if (v7 >= 0x10000)
     goto after_8;
   p1 = 4;
   goto after_6;
 after_8:;
-  p1 = (v4 < 0x1000000) ? 5ull : 6ull;
+  p1 = (v7 < 0x1000000) ? 5ull : 6ull;
 after_6:;
-  p1 = p1 + v4;
+  v6 = 0;
+  p1 = p1 + v7;
   if (p1 > 0xfffffff)
     goto after_2;
-  v4 = 0;
-  if (v3 != 1u)
+  v5 = (uint32_t)(v4 != 1u);
+  if (v5)
     goto after_9;
-  v4 = v6;
-  if (v6 > 0xfffffff)
+  if (v8 > 0xfffffff)
     goto after_2;
 after_9:;
-  p1 = v4 + p1;
+  v2 = 0;
+  t0 = p1 + (v5 ? 0ull : ((v8 < 0x10000000) ? (v8 & 0xffffffff) : 0ull));
+  p1 = t0;
   if (p1 > 0xfffffff)
     goto after_2;
   if (p1 >= 128)
     goto after_10;
-  v4 = 2;
+  v7 = 2;
   goto after_11;
 after_10:;
   if (p1 >= 256)
     goto after_12;
-  v4 = 3;
+  v7 = 3;
   goto after_11;
 after_12:;
   if (p1 >= 0x10000)
     goto after_13;
-  v4 = 4;
+  v7 = 4;
   goto after_11;
 after_13:;
-  v4 = (p1 < 0x1000000) ? 5ull : 6ull;
+  v7 = (p1 < 0x1000000) ? 5ull : 6ull;
 after_11:;
-  p1 = v4 + p1;
+  v7 = v7 + p1;
+  if (v7 > 0xfffffff)
+    goto after_2;
+  p1 = v9 + 1;
   if (p1 > 0xfffffff)
     goto after_2;
-  store64(frame + 176, 0);
-  store64(frame + 184, 0);
-  v4 = load64(frame + 144);
-  store64(frame + 280, 0);
-  v15 = (uint32_t)((v9 & 0xffu) == 1u);
-  v5 = v15 ? v13 : 0ull;
-  v4 = v15 ? v4 : 0ull;
-  if ((v10 & 0xffu) != 1u)
+  if (p1 >= 128)
     goto after_14;
-  store64(frame + 184, load64(v11 + 8));
-  store64(frame + 176, load64(v11));
+  v3 = 2;
+  goto after_15;
 after_14:;
-  store64(frame + 256, v8);
-  store64(frame + 248, v4);
-  store64(frame + 240, v5);
-  store64(frame + 232, v12);
-  store64(frame + 264, load64(frame + 176));
-  store64(frame + 272, load64(frame + 184));
-  store64(frame + 224, load64(v7 + 8));
-  store64(frame + 216, load64(v7));
-  sec1_der_part_Tuple2EncodePart_part_len(frame + 280, frame + 216);
-  if (load8(frame + 280))
-    goto after_2;
-  v15 = load32(frame + 284);
-  if (v15 >= 128u)
-    goto after_15;
-  v4 = 2;
-  goto after_16;
-after_15:;
-  if (v15 >= 256u)
-    goto after_17;
-  v4 = 3;
-  goto after_16;
-after_17:;
-  if (v15 >= 0x10000u)
-    goto after_18;
-  v4 = 4;
-  goto after_16;
-after_18:;
-  v4 = (v15 < 0x1000000u) ? 5ull : 6ull;
+  if (p1 >= 256)
+    goto after_16;
+  v3 = 3;
+  goto after_15;
 after_16:;
-  v4 = v4 + (uint64_t)v15;
-  if (v4 > 0xfffffff)
+  if (p1 >= 0x10000)
+    goto after_17;
+  v3 = 4;
+  goto after_15;
+after_17:;
+  v3 = (p1 < 0x1000000) ? 5ull : 6ull;
+after_15:;
+  p1 = v3 + p1;
+  if (p1 > 0xfffffff)
     goto after_2;
-  if (v4 >= 128)
-    goto after_19;
-  v5 = 2;
-  goto after_20;
-after_19:;
-  if (v4 >= 256)
-    goto after_21;
-  v5 = 3;
-  goto after_20;
-after_21:;
-  if (v4 >= 0x10000)
-    goto after_22;
-  v5 = 4;
-  goto after_20;
-after_22:;
-  v5 = (v4 < 0x1000000) ? 5ull : 6ull;
+  p1 = p1 + v7;
+  if (p1 > 0xfffffff)
+    goto after_2;
+  if (p1 >= 128)
+    goto after_18;
+  v7 = 2;
+  goto after_19;
+after_18:;
+  if (p1 >= 256)
+    goto after_20;
+  v7 = 3;
+  goto after_19;
 after_20:;
-  v4 = v5 + v4;
-  if (v4 > 0xfffffff)
-    goto after_2;
-  p1 = v4 + p1;
-  if (p1 >= 0x10000000)
-    goto after_2;
-  if (p1 > 0xffffffc)
-    goto after_2;
-  v4 = 3;
-  v5 = p1 + 3;
-  if (p1 >= 125)
-    goto after_23;
-  v4 = 2;
-  goto after_24;
-after_23:;
-  if (p1 < 253)
-    goto after_24;
-  if (p1 >= 65533)
-    goto after_25;
-  v4 = 4;
-  goto after_24;
-after_25:;
-  v4 = (p1 < 0xfffffd) ? 5ull : 6ull;
-after_24:;
-  p1 = v5 + v4;
-  v15 = 1;
-  goto after_26;
+  if (p1 >= 0x10000)
+    goto after_21;
+  v7 = 4;
+  goto after_19;
+after_21:;
+  v7 = (p1 < 0x1000000) ? 5ull : 6ull;
+after_19:;
+  v2 = v7 + p1;
+  v6 = 1;
 after_2:;
-  v15 = 0;
-  p1 = 0;
-after_26:;
-  store64(p0 + 8, p1);
-  store8(p0, (uint8_t)v15);
+  store64(p0 + 8, v2);
+  store8(p0, (uint8_t)v6);
+  return;
 }
 
 /* rattle::export sec1_certificate_read_public_key */
 static uint32_t export_sec1_certificate_read_public_key(uint64_t bytes, uint64_t bytes_len,
     uint64_t part)
 {
-  FRAME(1152)
-  uint32_t v4 = 0, v8 = 0, v11 = 0, v18 = 0, t0;
+  FRAME(1024)
+  uint32_t v4 = 0, v8 = 0, v11 = 0, v18 = 0, v24 = 0, t0;
   uint64_t v5 = 0, v6 = 0, v7 = 0, v9 = 0, v10 = 0, v12 = 0, v13 = 0, v14 = 0, v15 = 0, v16 = 0,
-      v17 = 0, v19 = 0, v20 = 0, v21 = 0, v22 = 0, v23 = 0, v24 = 0, v25 = 0, v26 = 0;
-  store64(frame + 151, 0);
-  store64(frame + 144, 0);
-  store64(frame + 136, 0);
+      v17 = 0, v19 = 0, v20 = 0, v21 = 0, v22 = 0, v23 = 0, t1;
+  store64(frame + 96, 0);
+  store64(frame + 88, CONSTANT(0));
+  store64(frame + 80, 0);
+  store64(frame + 72, CONSTANT(0));
+  store64(frame + 64, 0);
+  store64(frame + 104, 0);
   store64(frame + 112, 0);
   store64(frame + 120, 0);
   store64(frame + 128, 0);
-  store64(frame + 72, 0);
-  store64(frame + 80, 0);
-  store64(frame + 88, 0);
-  store64(frame + 96, 0);
-  store64(frame + 104, 0);
-  store64(frame + 192, 0);
-  store64(frame + 184, CONSTANT(0));
-  store64(frame + 176, 0);
-  store64(frame + 168, CONSTANT(0));
+  store64(frame + 136, 0);
+  store64(frame + 144, 0);
   store64(frame + 160, 0);
-  store64(frame + 200, 0);
-  store64(frame + 208, 0);
-  store64(frame + 216, 0);
+  store64(frame + 152, CONSTANT(0));
+  store64(frame + 168, 0);
+  store64(frame + 184, 0);
+  store64(frame + 176, CONSTANT(0));
+  store64(frame + 192, 0);
+  store64(frame + 232, CONSTANT(0));
   store64(frame + 224, 0);
-  store64(frame + 232, 0);
-  store64(frame + 240, 0);
-  store64(frame + 256, 0);
-  store64(frame + 248, CONSTANT(0));
-  store64(frame + 264, 0);
-  store64(frame + 280, 0);
-  store64(frame + 272, CONSTANT(0));
+  store64(frame + 216, CONSTANT(0));
+  store64(frame + 208, 0);
+  store64(frame + 200, CONSTANT(0));
+  store64(frame + 296, 0);
   store64(frame + 288, 0);
-  store64(frame + 328, CONSTANT(0));
-  store64(frame + 320, 0);
-  store64(frame + 312, CONSTANT(0));
-  store64(frame + 304, 0);
-  store64(frame + 296, CONSTANT(0));
-  store64(frame + 392, 0);
-  store64(frame + 384, 0);
-  store64(frame + 376, 0);
-  store64(frame + 368, 0);
-  store64(frame + 360, 0);
-  store64(frame + 352, 0);
-  store64(frame + 344, 0);
-  store64(frame + 336, 0);
-  store64(frame + 400, CONSTANT(0));
-  fill(frame + 408, 0, 96);
-  store64(frame + 512, 0);
-  store64(frame + 504, CONSTANT(0));
-  store64(frame + 520, 0);
-  store64(frame + 528, 0);
-  store64(frame + 536, 0);
-  store64(frame + 544, 0);
-  store64(frame + 552, 0);
-  store64(frame + 560, 0);
-  store64(frame + 568, 0);
-  store64(frame + 584, 0);
-  store64(frame + 576, CONSTANT(0));
+  store64(frame + 280, 0);
+  store64(frame + 272, 0);
+  store64(frame + 264, 0);
+  store64(frame + 256, 0);
+  store64(frame + 248, 0);
+  store64(frame + 240, 0);
+  store64(frame + 304, CONSTANT(0));
+  fill(frame + 312, 0, 96);
+  store64(frame + 416, 0);
+  store64(frame + 408, CONSTANT(0));
+  store64(frame + 424, 0);
+  store64(frame + 432, 0);
+  store64(frame + 440, 0);
+  store64(frame + 448, 0);
+  store64(frame + 456, 0);
+  store64(frame + 464, 0);
+  store64(frame + 472, 0);
+  store64(frame + 488, 0);
+  store64(frame + 480, CONSTANT(0));
   if (bytes_len == 0)
     goto after_1;
   bytes = bytes + ((bytes == 0) ? 4096ull : 0ull);
@@ -25813,10 +26156,10 @@ after_4:;
   bytes = v4;
   if (v6 < bytes)
     goto after_1;
-  store64(frame + 608, 0);
-  store64(frame + 630, 0);
-  store64(frame + 624, 0);
-  store64(frame + 616, 0);
+  store64(frame + 512, 0);
+  store64(frame + 534, 0);
+  store64(frame + 528, 0);
+  store64(frame + 520, 0);
   v8 = 0;
   if (v4 == 0u)
     goto after_7;
@@ -25869,43 +26212,43 @@ after_9:;
   v5 = v4;
   if (v9 < v5)
     goto after_7;
-  store64(frame + 1088, 0);
-  store64(frame + 672, 0);
-  store64(frame + 664, CONSTANT(0));
-  store64(frame + 656, 0);
-  store64(frame + 648, CONSTANT(0));
+  store64(frame + 904, 0);
+  store64(frame + 576, 0);
+  store64(frame + 568, CONSTANT(0));
+  store64(frame + 560, 0);
+  store64(frame + 552, CONSTANT(0));
+  store64(frame + 544, 0);
+  store64(frame + 584, 0);
+  store64(frame + 592, 0);
+  store64(frame + 600, 0);
+  store64(frame + 608, 0);
+  store64(frame + 616, 0);
+  store64(frame + 624, 0);
   store64(frame + 640, 0);
-  store64(frame + 680, 0);
+  store64(frame + 632, CONSTANT(0));
+  store64(frame + 648, 0);
+  store64(frame + 896, v5);
+  store64(frame + 504, v9 - v5);
+  store64(frame + 888, v7);
+  store64(frame + 496, v7 + v5);
+  store64(frame + 664, 0);
+  store64(frame + 656, CONSTANT(0));
+  store64(frame + 672, 0);
+  store64(frame + 680, CONSTANT(0));
   store64(frame + 688, 0);
-  store64(frame + 696, 0);
+  store64(frame + 696, CONSTANT(0));
   store64(frame + 704, 0);
-  store64(frame + 712, 0);
+  store64(frame + 712, CONSTANT(0));
   store64(frame + 720, 0);
+  store64(frame + 728, 0);
   store64(frame + 736, 0);
-  store64(frame + 728, CONSTANT(0));
   store64(frame + 744, 0);
-  store64(frame + 1080, v5);
-  store64(frame + 600, v9 - v5);
-  store64(frame + 1072, v7);
-  store64(frame + 592, v7 + v5);
+  store64(frame + 752, 0);
   store64(frame + 760, 0);
-  store64(frame + 752, CONSTANT(0));
   store64(frame + 768, 0);
-  store64(frame + 776, CONSTANT(0));
-  store64(frame + 784, 0);
-  store64(frame + 792, CONSTANT(0));
-  store64(frame + 800, 0);
-  store64(frame + 808, CONSTANT(0));
-  store64(frame + 816, 0);
-  store64(frame + 824, 0);
-  store64(frame + 832, 0);
-  store64(frame + 840, 0);
-  store64(frame + 848, 0);
-  store64(frame + 856, 0);
-  store64(frame + 864, 0);
-  store64(frame + 872, 0);
-  store64(frame + 880, CONSTANT(0));
-  fill(frame + 888, 0, 96);
+  store64(frame + 776, 0);
+  store64(frame + 784, CONSTANT(0));
+  fill(frame + 792, 0, 96);
   if (v4 == 0u)
     goto after_12;
   if (load8(v7) != 160u)
@@ -25960,9 +26303,9 @@ after_14:;
   goto after_7;
 after_17:;
   v5 = v5 - v10;
-  store64(frame + 1080, v5);
+  store64(frame + 896, v5);
   v7 = v9 + v10;
-  store64(frame + 1072, v7);
+  store64(frame + 888, v7);
   if (v4)
     goto after_18;
   v8 = 0;
@@ -26035,11 +26378,11 @@ after_23:;
 after_24:;
   if (v10 != v9)
     goto after_25;
-  store8(frame + 641, (uint8_t)v4);
-  store8(frame + 640, 1);
+  store8(frame + 545, (uint8_t)v4);
+  store8(frame + 544, 1);
   goto after_26;
 after_12:;
-  store16(frame + 640, 0);
+  store16(frame + 544, 0);
 after_26:;
   v8 = 0;
   if (v5 == 0)
@@ -26093,8 +26436,8 @@ after_28:;
   v7 = v4;
   if (v5 < v7)
     goto after_7;
-  store64(frame + 1080, v5 - v7);
-  store64(frame + 1072, v9 + v7);
+  store64(frame + 896, v5 - v7);
+  store64(frame + 888, v9 + v7);
   v8 = 4;
   switch (v4) {
   case 1:
@@ -26121,30 +26464,30 @@ after_33:;
   v8 = 4;
   goto after_7;
 after_31:;
-  store64(frame + 656, v7);
-  store64(frame + 648, v9);
-  v5 = frame + 664;
-  pkix_algorithm_AlgorithmIdentifierReadInPlace_read_in_place(frame + 64, v5, frame + 1072);
-  if (((uint32_t)load8(frame + 64) & 0xffu) == 0u)
+  store64(frame + 560, v7);
+  store64(frame + 552, v9);
+  v5 = frame + 568;
+  pkix_algorithm_AlgorithmIdentifierReadInPlace_read_in_place(frame + 56, v5, frame + 888);
+  if (((uint32_t)load8(frame + 56) & 0xffu) == 0u)
     goto after_34;
-  v8 = load8(frame + 65);
+  v8 = load8(frame + 57);
   goto after_7;
 after_34:;
-  v7 = frame + 728;
-  pkix_in_place_RequiredReadInPlace_read_in_place(frame + 56, v7, frame + 1072);
-  if (load8(frame + 56) == 0u)
+  v7 = frame + 632;
+  pkix_in_place_RequiredReadInPlace_read_in_place(frame + 48, v7, frame + 888);
+  if (load8(frame + 48) == 0u)
     goto after_35;
-  v8 = load8(frame + 57);
+  v8 = load8(frame + 49);
   goto after_7;
 after_35:;
   v8 = 7;
-  if (load8(frame + 1088))
+  if (load8(frame + 904))
     goto after_7;
   v8 = 0;
-  v9 = load64(frame + 1080);
+  v9 = load64(frame + 896);
   if (v9 == 0)
     goto after_7;
-  v10 = load64(frame + 1072);
+  v10 = load64(frame + 888);
   if (load8(v10) == 48u)
     goto after_36;
   v8 = 1;
@@ -26194,62 +26537,62 @@ after_37:;
   v10 = v4;
   if (v9 < v10)
     goto after_7;
-  store64(frame + 1128, 0);
-  store64(frame + 1000, 0);
-  store64(frame + 992, CONSTANT(0));
-  store64(frame + 984, 0);
-  store64(frame + 1008, 0);
-  store64(frame + 1024, 0);
-  store64(frame + 1016, CONSTANT(0));
-  store64(frame + 1120, v10);
-  store64(frame + 1080, v9 - v10);
-  store64(frame + 1112, v12);
-  store64(frame + 1072, v12 + v10);
-  pkix_in_place_ChoiceReadInPlace_read_in_place(frame + 48, frame + 984, frame + 1112);
-  if (load8(frame + 48) == 0u)
+  store64(frame + 1016, 0);
+  store64(frame + 928, 0);
+  store64(frame + 920, CONSTANT(0));
+  store64(frame + 912, 0);
+  store64(frame + 936, 0);
+  store64(frame + 952, 0);
+  store64(frame + 944, CONSTANT(0));
+  store64(frame + 1008, v10);
+  store64(frame + 896, v9 - v10);
+  store64(frame + 1000, v12);
+  store64(frame + 888, v12 + v10);
+  pkix_in_place_ChoiceReadInPlace_read_in_place(frame + 40, frame + 912, frame + 1000);
+  if (load8(frame + 40) == 0u)
     goto after_40;
-  v8 = load8(frame + 49);
+  v8 = load8(frame + 41);
   goto after_7;
 after_40:;
-  pkix_in_place_ChoiceReadInPlace_read_in_place(frame + 40, frame + 1008, frame + 1112);
-  if (load8(frame + 40) == 0u)
+  pkix_in_place_ChoiceReadInPlace_read_in_place(frame + 32, frame + 936, frame + 1000);
+  if (load8(frame + 32) == 0u)
     goto after_41;
-  v8 = load8(frame + 41);
+  v8 = load8(frame + 33);
   goto after_7;
 after_41:;
   v8 = 7;
-  if (load8(frame + 1128))
+  if (load8(frame + 1016))
     goto after_7;
-  if (load64(frame + 1120) == 0)
+  if (load64(frame + 1008) == 0)
     goto after_42;
   v8 = 3;
   goto after_7;
 after_42:;
-  v9 = frame + 752;
-  v10 = frame + 992;
+  v9 = frame + 656;
+  v10 = frame + 920;
   store64(v9, load64(v10));
   store64(v9 + 8, load64(v10 + 8));
-  v10 = frame + 776;
-  v12 = frame + 1016;
+  v10 = frame + 680;
+  v12 = frame + 944;
   store64(v10, load64(v12));
   store64(v10 + 8, load64(v12 + 8));
-  store64(frame + 744, load8(frame + 984));
-  store64(frame + 768, load8(frame + 1008));
-  v12 = frame + 792;
-  pkix_in_place_RequiredReadInPlace_read_in_place(frame + 32, v12, frame + 1072);
-  if (((uint32_t)load8(frame + 32) & 0xffu) == 0u)
+  store64(frame + 648, load8(frame + 912));
+  store64(frame + 672, load8(frame + 936));
+  v12 = frame + 696;
+  pkix_in_place_RequiredReadInPlace_read_in_place(frame + 24, v12, frame + 888);
+  if (((uint32_t)load8(frame + 24) & 0xffu) == 0u)
     goto after_43;
-  v8 = load8(frame + 33);
+  v8 = load8(frame + 25);
   goto after_7;
 after_43:;
   v8 = 7;
-  if (load8(frame + 1088))
+  if (load8(frame + 904))
     goto after_7;
   v8 = 0;
-  v13 = load64(frame + 1080);
+  v13 = load64(frame + 896);
   if (v13 == 0)
     goto after_7;
-  v14 = load64(frame + 1072);
+  v14 = load64(frame + 888);
   if (load8(v14) == 48u)
     goto after_44;
   v8 = 1;
@@ -26299,64 +26642,64 @@ after_45:;
   v14 = v4;
   if (v13 < v14)
     goto after_7;
-  store64(frame + 1128, 0);
+  store64(frame + 1016, 0);
+  store64(frame + 920, 0);
+  store64(frame + 912, CONSTANT(0));
+  store64(frame + 928, 0);
+  store64(frame + 936, 0);
+  store64(frame + 944, 0);
+  store64(frame + 952, 0);
+  store64(frame + 960, 0);
+  store64(frame + 968, 0);
+  store64(frame + 976, 0);
   store64(frame + 992, 0);
   store64(frame + 984, CONSTANT(0));
-  store64(frame + 1000, 0);
-  store64(frame + 1008, 0);
-  store64(frame + 1016, 0);
-  store64(frame + 1024, 0);
-  store64(frame + 1032, 0);
-  store64(frame + 1040, 0);
-  store64(frame + 1048, 0);
-  store64(frame + 1064, 0);
-  store64(frame + 1056, CONSTANT(0));
-  store64(frame + 1120, v14);
-  store64(frame + 1080, v13 - v14);
-  store64(frame + 1112, v15);
-  store64(frame + 1072, v15 + v14);
-  pkix_in_place_Tuple2ReadInPlace_read_in_place(frame + 24, frame + 984, frame + 1112);
-  if (load8(frame + 24) == 0u)
+  store64(frame + 1008, v14);
+  store64(frame + 896, v13 - v14);
+  store64(frame + 1000, v15);
+  store64(frame + 888, v15 + v14);
+  pkix_in_place_Tuple2ReadInPlace_read_in_place(frame + 16, frame + 912, frame + 1000);
+  if (load8(frame + 16) == 0u)
     goto after_48;
-  v8 = load8(frame + 25);
+  v8 = load8(frame + 17);
   goto after_7;
 after_48:;
   v8 = 7;
-  if (load8(frame + 1128))
+  if (load8(frame + 1016))
     goto after_7;
-  if (load64(frame + 1120) == 0)
+  if (load64(frame + 1008) == 0)
     goto after_49;
   v8 = 3;
   goto after_7;
 after_49:;
-  v14 = frame + 808;
-  store64(v14, load64(frame + 984));
-  store64(v14 + 8, load64(frame + 992));
-  store64(frame + 824, load8(frame + 1000));
-  v13 = frame + 1008;
-  store64(frame + 832, load64(v13));
-  store64(frame + 840, load64(v13 + 8));
-  store64(frame + 848, load64(v13 + 16));
-  store64(frame + 856, load64(v13 + 24));
-  store64(frame + 864, load64(v13 + 32));
-  v13 = frame + 1048;
-  store64(frame + 872, load64(v13));
-  store64(frame + 880, load64(v13 + 8));
-  store64(frame + 888, load64(v13 + 16));
-  pkix_in_place_OptionalReadInPlace_read_in_place(frame + 16, frame + 896, frame + 1072);
-  if (load8(frame + 16) == 0u)
+  v14 = frame + 712;
+  store64(v14, load64(frame + 912));
+  store64(v14 + 8, load64(frame + 920));
+  store64(frame + 728, load8(frame + 928));
+  v13 = frame + 936;
+  store64(frame + 736, load64(v13));
+  store64(frame + 744, load64(v13 + 8));
+  store64(frame + 752, load64(v13 + 16));
+  store64(frame + 760, load64(v13 + 24));
+  store64(frame + 768, load64(v13 + 32));
+  v13 = frame + 976;
+  store64(frame + 776, load64(v13));
+  store64(frame + 784, load64(v13 + 8));
+  store64(frame + 792, load64(v13 + 16));
+  pkix_in_place_OptionalReadInPlace_read_in_place(frame + 8, frame + 800, frame + 888);
+  if (load8(frame + 8) == 0u)
     goto after_50;
-  v8 = load8(frame + 17);
+  v8 = load8(frame + 9);
   goto after_7;
 after_50:;
-  v13 = frame + 928;
-  v4 = load8(frame + 1088);
+  v13 = frame + 832;
+  v4 = load8(frame + 904);
   if (v4)
     goto after_51;
-  v15 = load64(frame + 1080);
+  v15 = load64(frame + 896);
   if (v15 == 0)
     goto after_52;
-  v16 = load64(frame + 1072);
+  v16 = load64(frame + 888);
   if (load8(v16) != 130u)
     goto after_52;
   if (v15 != 1)
@@ -26407,9 +26750,9 @@ after_54:;
   if (v13 < v16)
     goto after_7;
   v15 = v13 - v16;
-  store64(frame + 1080, v15);
+  store64(frame + 896, v15);
   v13 = v17 + v16;
-  store64(frame + 1072, v13);
+  store64(frame + 888, v13);
   if (v11)
     goto after_57;
   v8 = 4;
@@ -26441,27 +26784,27 @@ after_52:;
   store64(v13 + 16, 0);
   store64(v13 + 8, 0);
   store64(v13, 0);
-  v13 = frame + 960;
+  v13 = frame + 864;
   goto after_61;
 after_51:;
   store64(v13 + 24, 0);
   store64(v13 + 16, 0);
   store64(v13 + 8, 0);
   store64(v13, 0);
-  v13 = frame + 960;
+  v13 = frame + 864;
   goto after_62;
 after_59:;
-  store32(frame + 937, 0);
-  store8(frame + 936, (uint8_t)v8);
-  store64(frame + 928, 1);
-  store32(frame + 940, 0);
-  store64(frame + 952, v16);
-  store64(frame + 944, v17 + 1);
-  v13 = frame + 960;
+  store32(frame + 841, 0);
+  store8(frame + 840, (uint8_t)v8);
+  store64(frame + 832, 1);
+  store32(frame + 844, 0);
+  store64(frame + 856, v16);
+  store64(frame + 848, v17 + 1);
+  v13 = frame + 864;
 after_61:;
   if (v15 == 0)
     goto after_62;
-  v16 = load64(frame + 1072);
+  v16 = load64(frame + 888);
   if (load8(v16) == 163u)
     goto after_63;
 after_62:;
@@ -26519,8 +26862,8 @@ after_66:;
   v8 = 0;
   goto after_7;
 after_69:;
-  store64(frame + 1080, v13 - v15);
-  store64(frame + 1072, v17 + v15);
+  store64(frame + 896, v13 - v15);
+  store64(frame + 888, v17 + v15);
   if (v11)
     goto after_70;
   v8 = 0;
@@ -26840,104 +27183,104 @@ after_97:;
 after_76:;
   if (v20 != v21)
     goto after_25;
-  store64(frame + 976, v20);
-  store64(frame + 968, v19);
-  store64(frame + 960, 1);
+  store64(frame + 880, v20);
+  store64(frame + 872, v19);
+  store64(frame + 864, 1);
 after_64:;
   if (v4 == 0u)
     goto after_101;
   v8 = 7;
   goto after_7;
 after_101:;
-  if (load64(frame + 1080) == 0)
+  if (load64(frame + 896) == 0)
     goto after_102;
 after_25:;
   v8 = 3;
   goto after_7;
 after_102:;
-  v13 = load8(frame + 960);
-  v15 = load8(frame + 928);
-  v16 = load8(frame + 896);
-  v17 = load8(frame + 824);
-  v20 = load8(frame + 768);
-  v22 = load8(frame + 744);
-  v19 = load8(frame + 680);
-  v4 = load16(frame + 640);
-  store16(frame + 988, 0);
-  store32(frame + 984, 0);
-  v23 = frame + 648;
-  store64(frame + 990, load64(v23));
+  v13 = load8(frame + 864);
+  v15 = load8(frame + 832);
+  v16 = load8(frame + 800);
+  v17 = load8(frame + 728);
+  v20 = load8(frame + 672);
+  v22 = load8(frame + 648);
+  v19 = load8(frame + 584);
+  v4 = load16(frame + 544);
+  store16(frame + 916, 0);
+  store32(frame + 912, 0);
+  v23 = frame + 552;
+  store64(frame + 918, load64(v23));
   v23 = load64(v23 + 8);
-  store64(frame + 998, v23);
-  store64(frame + 630, v23);
-  store64(frame + 616, load64(frame + 984));
-  store64(frame + 624, load64(frame + 992));
-  v23 = frame + 184;
+  store64(frame + 926, v23);
+  store64(frame + 534, v23);
+  store64(frame + 520, load64(frame + 912));
+  store64(frame + 528, load64(frame + 920));
+  v23 = frame + 88;
   store64(v23, load64(v5));
   store64(v23 + 8, load64(v5 + 8));
-  store16(frame + 160, (uint16_t)v4);
-  store64(frame + 176, load64(frame + 630));
-  store64(frame + 170, load64(frame + 624));
-  store64(frame + 162, load64(frame + 616));
-  store64(frame + 200, v19);
-  store64(frame + 240, load64(frame + 720));
-  store64(frame + 232, load64(frame + 712));
-  store64(frame + 224, load64(frame + 704));
-  store64(frame + 216, load64(frame + 696));
-  store64(frame + 208, load64(frame + 688));
-  v5 = frame + 248;
+  store16(frame + 64, (uint16_t)v4);
+  store64(frame + 80, load64(frame + 534));
+  store64(frame + 74, load64(frame + 528));
+  store64(frame + 66, load64(frame + 520));
+  store64(frame + 104, v19);
+  store64(frame + 144, load64(frame + 624));
+  store64(frame + 136, load64(frame + 616));
+  store64(frame + 128, load64(frame + 608));
+  store64(frame + 120, load64(frame + 600));
+  store64(frame + 112, load64(frame + 592));
+  v5 = frame + 152;
   store64(v5 + 8, load64(v7 + 8));
   store64(v5, load64(v7));
-  store64(frame + 264, v22);
-  v5 = frame + 272;
+  store64(frame + 168, v22);
+  v5 = frame + 176;
   store64(v5 + 8, load64(v9 + 8));
   store64(v5, load64(v9));
-  store64(frame + 288, v20);
-  v5 = frame + 296;
+  store64(frame + 192, v20);
+  v5 = frame + 200;
   store64(v5 + 8, load64(v10 + 8));
   store64(v5, load64(v10));
-  v5 = frame + 312;
+  v5 = frame + 216;
   store64(v5 + 8, load64(v12 + 8));
   store64(v5, load64(v12));
-  v5 = frame + 328;
+  v5 = frame + 232;
   store64(v5 + 8, load64(v14 + 8));
   store64(v5, load64(v14));
-  store64(frame + 344, v17);
-  v5 = frame + 832;
-  store64(frame + 384, load64(v5 + 32));
-  store64(frame + 376, load64(v5 + 24));
-  store64(frame + 368, load64(v5 + 16));
-  store64(frame + 360, load64(v5 + 8));
-  store64(frame + 352, load64(v5));
-  v5 = frame + 872;
-  store64(frame + 408, load64(v5 + 16));
-  store64(frame + 400, load64(v5 + 8));
-  store64(frame + 392, load64(v5));
-  store64(frame + 416, v16);
-  store64(frame + 440, load64(frame + 920));
-  store64(frame + 432, load64(frame + 912));
-  store64(frame + 424, load64(frame + 904));
-  store64(frame + 448, v15);
-  store64(frame + 472, load64(frame + 952));
-  store64(frame + 464, load64(frame + 944));
-  store64(frame + 456, load64(frame + 936));
-  store64(frame + 480, v13);
-  store64(frame + 496, load64(frame + 976));
-  store64(frame + 488, load64(frame + 968));
-  pkix_in_place_Tuple2ReadInPlace_read_in_place(frame + 8, frame + 504, frame + 592);
-  if (load8(frame + 8) == 0u)
+  store64(frame + 248, v17);
+  v5 = frame + 736;
+  store64(frame + 288, load64(v5 + 32));
+  store64(frame + 280, load64(v5 + 24));
+  store64(frame + 272, load64(v5 + 16));
+  store64(frame + 264, load64(v5 + 8));
+  store64(frame + 256, load64(v5));
+  v5 = frame + 776;
+  store64(frame + 312, load64(v5 + 16));
+  store64(frame + 304, load64(v5 + 8));
+  store64(frame + 296, load64(v5));
+  store64(frame + 320, v16);
+  store64(frame + 344, load64(frame + 824));
+  store64(frame + 336, load64(frame + 816));
+  store64(frame + 328, load64(frame + 808));
+  store64(frame + 352, v15);
+  store64(frame + 376, load64(frame + 856));
+  store64(frame + 368, load64(frame + 848));
+  store64(frame + 360, load64(frame + 840));
+  store64(frame + 384, v13);
+  store64(frame + 400, load64(frame + 880));
+  store64(frame + 392, load64(frame + 872));
+  pkix_in_place_Tuple2ReadInPlace_read_in_place(frame, frame + 408, frame + 496);
+  if (load8(frame) == 0u)
     goto after_103;
-  v8 = load8(frame + 9);
+  v8 = load8(frame + 1);
 after_7:;
   v4 = load32(CONSTANT(10928) + (((uint64_t)v8 & 0xff) << 2));
   goto after_3;
 after_103:;
-  if (load8(frame + 608) == 0u)
+  if (load8(frame + 512) == 0u)
     goto after_104;
   v4 = 13;
   goto after_3;
 after_104:;
-  if (load64(frame + 600) == 0)
+  if (load64(frame + 504) == 0)
     goto after_105;
   v4 = 4;
   goto after_3;
@@ -26947,481 +27290,261 @@ after_105:;
   v4 = 4;
   goto after_3;
 after_106:;
-  store64(frame + 136, load64(frame + 345));
-  store64(frame + 144, load64(frame + 353));
-  store64(frame + 151, load64(frame + 360));
-  store64(frame + 112, load64(frame + 368));
-  store64(frame + 120, load64(frame + 376));
-  store64(frame + 128, load64(frame + 384));
-  v14 = load64(frame + 336);
-  v6 = load64(frame + 584);
-  v5 = load64(frame + 576);
-  v7 = load64(frame + 568);
-  v12 = load64(frame + 512);
-  v13 = load64(frame + 504);
-  v15 = load64(frame + 400);
-  v16 = load64(frame + 328);
-  bytes = load8(frame + 520);
-  v11 = load8(frame + 344);
-  store64(frame + 72, load64(frame + 528));
-  store64(frame + 80, load64(frame + 536));
-  store64(frame + 88, load64(frame + 544));
-  store64(frame + 96, load64(frame + 552));
-  store64(frame + 104, load64(frame + 560));
-  v10 = load64(frame + 496);
-  v9 = load64(frame + 488);
-  v4 = load8(frame + 480);
-  v19 = load64(frame + 472);
-  v8 = load8(frame + 448);
-  v23 = load64(frame + 440);
-  v18 = load8(frame + 416);
-  v17 = load64(frame + 408);
-  v20 = load64(frame + 392);
-  store64(frame + 1104, 0);
-  store64(frame + 1096, 0);
-  store64(frame + 1088, 0);
-  store64(frame + 1080, 0);
-  store64(frame + 1072, 0);
-  store64(frame + 984, 0);
-  store64(frame + 992, 0);
-  store64(frame + 1000, 0);
-  store64(frame + 1008, 0);
-  store64(frame + 1016, 0);
-  if (bytes != 1)
+  v4 = load8(frame + 424);
+  v7 = load64(frame + 416);
+  v8 = (uint32_t)v7;
+  if (v8 >= 128u)
     goto after_107;
-  v22 = load64(frame + 80);
-  store64(frame + 168, v22);
-  v21 = load64(frame + 72);
-  store64(frame + 160, v21);
-  v24 = load64(frame + 88);
-  store64(frame + 176, v24);
-  v25 = load64(frame + 96);
-  store64(frame + 184, v25);
-  v26 = load64(frame + 104);
-  store64(frame + 192, v26);
-  store64(frame + 984, v21);
-  store64(frame + 992, v22);
-  store64(frame + 1000, v24);
-  store64(frame + 1008, v25);
-  store64(frame + 1016, v26);
+  v9 = 2;
+  goto after_108;
 after_107:;
-  store64(frame + 664, load64(frame + 984));
-  store64(frame + 672, load64(frame + 992));
-  store64(frame + 680, load64(frame + 1000));
-  store64(frame + 688, load64(frame + 1008));
-  store64(frame + 696, load64(frame + 1016));
-  store64(frame + 720, v6);
-  store64(frame + 712, v5);
-  store64(frame + 704, v7);
-  store64(frame + 656, bytes);
-  store64(frame + 648, v12);
-  store64(frame + 640, v13);
-  store64(frame + 984, 0);
-  store64(frame + 992, 0);
-  store64(frame + 1000, 0);
-  store64(frame + 1008, 0);
-  store64(frame + 1016, 0);
-  if ((v11 & 0xffu) != 1u)
-    goto after_108;
-  bytes = load64(frame + 151);
-  store64(frame + 168, bytes);
-  v6 = load64(frame + 143);
-  store64(frame + 160, v6);
-  v5 = load64(frame + 112);
-  store64(frame + 176, v5);
-  v7 = load64(frame + 120);
-  store64(frame + 184, v7);
-  v12 = load64(frame + 128);
-  store64(frame + 192, v12);
-  store64(frame + 984, v6);
-  store64(frame + 992, bytes);
-  store64(frame + 1000, v5);
-  store64(frame + 1008, v7);
-  store64(frame + 1016, v12);
-after_108:;
-  store64(frame + 1072, load64(frame + 984));
-  store64(frame + 1080, load64(frame + 992));
-  store64(frame + 1088, load64(frame + 1000));
-  store64(frame + 1096, load64(frame + 1008));
-  store64(frame + 1104, load64(frame + 1016));
-  bytes = 0;
-  store64(frame + 160, 0);
-  sec1_der_part_Tuple2EncodePart_part_len_2(frame + 160, frame + 640);
-  if (load8(frame + 160))
+  if (v8 >= 256u)
     goto after_109;
-  v22 = load32(frame + 164);
-  if ((v18 & 0xffu) != 1u)
+  v9 = 3;
+  goto after_108;
+after_109:;
+  if (v8 >= 0x10000u)
     goto after_110;
-  bytes = v23 + 1;
-  if (bytes > 0xfffffff)
-    goto after_109;
-  if (bytes >= 128)
-    goto after_111;
-  v6 = 2;
-  goto after_112;
-after_111:;
-  if (bytes >= 256)
-    goto after_113;
-  v6 = 3;
-  goto after_112;
-after_113:;
-  if (bytes >= 0x10000)
-    goto after_114;
-  v6 = 4;
-  goto after_112;
-after_114:;
-  v6 = (bytes < 0x1000000) ? 5ull : 6ull;
-after_112:;
-  bytes = v6 + bytes;
-  if (bytes > 0xfffffff)
-    goto after_109;
+  v9 = 4;
+  goto after_108;
 after_110:;
-  v6 = 0;
-  if ((v8 & 0xffu) != 1u)
-    goto after_115;
-  v6 = v19 + 1;
-  if (v6 > 0xfffffff)
-    goto after_109;
-  if (v6 >= 128)
-    goto after_116;
-  v5 = 2;
-  goto after_117;
-after_116:;
-  if (v6 >= 256)
-    goto after_118;
-  v5 = 3;
-  goto after_117;
-after_118:;
-  if (v6 >= 0x10000)
-    goto after_119;
-  v5 = 4;
-  goto after_117;
-after_119:;
-  v5 = (v6 < 0x1000000) ? 5ull : 6ull;
-after_117:;
-  v6 = v5 + v6;
-  if (v6 > 0xfffffff)
-    goto after_109;
-after_115:;
-  v19 = v6 + bytes;
-  if (v19 > 0xfffffff)
-    goto after_109;
-  bytes = 0;
+  v9 = (v8 < 0x1000000u) ? 5ull : 6ull;
+after_108:;
+  v10 = load64(frame + 400);
+  v8 = load8(frame + 384);
+  v14 = load64(frame + 376);
+  v11 = load8(frame + 352);
+  v15 = load64(frame + 344);
+  v18 = load8(frame + 320);
+  v12 = load64(frame + 312);
+  v16 = load64(frame + 264);
+  v24 = load8(frame + 248);
+  bytes = load64(frame + 240);
+  v6 = load64(frame + 488);
+  v5 = 0;
   if ((v4 & 0xffu) != 1u)
-    goto after_120;
-  v13 = ((v4 & 0xffu) == 1u) ? v10 : 0ull;
-again_133:;
-  if (v10 == 0)
-    goto after_121;
-  if (v10 == 1)
-    goto after_109;
-  if (((uint32_t)load8(v9) & 0xffu) != 48u)
-    goto after_109;
-  v5 = v9 + 2;
-  v7 = v10 + 0xfffffffffffffffe;
-  v4 = (uint32_t)(int8_t)(uint32_t)load8(v9 + 1);
-  if ((int32_t)v4 >= 0)
-    goto after_122;
-  if (((v4 + 123u) & 0xffu) < 252u)
-    goto after_109;
-  bytes = (uint64_t)(int32_t)v4 + 128;
-  if (v7 < bytes)
-    goto after_109;
-  v4 = load8(v5);
-  v8 = 0;
-  if (bytes == 1)
-    goto after_123;
-  v8 = v4 << 8;
-  v4 = v8 | (uint32_t)load8(v9 + 3);
-  if (bytes == 2)
-    goto after_123;
-  v8 = v4 << 8;
-  v4 = v8 | (uint32_t)load8(v9 + 4);
-  if (bytes == 3)
-    goto after_123;
-  v8 = v4 << 8;
-  v4 = v8 | (uint32_t)load8(v9 + 5);
-after_123:;
-  if (v4 < 128u)
-    goto after_109;
-  if (((uint32_t)load8(v5) & 0xffu) == 0u)
-    goto after_109;
-  if (v8 > 0xfffffffu)
-    goto after_109;
-  v5 = v5 + bytes;
-  v7 = v7 - bytes;
-after_122:;
-  v9 = v4;
-  if (v7 < v9)
-    goto after_109;
-  if (v4 == 0u)
-    goto after_109;
-  if (v4 == 1u)
-    goto after_109;
-  if (((uint32_t)load8(v5) & 0xffu) != 6u)
-    goto after_109;
-  bytes = v5 + 2;
-  v12 = v9 + 0xfffffffffffffffe;
-  v4 = (uint32_t)(int8_t)(uint32_t)load8(v5 + 1);
-  if ((int32_t)v4 >= 0)
-    goto after_124;
-  if (((v4 + 123u) & 0xffu) < 252u)
-    goto after_109;
-  v6 = (uint64_t)(int32_t)v4 + 128;
-  if (v12 < v6)
-    goto after_109;
-  v4 = load8(bytes);
-  v8 = 0;
-  if (v6 == 1)
-    goto after_125;
-  v8 = v4 << 8;
-  v4 = v8 | (uint32_t)load8(v5 + 3);
-  if (v6 == 2)
-    goto after_125;
-  v8 = v4 << 8;
-  v4 = v8 | (uint32_t)load8(v5 + 4);
-  if (v6 == 3)
-    goto after_125;
-  v8 = v4 << 8;
-  v4 = v8 | (uint32_t)load8(v5 + 5);
-after_125:;
-  if (v4 < 128u)
-    goto after_109;
-  if (((uint32_t)load8(bytes) & 0xffu) == 0u)
-    goto after_109;
-  if (v8 > 0xfffffffu)
-    goto after_109;
-  bytes = bytes + v6;
-  v12 = v12 - v6;
-after_124:;
-  v6 = v4;
-  if (v12 < v6)
-    goto after_109;
-  if (v4 == 0u)
-    goto after_109;
-  v10 = v7 - v9;
-  v9 = v5 + v9;
-  v5 = v12 - v6;
-  v7 = bytes + v6;
-  v8 = 1;
-again_127:;
-  v4 = (uint32_t)(int8_t)(uint32_t)load8(bytes);
-  if ((v8 & 1u) == 0u)
-    goto after_126;
-  if (v4 == 0xffffff80u)
-    goto after_109;
-after_126:;
-  bytes = bytes + 1;
-  v8 = (uint32_t)((int32_t)v4 > -1);
-  v6 = v6 + 0xffffffffffffffff;
-  if (v6 != 0)
-    goto again_127;
-  if ((int32_t)v4 < 0)
-    goto after_109;
-  if (v5 == 0)
-    goto after_109;
-  v4 = load8(v7);
-  if (v4 != 1u)
-    goto after_128;
-  if (v5 == 1)
-    goto after_109;
-  bytes = v7 + 2;
-  v6 = v5 + 0xfffffffffffffffe;
-  v4 = (uint32_t)(int8_t)(uint32_t)load8(v7 + 1);
-  if ((int32_t)v4 >= 0)
-    goto after_129;
-  if (((v4 + 123u) & 0xffu) < 252u)
-    goto after_109;
-  v5 = (uint64_t)(int32_t)v4 + 128;
-  if (v6 < v5)
-    goto after_109;
-  v4 = load8(bytes);
-  v8 = 0;
-  if (v5 == 1)
-    goto after_130;
-  v8 = v4 << 8;
-  v4 = v8 | (uint32_t)load8(v7 + 3);
-  if (v5 == 2)
-    goto after_130;
-  v8 = v4 << 8;
-  v4 = v8 | (uint32_t)load8(v7 + 4);
-  if (v5 == 3)
-    goto after_130;
-  v8 = v4 << 8;
-  v4 = v8 | (uint32_t)load8(v7 + 5);
-after_130:;
-  if (v4 < 128u)
-    goto after_109;
-  if (((uint32_t)load8(bytes) & 0xffu) == 0u)
-    goto after_109;
-  if (v8 > 0xfffffffu)
-    goto after_109;
-  bytes = bytes + v5;
-  v6 = v6 - v5;
-after_129:;
-  v7 = v4;
-  if (v6 < v7)
-    goto after_109;
-  if (v4 != 1u)
-    goto after_109;
-  if (load8(bytes) != 255u)
-    goto after_109;
-  v5 = v6 - v7;
-  if (v5 == 0)
-    goto after_109;
-  v7 = bytes + v7;
-  v4 = load8(v7);
-after_128:;
-  if ((v4 & 0xffu) != 4u)
-    goto after_109;
-  if (v5 == 1)
-    goto after_109;
-  bytes = v5 + 0xfffffffffffffffe;
-  v4 = (uint32_t)(int8_t)(uint32_t)load8(v7 + 1);
-  if ((int32_t)v4 >= 0)
-    goto after_131;
-  if (((v4 + 123u) & 0xffu) < 252u)
-    goto after_109;
-  v6 = (uint64_t)(int32_t)v4 + 128;
-  if (bytes < v6)
-    goto after_109;
-  v5 = v7 + 2;
-  v4 = load8(v5);
-  v8 = 0;
-  if (v6 == 1)
-    goto after_132;
-  v8 = v4 << 8;
-  v4 = v8 | (uint32_t)load8(v7 + 3);
-  if (v6 == 2)
-    goto after_132;
-  v8 = v4 << 8;
-  v4 = v8 | (uint32_t)load8(v7 + 4);
-  if (v6 == 3)
-    goto after_132;
-  v8 = v4 << 8;
-  v4 = v8 | (uint32_t)load8(v7 + 5);
-after_132:;
-  if (v4 < 128u)
-    goto after_109;
-  if (((uint32_t)load8(v5) & 0xffu) == 0u)
-    goto after_109;
-  if (v8 > 0xfffffffu)
-    goto after_109;
-  bytes = bytes - v6;
-after_131:;
-  if (bytes == (uint64_t)v4)
-    goto again_133;
-  goto after_109;
-after_121:;
-  if (v13 > 0xfffffff)
-    goto after_109;
-  if (v13 >= 128)
-    goto after_134;
-  bytes = 2;
-  goto after_135;
-after_134:;
-  if (v13 >= 256)
-    goto after_136;
-  bytes = 3;
-  goto after_135;
-after_136:;
-  if (v13 >= 0x10000)
-    goto after_137;
-  bytes = 4;
-  goto after_135;
-after_137:;
-  bytes = (v13 < 0x1000000) ? 5ull : 6ull;
-after_135:;
-  bytes = bytes + v13;
-  if (bytes > 0xfffffff)
-    goto after_109;
-  if (bytes >= 128)
-    goto after_138;
-  v6 = 2;
-  goto after_139;
-after_138:;
-  if (bytes >= 256)
-    goto after_140;
-  v6 = 3;
-  goto after_139;
-after_140:;
-  if (bytes >= 0x10000)
-    goto after_141;
-  v6 = 4;
-  goto after_139;
-after_141:;
-  v6 = (bytes < 0x1000000) ? 5ull : 6ull;
-after_139:;
-  bytes = v6 + bytes;
-  if (bytes > 0xfffffff)
-    goto after_109;
-after_120:;
-  v6 = bytes + v19;
-  if (v6 >= 0x10000000)
-    goto after_109;
-  bytes = (uint64_t)v11 & 0xff;
-  store64(frame + 592, 0);
-  store64(frame + 1112, 0);
-  store64(frame + 1120, 0);
-  store64(frame + 1128, 0);
-  store64(frame + 1136, 0);
-  store64(frame + 1144, 0);
-  if ((v11 & 0xffu) != 1u)
-    goto after_142;
-  v5 = load64(frame + 1080);
-  store64(frame + 992, v5);
-  v7 = load64(frame + 1072);
-  store64(frame + 984, v7);
-  v9 = load64(frame + 1088);
-  store64(frame + 1000, v9);
-  v10 = load64(frame + 1096);
-  store64(frame + 1008, v10);
-  v12 = load64(frame + 1104);
-  store64(frame + 1016, v12);
-  store64(frame + 1112, v7);
-  store64(frame + 1120, v5);
-  store64(frame + 1128, v9);
-  store64(frame + 1136, v10);
-  store64(frame + 1144, v12);
-after_142:;
-  store64(frame + 176, bytes);
-  store64(frame + 168, v14);
-  store64(frame + 160, v16);
-  store64(frame + 184, load64(frame + 1112));
-  store64(frame + 192, load64(frame + 1120));
-  store64(frame + 200, load64(frame + 1128));
-  store64(frame + 208, load64(frame + 1136));
-  store64(frame + 216, load64(frame + 1144));
-  store64(frame + 240, v17);
-  store64(frame + 232, v15);
-  store64(frame + 224, v20);
-  sec1_der_part_Tuple2EncodePart_part_len_2(frame + 592, frame + 160);
-  if (load8(frame + 592))
-    goto after_109;
-  v4 = load32(frame + 596);
+    goto after_111;
+  v5 = load64(frame + 440);
+  if (v5 >= 0x10000000)
+    goto after_112;
+after_111:;
+  v13 = (v9 + v7) + v5;
+  v4 = (uint32_t)v13;
   if (v4 >= 128u)
-    goto after_143;
-  bytes = 2;
-  goto after_144;
-after_143:;
+    goto after_113;
+  v17 = 0xfffffffffffffffe;
+  goto after_114;
+after_113:;
   if (v4 >= 256u)
-    goto after_145;
-  bytes = 3;
-  goto after_144;
-after_145:;
+    goto after_115;
+  v17 = 0xfffffffffffffffd;
+  goto after_114;
+after_115:;
   if (v4 >= 0x10000u)
-    goto after_146;
-  bytes = 4;
-  goto after_144;
-after_146:;
-  bytes = (v4 < 0x1000000u) ? 5ull : 6ull;
+    goto after_116;
+  v17 = 0xfffffffffffffffc;
+  goto after_114;
+after_116:;
+  v17 = (v4 < 0x1000000u) ? 0xfffffffffffffffbull : 0xfffffffffffffffaull;
+after_114:;
+  v5 = v6 + 1;
+  if (v5 >= 0x10000000)
+    goto after_112;
+  if (v5 >= 128)
+    goto after_117;
+  v20 = 0xfffffffffffffffe;
+  goto after_118;
+after_117:;
+  if (v5 >= 256)
+    goto after_119;
+  v20 = 0xfffffffffffffffd;
+  goto after_118;
+after_119:;
+  if (v5 >= 0x10000)
+    goto after_120;
+  v20 = 0xfffffffffffffffc;
+  goto after_118;
+after_120:;
+  v20 = (v5 < 0x1000000) ? 0xfffffffffffffffbull : 0xfffffffffffffffaull;
+after_118:;
+  v5 = 0;
+  v7 = 0;
+  if ((v18 & 0xffu) != 1u)
+    goto after_121;
+  v7 = v15 + 1;
+  if (v7 >= 0x10000000)
+    goto after_112;
+  v9 = v15 ^ 0xffffffffffffffff;
+  if (v7 >= 128)
+    goto after_122;
+  v7 = 0xfffffffffffffffe;
+  goto after_123;
+after_122:;
+  if (v7 >= 256)
+    goto after_124;
+  v7 = 0xfffffffffffffffd;
+  goto after_123;
+after_124:;
+  if (v7 >= 0x10000)
+    goto after_125;
+  v7 = 0xfffffffffffffffc;
+  goto after_123;
+after_125:;
+  v7 = (v7 < 0x1000000) ? 0xfffffffffffffffbull : 0xfffffffffffffffaull;
+after_123:;
+  v7 = v7 + v9;
+after_121:;
+  if ((v11 & 0xffu) != 1u)
+    goto after_126;
+  v5 = v14 + 1;
+  if (v5 >= 0x10000000)
+    goto after_112;
+  v9 = v14 ^ 0xffffffffffffffff;
+  if (v5 >= 128)
+    goto after_127;
+  v5 = 0xfffffffffffffffe;
+  goto after_128;
+after_127:;
+  if (v5 >= 256)
+    goto after_129;
+  v5 = 0xfffffffffffffffd;
+  goto after_128;
+after_129:;
+  if (v5 >= 0x10000)
+    goto after_130;
+  v5 = 0xfffffffffffffffc;
+  goto after_128;
+after_130:;
+  v5 = (v5 < 0x1000000) ? 0xfffffffffffffffbull : 0xfffffffffffffffaull;
+after_128:;
+  v5 = v5 + v9;
+after_126:;
+  v9 = 0;
+  if ((v8 & 0xffu) != 1u)
+    goto after_131;
+  v4 = (uint32_t)v10;
+  if (v4 >= 128u)
+    goto after_132;
+  v9 = 2;
+  goto after_133;
+after_132:;
+  if (v4 >= 256u)
+    goto after_134;
+  v9 = 3;
+  goto after_133;
+after_134:;
+  if (v4 >= 0x10000u)
+    goto after_135;
+  v9 = 4;
+  goto after_133;
+after_135:;
+  v9 = (v4 < 0x1000000u) ? 5ull : 6ull;
+after_133:;
+  v9 = v9 + v10;
+  v4 = (uint32_t)v9;
+  if (v4 >= 128u)
+    goto after_136;
+  v10 = 0xfffffffffffffffe;
+  goto after_137;
+after_136:;
+  if (v4 >= 256u)
+    goto after_138;
+  v10 = 0xfffffffffffffffd;
+  goto after_137;
+after_138:;
+  if (v4 >= 0x10000u)
+    goto after_139;
+  v10 = 0xfffffffffffffffc;
+  goto after_137;
+after_139:;
+  v10 = (v4 < 0x1000000u) ? 0xfffffffffffffffbull : 0xfffffffffffffffaull;
+after_137:;
+  v9 = v10 - (v9 & 0xffffffff);
+after_131:;
+  v4 = (uint32_t)bytes;
+  if (v4 >= 128u)
+    goto after_140;
+  v14 = 2;
+  goto after_141;
+after_140:;
+  if (v4 >= 256u)
+    goto after_142;
+  v14 = 3;
+  goto after_141;
+after_142:;
+  if (v4 >= 0x10000u)
+    goto after_143;
+  v14 = 4;
+  goto after_141;
+after_143:;
+  v14 = (v4 < 0x1000000u) ? 5ull : 6ull;
+after_141:;
+  v10 = 0;
+  if ((v24 & 0xffu) != 1u)
+    goto after_144;
+  v10 = v16;
+  if (v16 >= 0x10000000)
+    goto after_112;
 after_144:;
-  bytes = bytes + (uint64_t)v4;
+  v14 = (v14 + bytes) + v10;
+  v4 = (uint32_t)v14;
+  if (v4 >= 128u)
+    goto after_145;
+  v15 = 2;
+  goto after_146;
+after_145:;
+  if (v4 >= 256u)
+    goto after_147;
+  v15 = 3;
+  goto after_146;
+after_147:;
+  if (v4 >= 0x10000u)
+    goto after_148;
+  v15 = 4;
+  goto after_146;
+after_148:;
+  v15 = (v4 < 0x1000000u) ? 5ull : 6ull;
+after_146:;
+  bytes = v12 + 1;
   if (bytes >= 0x10000000)
-    goto after_109;
+    goto after_112;
+  v10 = 2;
+  v12 = 2;
+  if (bytes < 128)
+    goto after_149;
+  if (bytes >= 256)
+    goto after_150;
+  v12 = 3;
+  goto after_149;
+after_150:;
+  if (bytes >= 0x10000)
+    goto after_151;
+  v12 = 4;
+  goto after_149;
+after_151:;
+  v12 = (bytes < 0x1000000) ? 5ull : 6ull;
+after_149:;
+  bytes = ((v14 + bytes) + v15) + v12;
+  v4 = (uint32_t)bytes;
+  if (v4 < 128u)
+    goto after_152;
+  if (v4 >= 256u)
+    goto after_153;
+  v10 = 3;
+  goto after_152;
+after_153:;
+  if (v4 >= 0x10000u)
+    goto after_154;
+  v10 = 4;
+  goto after_152;
+after_154:;
+  v10 = (v4 < 0x1000000u) ? 5ull : 6ull;
+after_152:;
   store64(part + 16, 1);
+  bytes = v10 + (bytes & 0xffffffff);
   store64(part + 8, bytes);
-  store64(part, bytes_len - ((v6 + v22) + bytes));
+  t1 = (((bytes_len + (v6 ^ 0xffffffffffffffff)) - (v13 & 0xffffffff)) + v17) + v20;
+  store64(part, (((t1 + v7) + v5) + v9) - bytes);
   v4 = 0;
   goto after_3;
 after_5:;
@@ -27431,7 +27554,7 @@ after_1:;
   v4 = 1;
 after_3:;
   return v4;
-after_109:;
+after_112:;
   trap();
 }
 
@@ -27707,54 +27830,48 @@ after_1:;
 static uint32_t export_sec1_private_key_info_read(uint64_t bytes, uint64_t bytes_len,
     uint64_t parts)
 {
-  FRAME(320)
-  uint32_t v4 = 0, v7 = 0, v11 = 0, v12 = 0, v14 = 0, t0;
-  uint64_t v5 = 0, v6 = 0, v8 = 0, v9 = 0, v10 = 0, v13 = 0, t1;
+  FRAME(272)
+  uint32_t v4 = 0, v6 = 0, v10 = 0, v11 = 0, v14 = 0, t0;
+  uint64_t v5 = 0, v7 = 0, v8 = 0, v9 = 0, v12 = 0, v13 = 0;
   v4 = 0;
-  fill(frame + 184, 0, 112);
-  fill(frame + 40, 0, 144);
+  fill(frame + 160, 0, 112);
+  fill(frame + 16, 0, 144);
   bytes = bytes + ((bytes == 0) ? 4096ull : 0ull);
-  pkix_private_key_PrivateKeyInfo_from_der(frame + 184, bytes, bytes_len);
-  if (load8(frame + 184))
+  pkix_private_key_PrivateKeyInfo_from_der(frame + 160, bytes, bytes_len);
+  if (load8(frame + 160))
     goto after_1;
-  store64(frame + 16, 0);
-  store64(frame + 24, 0);
-  store64(frame + 32, 0);
-  v5 = load64(frame + 288);
-  v6 = load64(frame + 280);
-  v7 = load8(frame + 272);
-  v8 = load64(frame + 264);
-  v9 = load64(frame + 248);
-  v10 = load64(frame + 240);
-  v11 = load8(frame + 232);
-  v12 = load8(frame + 208);
-  v13 = load64(frame + 200);
-  bytes = load64(frame + 192);
+  v5 = load32(frame + 264);
+  v6 = load8(frame + 248);
+  v7 = load64(frame + 240);
+  v8 = load64(frame + 224);
+  v9 = load64(frame + 216);
+  v10 = load8(frame + 208);
+  v11 = load8(frame + 184);
+  v12 = load64(frame + 176);
+  bytes = load64(frame + 168);
+  v13 = 1;
   goto after_2;
 after_1:;
-  v14 = load8(frame + 185);
+  v14 = load8(frame + 161);
   if (v14 != 4u)
     goto after_3;
-  pkix_private_key_OneAsymmetricKey_from_der(frame + 40, bytes, bytes_len);
-  store64(frame + 16, load64(frame + 160));
-  store64(frame + 24, load64(frame + 168));
-  store64(frame + 32, load64(frame + 176));
-  if (load8(frame + 40))
+  pkix_private_key_OneAsymmetricKey_from_der(frame + 16, bytes, bytes_len);
+  if (load8(frame + 16))
     goto after_4;
-  v4 = load8(frame + 152);
-  v5 = load64(frame + 144);
-  v6 = load64(frame + 136);
-  v7 = load8(frame + 128);
-  v8 = load64(frame + 120);
-  v9 = load64(frame + 104);
-  v10 = load64(frame + 96);
-  v11 = load8(frame + 88);
-  v12 = load8(frame + 64);
-  v13 = load64(frame + 56);
-  bytes = load64(frame + 48);
+  v13 = load64(frame + 152) + 1;
+  v4 = (uint32_t)(load8(frame + 128) == 1);
+  v5 = load32(frame + 120);
+  v6 = load8(frame + 104);
+  v7 = load64(frame + 96);
+  v8 = load64(frame + 80);
+  v9 = load64(frame + 72);
+  v10 = load8(frame + 64);
+  v11 = load8(frame + 40);
+  v12 = load64(frame + 32);
+  bytes = load64(frame + 24);
 after_2:;
   v14 = 11;
-  if (v13 != 7)
+  if (v12 != 7)
     goto after_5;
   if (load8(bytes) != 42u)
     goto after_5;
@@ -27767,74 +27884,97 @@ after_2:;
   t0 = core_cmp_slices_groups_equal(bytes, 7, CONSTANT(281));
   if (t0 == 0u)
     goto after_5;
-  if ((v12 & 0xffu) != 1u)
+  if ((v11 & 0xffu) != 1u)
     goto after_5;
-  if ((v11 & 0xffu) != 6u)
+  if ((v10 & 0xffu) != 6u)
     goto after_5;
-  curves_curve_Curve_from_content(frame + 8, v10, v9);
+  curves_curve_Curve_from_content(frame + 8, v9, v8);
   if (load8(frame + 8) != 1u)
     goto after_5;
-  v12 = load8(frame + 9);
-  store64(frame + 296, 0);
-  store64(frame + 304, 0);
-  store64(frame + 312, 0);
-  v14 = (uint32_t)((v7 & 0xffu) == 1u);
-  bytes = v14 ? v5 : 0ull;
-  v13 = v14 ? v6 : 0ull;
-  if ((v4 & 0xffu) != 1u)
+  v12 = 0;
+  bytes = 0;
+  if ((v6 & 0xffu) != 1u)
     goto after_6;
-  store64(frame + 312, load64(frame + 32));
-  store64(frame + 304, load64(frame + 24));
-  store64(frame + 296, load64(frame + 16));
-after_6:;
-  store64(frame + 56, bytes);
-  store64(frame + 48, v13);
-  store64(frame + 72, load64(frame + 296));
-  store64(frame + 80, load64(frame + 304));
-  store64(frame + 88, load64(frame + 312));
-  store64(frame + 64, (uint64_t)v4 & 0xff);
-  store64(frame + 40, (uint64_t)v7 & 0xff);
-  t1 = sec1_c_fields_fields_len(frame + 40);
-  bytes = t1;
-  if (v8 > 0xfffffff)
+  v14 = (uint32_t)v5;
+  if (v14 >= 128u)
     goto after_7;
-  if (v8 >= 128)
-    goto after_8;
-  v13 = 2;
-  goto after_9;
-after_8:;
-  if (v8 >= 256)
-    goto after_10;
-  v13 = 3;
-  goto after_9;
-after_10:;
-  if (v8 >= 0x10000)
-    goto after_11;
-  v13 = 4;
-  goto after_9;
-after_11:;
-  v13 = (v8 < 0x1000000) ? 5ull : 6ull;
+  bytes = 0xfffffffffffffffe;
+  goto after_8;
+after_7:;
+  if (v14 >= 256u)
+    goto after_9;
+  bytes = 0xfffffffffffffffd;
+  goto after_8;
 after_9:;
-  v13 = v13 + v8;
+  if (v14 >= 0x10000u)
+    goto after_10;
+  bytes = 0xfffffffffffffffc;
+  goto after_8;
+after_10:;
+  bytes = (v14 < 0x1000000u) ? 0xfffffffffffffffbull : 0xfffffffffffffffaull;
+after_8:;
+  bytes = bytes - v5;
+after_6:;
+  v14 = load8(frame + 9);
+  if (v4 == 0u)
+    goto after_11;
   if (v13 >= 0x10000000)
-    goto after_7;
+    goto after_12;
+  if (v13 >= 128)
+    goto after_13;
+  v12 = 0xfffffffffffffffe;
+  goto after_14;
+after_13:;
+  if (v13 >= 256)
+    goto after_15;
+  v12 = 0xfffffffffffffffd;
+  goto after_14;
+after_15:;
+  if (v13 >= 0x10000)
+    goto after_16;
+  v12 = 0xfffffffffffffffc;
+  goto after_14;
+after_16:;
+  v12 = (v13 < 0x1000000) ? 0xfffffffffffffffbull : 0xfffffffffffffffaull;
+after_14:;
+  v12 = v12 - v13;
+after_11:;
+  if (v7 >= 0x10000000)
+    goto after_12;
+  bytes = (bytes + bytes_len) + v12;
+  if (v7 >= 128)
+    goto after_17;
+  bytes_len = 0xfffffffffffffffe;
+  goto after_18;
+after_17:;
+  if (v7 >= 256)
+    goto after_19;
+  bytes_len = 0xfffffffffffffffd;
+  goto after_18;
+after_19:;
+  if (v7 >= 0x10000)
+    goto after_20;
+  bytes_len = 0xfffffffffffffffc;
+  goto after_18;
+after_20:;
+  bytes_len = (v7 < 0x1000000) ? 0xfffffffffffffffbull : 0xfffffffffffffffaull;
+after_18:;
   store64(parts + 40, 1);
-  store64(parts + 32, v8);
+  store64(parts + 32, v7);
   store64(parts + 16, 1);
-  bytes = bytes_len - bytes;
-  store64(parts + 24, bytes - v8);
-  bytes_len = load64(CONSTANT(10384) + (((uint64_t)v12 & 0xff) << 3));
-  store64(parts + 8, bytes_len);
-  store64(parts, bytes - (v13 + bytes_len));
+  store64(parts + 24, bytes - v7);
+  v12 = load64(CONSTANT(10384) + (((uint64_t)v14 & 0xff) << 3));
+  store64(parts + 8, v12);
+  store64(parts, (bytes + bytes_len) - (v7 + v12));
   v14 = 0;
   goto after_5;
 after_4:;
-  v14 = load8(frame + 41);
+  v14 = load8(frame + 17);
 after_3:;
   v14 = load32(CONSTANT(10928) + (((uint64_t)v14 & 0xff) << 2));
 after_5:;
   return v14;
-after_7:;
+after_12:;
   trap();
 }
 
@@ -27933,34 +28073,31 @@ after_9:;
   if (v6 != bytes)
     goto after_10;
   bytes = load64(frame + 48);
-  if (bytes > 0xfffffff)
+  if (bytes >= 0x10000000)
     goto after_11;
   if (bytes >= 128)
     goto after_12;
-  v6 = 2;
+  v6 = 0xfffffffffffffffe;
   goto after_13;
 after_12:;
   if (bytes >= 256)
     goto after_14;
-  v6 = 3;
+  v6 = 0xfffffffffffffffd;
   goto after_13;
 after_14:;
   if (bytes >= 0x10000)
     goto after_15;
-  v6 = 4;
+  v6 = 0xfffffffffffffffc;
   goto after_13;
 after_15:;
-  v6 = (bytes < 0x1000000) ? 5ull : 6ull;
+  v6 = (bytes < 0x1000000) ? 0xfffffffffffffffbull : 0xfffffffffffffffaull;
 after_13:;
-  v6 = v6 + bytes;
-  if (v6 >= 0x10000000)
-    goto after_11;
   store64(parts + 40, 1);
   store64(parts + 32, bytes);
   store64(parts + 16, 1);
   store64(parts + 8, v5);
   store64(parts + 24, bytes_len - bytes);
-  store64(parts, bytes_len - (v5 + v6));
+  store64(parts, (bytes_len - (v5 + bytes)) + v6);
   v4 = 0;
   goto after_10;
 after_11:;
@@ -27993,64 +28130,68 @@ after_2:;
 /* rattle::export sec1_private_key_read */
 static uint32_t export_sec1_private_key_read(uint64_t bytes, uint64_t bytes_len, uint64_t parts)
 {
-  FRAME(528)
-  uint32_t v4 = 0, v7 = 0, v12 = 0, v13 = 0, v15 = 0, v16 = 0, t0, t1, t5;
-  uint64_t v5 = 0, v6 = 0, v8 = 0, v9 = 0, v10 = 0, v11 = 0, v14 = 0, t2, t3, t4;
+  FRAME(400)
+  uint32_t v4 = 0, v6 = 0, v11 = 0, v12 = 0, v15 = 0, v16 = 0, t0, t1, t2, t4;
+  uint64_t v5 = 0, v7 = 0, v8 = 0, v9 = 0, v10 = 0, v13 = 0, v14 = 0, v17 = 0, v18 = 0, t3;
   bytes = bytes + ((bytes == 0) ? 4096ull : 0ull);
   t0 = sec1_c_private_key_has_algorithm(bytes, bytes_len);
   if (t0 == 0u)
     goto after_1;
-  v4 = 0;
-  fill(frame + 144, 0, 104);
-  fill(frame + 24, 0, 96);
-  fill(frame + 416, 0, 112);
-  fill(frame + 272, 0, 144);
-  pkix_private_key_PrivateKeyInfo_from_der(frame + 416, bytes, bytes_len);
-  if (load8(frame + 416))
-    goto after_2;
+  store64(frame + 80, 0);
+  store64(frame + 88, 0);
+  store64(frame + 96, 0);
+  store64(frame + 104, 0);
+  store64(frame + 112, 0);
   store64(frame + 120, 0);
   store64(frame + 128, 0);
   store64(frame + 136, 0);
-  v5 = load64(frame + 520);
-  v6 = load64(frame + 512);
-  v7 = load8(frame + 504);
-  v8 = load64(frame + 496);
-  v9 = load64(frame + 488);
-  v10 = load64(frame + 480);
-  v11 = load64(frame + 472);
-  v12 = load8(frame + 464);
-  v13 = load8(frame + 440);
-  v14 = load64(frame + 432);
-  bytes = load64(frame + 424);
+  store64(frame + 24, 0);
+  store64(frame + 32, 0);
+  store64(frame + 40, 0);
+  store64(frame + 48, 0);
+  store64(frame + 56, 0);
+  store64(frame + 64, 0);
+  store64(frame + 72, 0);
+  v4 = 0;
+  fill(frame + 288, 0, 112);
+  fill(frame + 144, 0, 144);
+  pkix_private_key_PrivateKeyInfo_from_der(frame + 288, bytes, bytes_len);
+  if (load8(frame + 288))
+    goto after_2;
+  v5 = load32(frame + 392);
+  v6 = load8(frame + 376);
+  v7 = load64(frame + 368);
+  v8 = load64(frame + 360);
+  v9 = load64(frame + 352);
+  v10 = load64(frame + 344);
+  v11 = load8(frame + 336);
+  v12 = load8(frame + 312);
+  v13 = load64(frame + 304);
+  bytes = load64(frame + 296);
+  v14 = 1;
   goto after_3;
 after_2:;
-  v15 = load8(frame + 417);
+  v15 = load8(frame + 289);
   if (v15 != 4u)
     goto after_4;
-  pkix_private_key_OneAsymmetricKey_from_der(frame + 272, bytes, bytes_len);
-  store64(frame + 120, load64(frame + 392));
-  store64(frame + 128, load64(frame + 400));
-  store64(frame + 136, load64(frame + 408));
-  if (load8(frame + 272))
+  pkix_private_key_OneAsymmetricKey_from_der(frame + 144, bytes, bytes_len);
+  if (load8(frame + 144))
     goto after_5;
-  v4 = load8(frame + 384);
-  v5 = load64(frame + 376);
-  v6 = load64(frame + 368);
-  v7 = load8(frame + 360);
-  v8 = load64(frame + 352);
-  v9 = load64(frame + 344);
-  v10 = load64(frame + 336);
-  v11 = load64(frame + 328);
-  v12 = load8(frame + 320);
-  v13 = load8(frame + 296);
-  v14 = load64(frame + 288);
-  bytes = load64(frame + 280);
+  v14 = load64(frame + 280) + 1;
+  v4 = (uint32_t)(load8(frame + 256) == 1);
+  v5 = load32(frame + 248);
+  v6 = load8(frame + 232);
+  v7 = load64(frame + 224);
+  v8 = load64(frame + 216);
+  v9 = load64(frame + 208);
+  v10 = load64(frame + 200);
+  v11 = load8(frame + 192);
+  v12 = load8(frame + 168);
+  v13 = load64(frame + 160);
+  bytes = load64(frame + 152);
 after_3:;
-  store64(frame + 264, load64(frame + 136));
-  store64(frame + 256, load64(frame + 128));
-  store64(frame + 248, load64(frame + 120));
   v15 = 11;
-  if (v14 != 7)
+  if (v13 != 7)
     goto after_6;
   if (load8(bytes) != 42u)
     goto after_6;
@@ -28063,268 +28204,265 @@ after_3:;
   t1 = core_cmp_slices_groups_equal(bytes, 7, CONSTANT(281));
   if (t1 == 0u)
     goto after_6;
-  if ((v13 & 0xffu) != 1u)
+  if ((v12 & 0xffu) != 1u)
     goto after_6;
-  if ((v12 & 0xffu) != 6u)
+  if ((v11 & 0xffu) != 6u)
     goto after_6;
-  curves_curve_Curve_from_content(frame + 16, v11, v10);
+  curves_curve_Curve_from_content(frame + 16, v10, v9);
   if (load8(frame + 16) != 1u)
     goto after_6;
   v12 = load8(frame + 17);
-  store64(frame + 272, CONSTANT(0));
-  v13 = 0;
-  bytes = frame + 280;
-  fill(bytes, 0, 96);
-  if (v8 == 0)
+  store64(frame + 152, 0);
+  store64(frame + 144, CONSTANT(0));
+  store64(frame + 160, 0);
+  store64(frame + 168, 0);
+  store64(frame + 176, 0);
+  store64(frame + 184, 0);
+  store64(frame + 192, 0);
+  store64(frame + 200, 0);
+  v15 = 0;
+  if (v7 == 0)
     goto after_7;
-  if (load8(v9) == 48u)
+  if (load8(v8) == 48u)
     goto after_8;
-  v13 = 1;
+  v15 = 1;
   goto after_7;
 after_8:;
-  if (v8 == 1)
+  if (v7 == 1)
     goto after_7;
-  v10 = v9 + 2;
-  v14 = v8 + 0xfffffffffffffffe;
-  v15 = (uint32_t)(int8_t)(uint32_t)load8(v9 + 1);
-  if ((int32_t)v15 >= 0)
+  v13 = v8 + 2;
+  bytes = v7 + 0xfffffffffffffffe;
+  v11 = (uint32_t)(int8_t)(uint32_t)load8(v8 + 1);
+  if ((int32_t)v11 >= 0)
     goto after_9;
-  v13 = 2;
-  if (((v15 + 123u) & 0xffu) < 252u)
+  v15 = 2;
+  if (((v11 + 123u) & 0xffu) < 252u)
     goto after_7;
-  v11 = (uint64_t)(int32_t)v15 + 128;
-  if (v14 >= v11)
+  v9 = (uint64_t)(int32_t)v11 + 128;
+  if (bytes >= v9)
     goto after_10;
-  v13 = 0;
+  v15 = 0;
   goto after_7;
 after_10:;
-  v15 = load8(v10);
+  v11 = load8(v13);
   v16 = 0;
-  if (v11 == 1)
+  if (v9 == 1)
     goto after_11;
-  v16 = v15 << 8;
-  v15 = v16 | (uint32_t)load8(v9 + 3);
-  if (v11 == 2)
+  v16 = v11 << 8;
+  v11 = v16 | (uint32_t)load8(v8 + 3);
+  if (v9 == 2)
     goto after_11;
-  v16 = v15 << 8;
-  v15 = v16 | (uint32_t)load8(v9 + 4);
-  if (v11 == 3)
+  v16 = v11 << 8;
+  v11 = v16 | (uint32_t)load8(v8 + 4);
+  if (v9 == 3)
     goto after_11;
-  v16 = v15 << 8;
-  v15 = v16 | (uint32_t)load8(v9 + 5);
+  v16 = v11 << 8;
+  v11 = v16 | (uint32_t)load8(v8 + 5);
 after_11:;
-  if (v15 < 128u)
+  if (v11 < 128u)
     goto after_7;
-  if (((uint32_t)load8(v10) & 0xffu) == 0u)
+  if (((uint32_t)load8(v13) & 0xffu) == 0u)
     goto after_7;
   if (v16 > 0xfffffffu)
     goto after_7;
-  v10 = v10 + v11;
-  v14 = v14 - v11;
+  v13 = v13 + v9;
+  bytes = bytes - v9;
 after_9:;
-  v13 = 0;
-  v11 = v15;
-  if (v14 < v11)
+  v15 = 0;
+  v9 = v11;
+  if (bytes < v9)
     goto after_7;
-  sec1_private_key_EcPrivateKeyReadInPlace_read_content(frame + 8, frame + 272, v10, v11);
+  sec1_borrowed_key_BorrowedKeyReadInPlace_read_content(frame + 8, frame + 144, v13, v9);
   if (load8(frame + 8))
     goto after_12;
-  if (v14 == v11)
+  if (bytes == v9)
     goto after_13;
-  v13 = 3;
+  v15 = 3;
   goto after_7;
 after_13:;
-  v14 = load64(frame + 272);
-  move(frame + 24, bytes, 96);
-  store64(frame + 144, v14);
-  move(frame + 152, frame + 24, 96);
-  v13 = load8(frame + 160);
-  if (v13 != 1u)
+  bytes = frame + 152;
+  v13 = load64(bytes);
+  store64(frame + 24, v13);
+  v9 = load64(bytes + 8);
+  store64(frame + 32, v9);
+  v10 = load64(bytes + 16);
+  store64(frame + 40, v10);
+  v8 = load64(bytes + 24);
+  store64(frame + 48, v8);
+  v17 = load64(bytes + 32);
+  store64(frame + 56, v17);
+  v18 = load64(bytes + 40);
+  store64(frame + 64, v18);
+  bytes = load64(bytes + 48);
+  store64(frame + 72, bytes);
+  store64(frame + 80, load64(frame + 144));
+  store64(frame + 88, v13);
+  store64(frame + 96, v9);
+  store64(frame + 104, v10);
+  store64(frame + 112, v8);
+  store64(frame + 120, v17);
+  store64(frame + 128, v18);
+  store64(frame + 136, bytes);
+  t2 = sec1_c_private_key_names_curve(frame + 80, v12);
+  if (t2)
     goto after_14;
-  curves_curve_Curve_from_content(frame, frame + 176, load64(frame + 216));
   v15 = 12;
-  if (load8(frame) != 1u)
-    goto after_6;
-  if (((uint32_t)load8(frame + 1) & 0xffu) != (v12 & 0xffu))
-    goto after_6;
+  goto after_6;
+after_12:;
+  v15 = load8(frame + 9);
+  if ((v15 & 0xffu) != 10u)
+    goto after_7;
+  v15 = 15;
+  goto after_6;
 after_14:;
-  store64(frame + 432, 0);
-  store64(frame + 424, 0);
-  store64(frame + 416, 0);
-  v15 = (uint32_t)((v7 & 0xffu) == 1u);
-  bytes = v15 ? v5 : 0ull;
-  v14 = v15 ? v6 : 0ull;
-  if ((v4 & 0xffu) != 1u)
+  v13 = 0;
+  bytes = 0;
+  if ((v6 & 0xffu) != 1u)
     goto after_15;
-  store64(frame + 432, load64(frame + 264));
-  store64(frame + 424, load64(frame + 256));
-  store64(frame + 416, load64(frame + 248));
-after_15:;
-  store64(frame + 320, load64(frame + 432));
-  store64(frame + 312, load64(frame + 424));
-  store64(frame + 304, load64(frame + 416));
-  store64(frame + 288, bytes);
-  store64(frame + 280, v14);
-  store64(frame + 296, (uint64_t)v4 & 0xff);
-  store64(frame + 272, (uint64_t)v7 & 0xff);
-  t2 = sec1_c_fields_fields_len(frame + 272);
-  v11 = t2;
-  if (v8 > 0xfffffff)
+  v15 = (uint32_t)v5;
+  if (v15 >= 128u)
     goto after_16;
-  if (v8 >= 128)
-    goto after_17;
-  bytes = 2;
-  goto after_18;
-after_17:;
-  if (v8 >= 256)
-    goto after_19;
-  bytes = 3;
-  goto after_18;
-after_19:;
-  if (v8 >= 0x10000)
-    goto after_20;
-  bytes = 4;
-  goto after_18;
-after_20:;
-  bytes = (v8 < 0x1000000) ? 5ull : 6ull;
+  bytes = 0xfffffffffffffffe;
+  goto after_17;
+after_16:;
+  if (v15 >= 256u)
+    goto after_18;
+  bytes = 0xfffffffffffffffd;
+  goto after_17;
 after_18:;
-  v9 = bytes + v8;
-  if (v9 >= 0x10000000)
-    goto after_16;
-  v14 = load64(CONSTANT(10384) + (((uint64_t)v12 & 0xff) << 3));
-  v10 = 0;
-  bytes = load64(frame + 240);
-  v15 = load8(frame + 224);
-  if (v15 != 1u)
+  if (v15 >= 0x10000u)
+    goto after_19;
+  bytes = 0xfffffffffffffffc;
+  goto after_17;
+after_19:;
+  bytes = (v15 < 0x1000000u) ? 0xfffffffffffffffbull : 0xfffffffffffffffaull;
+after_17:;
+  bytes = bytes - v5;
+after_15:;
+  if (v4 == 0u)
+    goto after_20;
+  if (v14 >= 0x10000000)
     goto after_21;
-  if (bytes > 0xffffffe)
-    goto after_16;
-  v10 = bytes + 1;
-  if (bytes >= 127)
+  if (v14 >= 128)
     goto after_22;
-  v5 = 2;
+  v13 = 0xfffffffffffffffe;
   goto after_23;
 after_22:;
-  if (bytes >= 255)
+  if (v14 >= 256)
     goto after_24;
-  v5 = 3;
+  v13 = 0xfffffffffffffffd;
   goto after_23;
 after_24:;
-  if (bytes >= 65535)
+  if (v14 >= 0x10000)
     goto after_25;
-  v5 = 4;
+  v13 = 0xfffffffffffffffc;
   goto after_23;
 after_25:;
-  v5 = (bytes < 0xffffff) ? 5ull : 6ull;
+  v13 = (v14 < 0x1000000) ? 0xfffffffffffffffbull : 0xfffffffffffffffaull;
 after_23:;
-  v10 = v10 + v5;
-  if (v10 > 0xfffffff)
-    goto after_16;
-  if (v10 >= 128)
+  v13 = v13 - v14;
+after_20:;
+  if (v7 >= 0x10000000)
+    goto after_21;
+  bytes_len = bytes + bytes_len;
+  if (v7 >= 128)
     goto after_26;
-  v5 = 2;
+  v14 = 0xfffffffffffffffe;
   goto after_27;
 after_26:;
-  if (v10 >= 256)
+  if (v7 >= 256)
     goto after_28;
-  v5 = 3;
+  v14 = 0xfffffffffffffffd;
   goto after_27;
 after_28:;
-  if (v10 >= 0x10000)
+  if (v7 >= 0x10000)
     goto after_29;
-  v5 = 4;
+  v14 = 0xfffffffffffffffc;
   goto after_27;
 after_29:;
-  v5 = (v10 < 0x1000000) ? 5ull : 6ull;
+  v14 = (v7 < 0x1000000) ? 0xfffffffffffffffbull : 0xfffffffffffffffaull;
 after_27:;
-  v10 = v5 + v10;
-after_21:;
-  v10 = v8 - v10;
-  if (v13 != 1u)
+  bytes = bytes_len + v13;
+  v13 = load64(CONSTANT(10384) + (((uint64_t)v12 & 0xff) << 3));
+  bytes_len = 0;
+  v9 = 0;
+  v10 = 0;
+  v8 = 0;
+  if (load8(frame + 120) != 1u)
     goto after_30;
-  v5 = load64(frame + 216);
-  if (v5 > 0xfffffff)
-    goto after_16;
-  if (v5 >= 128)
+  bytes_len = load64(frame + 136);
+  if (bytes_len > 0xffffffe)
+    goto after_21;
+  v9 = bytes_len + 1;
+  if (bytes_len >= 127)
     goto after_31;
-  v6 = 2;
+  v10 = 2;
   goto after_32;
 after_31:;
-  if (v5 >= 256)
+  if (bytes_len >= 255)
     goto after_33;
-  v6 = 3;
+  v10 = 3;
   goto after_32;
 after_33:;
-  if (v5 >= 0x10000)
+  if (bytes_len >= 65535)
     goto after_34;
-  v6 = 4;
+  v10 = 4;
   goto after_32;
 after_34:;
-  v6 = (v5 < 0x1000000) ? 5ull : 6ull;
+  v10 = (bytes_len < 0xffffff) ? 5ull : 6ull;
 after_32:;
-  v6 = v6 + v5;
-  if (v6 > 0xfffffff)
-    goto after_16;
-  if (v6 >= 128)
+  v9 = v9 + v10;
+  if (v9 > 0xfffffff)
+    goto after_21;
+  if (v9 >= 128)
     goto after_35;
-  v5 = 0xfffffffffffffffe;
+  v10 = 0xfffffffffffffffe;
   goto after_36;
 after_35:;
-  if (v6 >= 256)
+  if (v9 >= 256)
     goto after_37;
-  v5 = 0xfffffffffffffffd;
+  v10 = 0xfffffffffffffffd;
   goto after_36;
 after_37:;
-  if (v6 >= 0x10000)
+  if (v9 >= 0x10000)
     goto after_38;
-  v5 = 0xfffffffffffffffc;
+  v10 = 0xfffffffffffffffc;
   goto after_36;
 after_38:;
-  v5 = (v6 < 0x1000000) ? 0xfffffffffffffffbull : 0xfffffffffffffffaull;
+  v10 = (v9 < 0x1000000) ? 0xfffffffffffffffbull : 0xfffffffffffffffaull;
 after_36:;
-  t3 = v10 + v5;
-  v5 = load64(frame + 152);
-  v10 = t3 - (v6 + v5);
-  goto after_39;
+  v8 = bytes - bytes_len;
+  v10 = v10 - v9;
+  v9 = 1;
 after_30:;
-  v5 = load64(frame + 152);
-  v10 = v10 - v5;
-after_39:;
-  store64(parts + 64, v15);
+  store64(parts + 64, v9);
+  store64(parts + 56, bytes_len);
+  store64(parts + 48, v8);
   store64(parts + 40, 1);
-  store64(parts + 32, v14);
-  bytes_len = bytes_len - v11;
-  store64(parts + 24, bytes_len - (v9 + v14));
+  store64(parts + 32, v13);
+  store64(parts + 24, (bytes + v14) - (v7 + v13));
   store64(parts + 16, 1);
-  store64(parts + 8, v5);
-  bytes_len = bytes_len - v8;
-  store64(parts, v10 + bytes_len);
-  v4 = v15 & 1u;
-  store64(parts + 56, v4 ? bytes : 0ull);
-  t4 = (v4 ? (v8 - (v15 ? bytes : 0ull)) : 0ull) + (v15 ? bytes_len : 0ull);
-  store64(parts + 48, t4);
+  bytes_len = load64(frame + 88);
+  store64(parts + 8, bytes_len);
+  t3 = (load8(frame + 96) == 1u) ? (0xfffffffffffffffcull - load64(frame + 112)) : 0ull;
+  store64(parts, ((v10 + bytes) - bytes_len) + t3);
   v15 = 0;
   goto after_6;
 after_5:;
-  v15 = load8(frame + 273);
+  v15 = load8(frame + 145);
 after_4:;
   v15 = load32(CONSTANT(10928) + (((uint64_t)v15 & 0xff) << 2));
   goto after_6;
-after_12:;
-  v15 = 15;
-  v13 = load8(frame + 9);
-  if ((v13 & 0xffu) == 10u)
-    goto after_6;
-after_7:;
-  v15 = load32(CONSTANT(10340) + (((uint64_t)v13 & 0xff) << 2));
-  goto after_6;
 after_1:;
-  t5 = sec1_c_key_sec1_key_read(bytes, bytes_len, parts);
-  v15 = t5;
+  t4 = sec1_c_key_sec1_key_read(bytes, bytes_len, parts);
+  v15 = t4;
+  goto after_6;
+after_21:;
+  trap();
+after_7:;
+  v15 = load32(CONSTANT(10340) + (((uint64_t)v15 & 0xff) << 2));
 after_6:;
   return v15;
-after_16:;
-  trap();
 }
 
 /* rattle::export sec1_picture_lines */
@@ -28618,163 +28756,6 @@ after_2:;
   return 9;
 }
 
-/* rattle::export sec1_point_compare */
-static uint32_t export_sec1_point_compare(uint64_t first, uint64_t first_len, uint64_t second,
-    uint64_t second_len, uint64_t field_len, uint64_t order)
-{
-  uint32_t v6 = 0, v10 = 0, v19 = 0, t0;
-  uint64_t v7 = 0, v8 = 0, v9 = 0, v11 = 0, v12 = 0, v13 = 0, v14 = 0, v15 = 0, v16 = 0,
-      v17 = 0, v18 = 0;
-  v6 = 10;
-  if ((field_len + 0xffffffffffffffbd) < 0xffffffffffffffbe)
-    goto after_1;
-  v6 = 9;
-  if (first_len == 0)
-    goto after_1;
-  v7 = 1;
-  v8 = (first == 0) ? 4096ull : 0ull;
-  v9 = first + v8;
-  v10 = load8(v9);
-  switch (v10) {
-  case 4:
-    goto after_2;
-  case 2: case 3: case 5:
-    goto after_3;
-  case 0:
-    goto after_4;
-  case 6: case 7:
-    goto after_5;
-  default:
-    goto after_1;
-  }
-after_2:;
-  if (second_len == 0)
-    goto after_1;
-  if (first_len == ((field_len << 1) | 1))
-    goto after_6;
-  goto after_1;
-after_3:;
-  v7 = field_len + 1;
-after_4:;
-  if (second_len == 0)
-    goto after_1;
-  if (first_len == v7)
-    goto after_6;
-  goto after_1;
-after_5:;
-  if (first_len != ((field_len << 1) | 1))
-    goto after_1;
-  if (second_len == 0)
-    goto after_1;
-  if (((uint32_t)load8((v9 + first_len) + 0xffffffffffffffff) ^ v10) & 1u)
-    goto after_1;
-after_6:;
-  v7 = 1;
-  v11 = (second == 0) ? 4096ull : 0ull;
-  v12 = second + v11;
-  v10 = load8(v12);
-  switch (v10) {
-  case 2: case 3: case 5:
-    goto after_7;
-  case 0:
-    goto after_8;
-  case 6: case 7:
-    goto after_9;
-  case 4:
-    goto after_10;
-  default:
-    goto after_1;
-  }
-after_7:;
-  v7 = field_len + 1;
-after_8:;
-  if (second_len == v7)
-    goto after_11;
-  goto after_1;
-after_9:;
-  if (second_len != ((field_len << 1) | 1))
-    goto after_1;
-  if (((uint32_t)load8((v12 + second_len) + 0xffffffffffffffff) ^ v10) & 1u)
-    goto after_1;
-  goto after_11;
-after_10:;
-  if (second_len == ((field_len << 1) | 1))
-    goto after_11;
-after_1:;
-  return v6;
-after_11:;
-  v13 = 0;
-  v14 = (second_len < first_len) ? second_len : first_len;
-  if (v14 < 64)
-    goto after_12;
-  v15 = v14 & 0xffffffffffffffc0;
-  v13 = 0;
-  v16 = v12;
-  v17 = v9;
-again_14:;
-  v6 = 0;
-  field_len = 0;
-again_13:;
-  v7 = v17 + field_len;
-  v18 = v16 + field_len;
-  t0 = (v6 | (uint32_t)(load8(v7) != load8(v18))) | (uint32_t)(load8(v7 + 1) != load8(v18 + 1));
-  v6 = t0;
-  field_len = field_len + 2;
-  if (field_len != 64)
-    goto again_13;
-  if (v6 & 1u)
-    goto after_12;
-  v16 = v16 + 64;
-  v17 = v17 + 64;
-  v13 = v13 + 64;
-  if ((v14 - v13) > 63)
-    goto again_14;
-  v13 = v15;
-after_12:;
-  field_len = v14 - v13;
-  if (field_len < 8)
-    goto after_15;
-again_16:;
-  if (load64(v9 + v13) != load64(v12 + v13))
-    goto after_15;
-  v13 = v13 + 8;
-  field_len = field_len + 0xfffffffffffffff8;
-  if (field_len > 7)
-    goto again_16;
-after_15:;
-  if (v14 <= v13)
-    goto after_17;
-  v18 = v14 - v13;
-  field_len = first + (v8 + v13);
-  v7 = second + (v11 + v13);
-again_19:;
-  v6 = load8(field_len);
-  v10 = load8(v7);
-  if (v6 != v10)
-    goto after_18;
-  field_len = field_len + 1;
-  v7 = v7 + 1;
-  v18 = v18 + 0xffffffffffffffff;
-  if (v18 == 0)
-    goto after_17;
-  goto again_19;
-after_18:;
-  v19 = 0xffffffff;
-  if (v6 < v10)
-    goto after_20;
-  goto after_21;
-after_17:;
-  if (first_len > second_len)
-    goto after_21;
-  v19 = (first_len != second_len) ? 0xffffffffu : 0u;
-  goto after_20;
-after_21:;
-  v19 = 1;
-after_20:;
-  store32(order, v19);
-  return 0;
-}
-
 /* rattle::export sec1_point_read */
 static uint32_t export_sec1_point_read(uint64_t bytes, uint64_t bytes_len, uint64_t field_len,
     uint64_t parts)
@@ -28938,141 +28919,275 @@ after_2:;
   return v4;
 }
 
+/* rattle::export sec1_point_compare */
+static uint32_t export_sec1_point_compare(uint64_t first, uint64_t first_len, uint64_t second,
+    uint64_t second_len, uint64_t field_len, uint64_t order)
+{
+  uint32_t v6 = 0, v10 = 0, v19 = 0, t0;
+  uint64_t v7 = 0, v8 = 0, v9 = 0, v11 = 0, v12 = 0, v13 = 0, v14 = 0, v15 = 0, v16 = 0,
+      v17 = 0, v18 = 0;
+  v6 = 10;
+  if ((field_len + 0xffffffffffffffbd) < 0xffffffffffffffbe)
+    goto after_1;
+  v6 = 9;
+  if (first_len == 0)
+    goto after_1;
+  v7 = 1;
+  v8 = (first == 0) ? 4096ull : 0ull;
+  v9 = first + v8;
+  v10 = load8(v9);
+  switch (v10) {
+  case 4:
+    goto after_2;
+  case 2: case 3: case 5:
+    goto after_3;
+  case 0:
+    goto after_4;
+  case 6: case 7:
+    goto after_5;
+  default:
+    goto after_1;
+  }
+after_2:;
+  if (second_len == 0)
+    goto after_1;
+  if (first_len == ((field_len << 1) | 1))
+    goto after_6;
+  goto after_1;
+after_3:;
+  v7 = field_len + 1;
+after_4:;
+  if (second_len == 0)
+    goto after_1;
+  if (first_len == v7)
+    goto after_6;
+  goto after_1;
+after_5:;
+  if (first_len != ((field_len << 1) | 1))
+    goto after_1;
+  if (second_len == 0)
+    goto after_1;
+  if (((uint32_t)load8((v9 + first_len) + 0xffffffffffffffff) ^ v10) & 1u)
+    goto after_1;
+after_6:;
+  v7 = 1;
+  v11 = (second == 0) ? 4096ull : 0ull;
+  v12 = second + v11;
+  v10 = load8(v12);
+  switch (v10) {
+  case 2: case 3: case 5:
+    goto after_7;
+  case 0:
+    goto after_8;
+  case 6: case 7:
+    goto after_9;
+  case 4:
+    goto after_10;
+  default:
+    goto after_1;
+  }
+after_7:;
+  v7 = field_len + 1;
+after_8:;
+  if (second_len == v7)
+    goto after_11;
+  goto after_1;
+after_9:;
+  if (second_len != ((field_len << 1) | 1))
+    goto after_1;
+  if (((uint32_t)load8((v12 + second_len) + 0xffffffffffffffff) ^ v10) & 1u)
+    goto after_1;
+  goto after_11;
+after_10:;
+  if (second_len == ((field_len << 1) | 1))
+    goto after_11;
+after_1:;
+  return v6;
+after_11:;
+  v13 = 0;
+  v14 = (second_len < first_len) ? second_len : first_len;
+  if (v14 < 64)
+    goto after_12;
+  v15 = v14 & 0xffffffffffffffc0;
+  v13 = 0;
+  v16 = v12;
+  v17 = v9;
+again_14:;
+  v6 = 0;
+  field_len = 0;
+again_13:;
+  v7 = v17 + field_len;
+  v18 = v16 + field_len;
+  t0 = (v6 | (uint32_t)(load8(v7) != load8(v18))) | (uint32_t)(load8(v7 + 1) != load8(v18 + 1));
+  v6 = t0;
+  field_len = field_len + 2;
+  if (field_len != 64)
+    goto again_13;
+  if (v6 & 1u)
+    goto after_12;
+  v16 = v16 + 64;
+  v17 = v17 + 64;
+  v13 = v13 + 64;
+  if ((v14 - v13) > 63)
+    goto again_14;
+  v13 = v15;
+after_12:;
+  field_len = v14 - v13;
+  if (field_len < 8)
+    goto after_15;
+again_16:;
+  if (load64(v9 + v13) != load64(v12 + v13))
+    goto after_15;
+  v13 = v13 + 8;
+  field_len = field_len + 0xfffffffffffffff8;
+  if (field_len > 7)
+    goto again_16;
+after_15:;
+  if (v14 <= v13)
+    goto after_17;
+  v18 = v14 - v13;
+  field_len = first + (v8 + v13);
+  v7 = second + (v11 + v13);
+again_19:;
+  v6 = load8(field_len);
+  v10 = load8(v7);
+  if (v6 != v10)
+    goto after_18;
+  field_len = field_len + 1;
+  v7 = v7 + 1;
+  v18 = v18 + 0xffffffffffffffff;
+  if (v18 == 0)
+    goto after_17;
+  goto again_19;
+after_18:;
+  v19 = 0xffffffff;
+  if (v6 < v10)
+    goto after_20;
+  goto after_21;
+after_17:;
+  if (first_len > second_len)
+    goto after_21;
+  v19 = (first_len != second_len) ? 0xffffffffu : 0u;
+  goto after_20;
+after_21:;
+  v19 = 1;
+after_20:;
+  store32(order, v19);
+  return 0;
+}
+
 /* rattle::export sec1_key_len */
 static uint32_t export_sec1_key_len(uint64_t private_key, uint64_t private_key_len,
     uint64_t curve, uint64_t curve_len, uint64_t public_key, uint64_t public_key_len,
     uint64_t has_public_key, uint64_t len)
 {
-  FRAME(192)
-  uint32_t v11 = 0, v12 = 0, v13 = 0, v14 = 0, v15 = 0, v16 = 0, v17 = 0, v18 = 0, v19 = 0, t0,
-      t1, t2, t3, t4, t5;
-  uint64_t v8 = 0, v10 = 0;
+  FRAME(80)
+  uint32_t v12 = 0, v13 = 0, v14 = 0, v15 = 0, v16 = 0, v17 = 0, v18 = 0, v19 = 0, t0, t1, t2,
+      t3, t4, t5;
+  uint64_t v8 = 0, v10 = 0, v11 = 0;
   v8 = frame;
-  v10 = 0;
-  v11 = (uint32_t)(curve_len == 0);
-  if (v11)
+  v10 = curve + ((curve == 0) ? 4096ull : 0ull);
+  if (curve_len > 8)
     goto after_1;
-  curve = curve + ((curve == 0) ? 4096ull : 0ull);
-  if (curve_len != 8)
+  v11 = curve_len;
+  curve = 0;
+  switch ((uint32_t)curve_len) {
+  case 8:
     goto after_2;
-  v12 = (uint32_t)(int8_t)(uint32_t)load8(curve);
-  v13 = (uint32_t)(int8_t)(uint32_t)load8(curve + 1);
+  case 1: case 2: case 3: case 4: case 5: case 6: case 7:
+    goto after_1;
+  default:
+    goto after_3;
+  }
+after_2:;
+  v12 = (uint32_t)(int8_t)(uint32_t)load8(v10);
+  v13 = (uint32_t)(int8_t)(uint32_t)load8(v10 + 1);
   t0 = (uint32_t)((v12 & 0xffu) == 128u) | ((uint32_t)((v13 & 0xffu) == 128u) << 1);
-  v14 = (uint32_t)(int8_t)(uint32_t)load8(curve + 3);
-  v15 = (uint32_t)(int8_t)(uint32_t)load8(curve + 2);
+  v14 = (uint32_t)(int8_t)(uint32_t)load8(v10 + 3);
+  v15 = (uint32_t)(int8_t)(uint32_t)load8(v10 + 2);
   t1 = ((uint32_t)((v14 & 0xffu) == 128u) << 3) | ((uint32_t)((v15 & 0xffu) == 128u) << 2);
-  v16 = (uint32_t)(int8_t)(uint32_t)load8(curve + 4);
-  v17 = (uint32_t)(int8_t)(uint32_t)load8(curve + 5);
+  v16 = (uint32_t)(int8_t)(uint32_t)load8(v10 + 4);
+  v17 = (uint32_t)(int8_t)(uint32_t)load8(v10 + 5);
   t2 = (uint32_t)((v16 & 0xffu) == 128u) | ((uint32_t)((v17 & 0xffu) == 128u) << 1);
-  v18 = (uint32_t)(int8_t)(uint32_t)load8(curve + 7);
-  v19 = (uint32_t)(int8_t)(uint32_t)load8(curve + 6);
+  v18 = (uint32_t)(int8_t)(uint32_t)load8(v10 + 7);
+  v19 = (uint32_t)(int8_t)(uint32_t)load8(v10 + 6);
   t3 = ((uint32_t)((v18 & 0xffu) == 128u) << 3) | ((uint32_t)((v19 & 0xffu) == 128u) << 2);
   if ((t0 | t1) | ((t2 | t3) << 4))
-    goto after_3;
-  v10 = 1;
+    goto after_4;
+  v11 = 1;
   t4 = ((uint32_t)((int32_t)v12 > -1) | ((uint32_t)((int32_t)v13 > -1) << 1)) |
       (((uint32_t)((int32_t)v14 > -1) << 3) | ((uint32_t)((int32_t)v15 > -1) << 2));
   t5 = ((uint32_t)((int32_t)v16 > -1) | ((uint32_t)((int32_t)v17 > -1) << 1)) |
       (((uint32_t)((int32_t)v18 > -1) << 3) | ((uint32_t)((int32_t)v19 > -1) << 2));
-  v8 = t4 | (t5 << 4);
-  if (((v8 >> 1) | v8) == 255)
-    goto after_1;
-  goto after_3;
-after_2:;
-  if (curve_len <= 39)
-    goto after_3;
-  v12 = 5;
+  curve = t4 | (t5 << 4);
+  if (((curve >> 1) | curve) == 255)
+    goto after_5;
   goto after_4;
-after_3:;
+after_1:;
+  if ((curve_len + 0xffffffffffffffd8) >= 0xffffffffffffffd9)
+    goto after_4;
+  v12 = 5;
+  goto after_6;
+after_4:;
   v8 = curve_len + 0xffffffffffffffff;
   v12 = 0;
-again_11:;
-  v10 = 1;
+  curve = v10;
+again_13:;
+  v11 = 1;
   v13 = (uint32_t)(int8_t)(uint32_t)load8(curve);
   if ((int32_t)v13 > -1)
-    goto after_5;
+    goto after_7;
   v14 = v12 & 0xffu;
   if (v14)
-    goto after_6;
+    goto after_8;
   if (v13 != 0xffffff80u)
-    goto after_7;
-  v12 = 5;
-  goto after_4;
-after_7:;
-  v12 = (v13 < 0xffffff90u) ? 1u : 2u;
-  goto after_8;
-after_6:;
-  if (v14 <= 3u)
     goto after_9;
   v12 = 5;
-  goto after_4;
+  goto after_6;
 after_9:;
-  v12 = v12 + 1u;
+  v12 = (v13 < 0xffffff90u) ? 1u : 2u;
+  goto after_10;
 after_8:;
-  if (v8 != 0)
-    goto after_10;
+  if (v14 <= 3u)
+    goto after_11;
   v12 = 5;
-  goto after_4;
-after_5:;
+  goto after_6;
+after_11:;
+  v12 = v12 + 1u;
+after_10:;
+  if (v8 != 0)
+    goto after_12;
+  v12 = 5;
+  goto after_6;
+after_7:;
   v12 = 0;
   if (v8 == 0)
-    goto after_1;
-after_10:;
+    goto after_5;
+after_12:;
   curve = curve + 1;
   v8 = v8 + 0xffffffffffffffff;
-  goto again_11;
-after_1:;
-  store64(frame + 8, private_key_len);
-  store64(frame, private_key + ((private_key == 0) ? 4096ull : 0ull));
+  goto again_13;
+after_5:;
+  curve = v10;
+after_3:;
+  store64(frame + 48, curve_len);
+  store64(frame + 40, curve);
+  store64(frame + 32, v11);
+  store64(frame + 24, private_key_len);
+  store64(frame + 16, private_key + ((private_key == 0) ? 4096ull : 0ull));
   v12 = (uint32_t)(has_public_key != 0);
-  store64(frame + 96, v12 ? public_key_len : 0ull);
-  store64(frame + 88, v12 ? (public_key + ((public_key == 0) ? 4096ull : 0ull)) : 0ull);
-  store64(frame + 176, 0);
-  store64(frame + 184, 0);
-  store64(frame + 168, 0);
-  curve = v11 ? 0ull : (frame + 32);
-  v8 = v12;
-  if (has_public_key == 0)
-    goto after_12;
-  public_key = frame + 88;
-  store64(frame + 184, load64(public_key + 8));
-  store64(frame + 176, load64(public_key));
-after_12:;
-  store64(frame + 112, load64(frame + 8));
-  store64(frame + 104, load64(frame));
-  store64(frame + 144, v8);
-  store64(frame + 136, curve_len);
-  store64(frame + 128, curve);
-  store64(frame + 120, v10);
-  store64(frame + 152, load64(frame + 176));
-  store64(frame + 160, load64(frame + 184));
-  sec1_der_part_Tuple2EncodePart_part_len(frame + 168, frame + 104);
-  if (load8(frame + 168))
-    goto after_13;
-  v12 = load32(frame + 172);
-  if (v12 >= 128u)
+  store64(frame + 72, v12 ? public_key_len : 0ull);
+  store64(frame + 64, v12 ? (public_key + ((public_key == 0) ? 4096ull : 0ull)) : 0ull);
+  store64(frame + 56, v12);
+  sec1_der_codec_element_len(frame, frame + 16);
+  if (load8(frame) == 1u)
     goto after_14;
-  curve = 2;
-  goto after_15;
-after_14:;
-  if (v12 >= 256u)
-    goto after_16;
-  curve = 3;
-  goto after_15;
-after_16:;
-  if (v12 >= 0x10000u)
-    goto after_17;
-  curve = 4;
-  goto after_15;
-after_17:;
-  curve = (v12 < 0x1000000u) ? 5ull : 6ull;
-after_15:;
-  store64(len, curve + (uint64_t)v12);
-  v12 = 0;
-  goto after_4;
-after_13:;
   v12 = 6;
-after_4:;
+  goto after_6;
+after_14:;
+  store64(len, load64(frame + 8));
+  v12 = 0;
+after_6:;
   return v12;
 }
 
@@ -30423,124 +30538,124 @@ after_5:;
 static uint32_t export_sec1_private_key_fault_at(uint64_t bytes, uint64_t bytes_len,
     uint64_t offset)
 {
-  FRAME(736)
-  uint32_t v4 = 0, v8 = 0, v10 = 0, v12 = 0, t0, t1, t3;
-  uint64_t v5 = 0, v6 = 0, v7 = 0, v9 = 0, v11 = 0, t2;
+  FRAME(672)
+  uint32_t v4 = 0, v9 = 0, v10 = 0, t0, t1, t2, t4;
+  uint64_t v5 = 0, v6 = 0, v7 = 0, v8 = 0, t3;
   bytes = bytes + ((bytes == 0) ? 4096ull : 0ull);
   t0 = sec1_c_private_key_has_algorithm(bytes, bytes_len);
   if (t0 == 0u)
     goto after_1;
   v4 = 0;
-  fill(frame + 168, 0, 136);
+  fill(frame + 160, 0, 136);
   v5 = 0;
-  store64(frame + 158, 0);
-  store64(frame + 152, 0);
+  store64(frame + 150, 0);
   store64(frame + 144, 0);
+  store64(frame + 136, 0);
+  store64(frame + 96, 0);
   store64(frame + 104, 0);
   store64(frame + 112, 0);
   store64(frame + 120, 0);
   store64(frame + 128, 0);
-  store64(frame + 136, 0);
-  store64(frame + 88, 0);
-  store64(frame + 96, 0);
-  store64(frame + 72, 0);
   store64(frame + 80, 0);
+  store64(frame + 88, 0);
+  store64(frame + 64, 0);
+  store64(frame + 72, 0);
+  store64(frame + 40, 0);
   store64(frame + 48, 0);
   store64(frame + 56, 0);
-  store64(frame + 64, 0);
+  store64(frame + 16, 0);
   store64(frame + 24, 0);
   store64(frame + 32, 0);
-  store64(frame + 40, 0);
-  fill(frame + 480, 0, 112);
-  store64(frame + 606, 0);
-  store64(frame + 600, 0);
-  store64(frame + 592, 0);
-  fill(frame + 304, 0, 144);
-  pkix_private_key_PrivateKeyInfo_from_der(frame + 480, bytes, bytes_len);
-  if (load8(frame + 480))
+  fill(frame + 560, 0, 112);
+  store64(frame + 550, 0);
+  store64(frame + 544, 0);
+  store64(frame + 536, 0);
+  fill(frame + 296, 0, 144);
+  pkix_private_key_PrivateKeyInfo_from_der(frame + 560, bytes, bytes_len);
+  if (load8(frame + 560))
     goto after_2;
-  store64(frame + 598, load64(frame + 488));
-  store64(frame + 606, load64(frame + 496));
-  store64(frame + 616, load64(frame + 512));
-  store64(frame + 624, load64(frame + 520));
-  store64(frame + 632, load64(frame + 528));
-  store64(frame + 640, load64(frame + 536));
-  store64(frame + 648, load64(frame + 544));
-  store64(frame + 472, load64(frame + 560));
-  store64(frame + 464, load64(frame + 552));
-  v6 = load8(frame + 568);
-  v7 = load8(frame + 504);
+  store64(frame + 542, load64(frame + 568));
+  store64(frame + 550, load64(frame + 576));
+  store64(frame + 496, load64(frame + 592));
+  store64(frame + 504, load64(frame + 600));
+  store64(frame + 512, load64(frame + 608));
+  store64(frame + 520, load64(frame + 616));
+  store64(frame + 528, load64(frame + 624));
+  store64(frame + 488, load64(frame + 640));
+  store64(frame + 480, load64(frame + 632));
+  v6 = load8(frame + 648);
+  v7 = load8(frame + 584);
   v5 = 0;
-  store64(frame + 728, 0);
-  store64(frame + 720, 0);
-  store64(frame + 712, 0);
-  store64(frame + 456, load64(frame + 584));
-  store64(frame + 448, load64(frame + 576));
+  store64(frame + 456, 0);
+  store64(frame + 448, 0);
+  store64(frame + 440, 0);
+  store64(frame + 472, load64(frame + 664));
+  store64(frame + 464, load64(frame + 656));
   v4 = 1;
   goto after_3;
 after_2:;
   v6 = 0;
   v7 = 0;
-  if (load8(frame + 481) != 4u)
+  if (load8(frame + 561) != 4u)
     goto after_4;
-  pkix_private_key_OneAsymmetricKey_from_der(frame + 304, bytes, bytes_len);
-  v4 = (uint32_t)(load8(frame + 304) == 0u);
-  v5 = load64(frame + 416);
-  v6 = load64(frame + 392);
-  v7 = load64(frame + 328);
+  pkix_private_key_OneAsymmetricKey_from_der(frame + 296, bytes, bytes_len);
+  v4 = (uint32_t)(load8(frame + 296) == 0u);
+  v5 = load64(frame + 408);
+  v6 = load64(frame + 384);
+  v7 = load64(frame + 320);
 after_4:;
-  store64(frame + 606, load64(frame + 320));
-  store64(frame + 598, load64(frame + 312));
-  store64(frame + 616, load64(frame + 336));
-  store64(frame + 624, load64(frame + 344));
-  store64(frame + 632, load64(frame + 352));
-  store64(frame + 640, load64(frame + 360));
-  store64(frame + 648, load64(frame + 368));
-  store64(frame + 464, load64(frame + 376));
-  store64(frame + 472, load64(frame + 384));
-  store64(frame + 456, load64(frame + 408));
-  store64(frame + 448, load64(frame + 400));
-  store64(frame + 728, load64(frame + 440));
-  store64(frame + 720, load64(frame + 432));
-  store64(frame + 712, load64(frame + 424));
+  store64(frame + 550, load64(frame + 312));
+  store64(frame + 542, load64(frame + 304));
+  store64(frame + 496, load64(frame + 328));
+  store64(frame + 504, load64(frame + 336));
+  store64(frame + 512, load64(frame + 344));
+  store64(frame + 520, load64(frame + 352));
+  store64(frame + 528, load64(frame + 360));
+  store64(frame + 480, load64(frame + 368));
+  store64(frame + 488, load64(frame + 376));
+  store64(frame + 472, load64(frame + 400));
+  store64(frame + 464, load64(frame + 392));
+  store64(frame + 456, load64(frame + 432));
+  store64(frame + 448, load64(frame + 424));
+  store64(frame + 440, load64(frame + 416));
 after_3:;
-  store64(frame + 158, load64(frame + 606));
-  store64(frame + 150, load64(frame + 598));
-  store64(frame + 104, load64(frame + 616));
-  store64(frame + 112, load64(frame + 624));
-  store64(frame + 120, load64(frame + 632));
-  store64(frame + 128, load64(frame + 640));
-  store64(frame + 136, load64(frame + 648));
-  store64(frame + 88, load64(frame + 464));
-  store64(frame + 96, load64(frame + 472));
-  store64(frame + 80, load64(frame + 456));
-  store64(frame + 72, load64(frame + 448));
-  store64(frame + 48, load64(frame + 712));
-  store64(frame + 56, load64(frame + 720));
-  store64(frame + 64, load64(frame + 728));
+  store64(frame + 150, load64(frame + 550));
+  store64(frame + 142, load64(frame + 542));
+  store64(frame + 96, load64(frame + 496));
+  store64(frame + 104, load64(frame + 504));
+  store64(frame + 112, load64(frame + 512));
+  store64(frame + 120, load64(frame + 520));
+  store64(frame + 128, load64(frame + 528));
+  store64(frame + 80, load64(frame + 480));
+  store64(frame + 88, load64(frame + 488));
+  store64(frame + 72, load64(frame + 472));
+  store64(frame + 64, load64(frame + 464));
+  store64(frame + 40, load64(frame + 440));
+  store64(frame + 48, load64(frame + 448));
+  store64(frame + 56, load64(frame + 456));
   if (v4 == 0u)
     goto after_5;
-  store64(frame + 184, v7);
+  store64(frame + 176, v7);
+  store64(frame + 184, load64(frame + 96));
   store64(frame + 192, load64(frame + 104));
   store64(frame + 200, load64(frame + 112));
   store64(frame + 208, load64(frame + 120));
   store64(frame + 216, load64(frame + 128));
-  store64(frame + 224, load64(frame + 136));
+  store64(frame + 224, load64(frame + 80));
   store64(frame + 232, load64(frame + 88));
-  store64(frame + 240, load64(frame + 96));
-  bytes = (frame + 144) | 6;
-  store64(frame + 176, load64(bytes + 8));
-  store64(frame + 168, load64(bytes));
-  store64(frame + 248, v6);
-  store64(frame + 272, v5);
+  bytes = (frame + 136) | 6;
+  store64(frame + 168, load64(bytes + 8));
+  store64(frame + 160, load64(bytes));
+  store64(frame + 240, v6);
+  store64(frame + 264, v5);
+  store64(frame + 248, load64(frame + 64));
   store64(frame + 256, load64(frame + 72));
-  store64(frame + 264, load64(frame + 80));
+  store64(frame + 272, load64(frame + 40));
   store64(frame + 280, load64(frame + 48));
   store64(frame + 288, load64(frame + 56));
-  store64(frame + 296, load64(frame + 64));
-  if (load64(frame + 176) != 7)
+  if (load64(frame + 168) != 7)
     goto after_6;
-  bytes = load64(frame + 168);
+  bytes = load64(frame + 160);
   if (load8(bytes) != 42u)
     goto after_6;
   if (((uint32_t)load8(bytes + 1) & 0xffu) != 134u)
@@ -30554,232 +30669,226 @@ after_3:;
     goto after_6;
   if ((v7 & 0xff) != 1)
     goto after_6;
-  if (((uint32_t)load8(frame + 208) & 0xffu) != 6u)
+  if (((uint32_t)load8(frame + 200) & 0xffu) != 6u)
     goto after_6;
-  curves_curve_Curve_from_content(frame + 16, load64(frame + 216), load64(frame + 224));
-  if (load8(frame + 16) != 1u)
+  curves_curve_Curve_from_content(frame + 8, load64(frame + 208), load64(frame + 216));
+  if (load8(frame + 8) != 1u)
     goto after_6;
-  v8 = load8(frame + 17);
-  fill(frame + 480, 0, 104);
-  fill(frame + 616, 0, 96);
-  store64(frame + 608, 0);
-  store64(frame + 600, 0);
-  store64(frame + 592, 0);
-  store64(frame + 728, 0);
-  store64(frame + 720, 0);
-  store64(frame + 712, 0);
-  bytes = v6 & 0xff;
-  v4 = (uint32_t)(bytes == 1);
-  v7 = v4 ? load64(frame + 264) : 0ull;
-  v6 = v4 ? load64(frame + 256) : 0ull;
+  v4 = load8(frame + 9);
+  v8 = 0;
+  store64(frame + 512, 0);
+  store64(frame + 504, 0);
+  store64(frame + 496, 0);
   v5 = v5 & 0xff;
-  if (v5 != 1)
-    goto after_7;
-  store64(frame + 728, load64(frame + 64));
-  store64(frame + 720, load64(frame + 56));
-  store64(frame + 712, load64(frame + 48));
-after_7:;
-  store64(frame + 336, load64(frame + 712));
-  store64(frame + 344, load64(frame + 720));
-  store64(frame + 352, load64(frame + 728));
-  store64(frame + 328, v5);
-  store64(frame + 320, v7);
-  store64(frame + 312, v6);
-  store64(frame + 304, bytes);
-  bytes = load64(frame + 240);
-  t2 = sec1_c_fields_fields_len(frame + 304);
-  v7 = t2;
-  if (bytes > 0xfffffff)
-    goto after_8;
-  if (bytes >= 128)
-    goto after_9;
-  v5 = 2;
-  goto after_10;
-after_5:;
-  der_view_faults_container_container_fault(frame + 24, bytes, bytes_len);
-  v4 = 0;
-  if (load8(frame + 24) != 1u)
-    goto after_11;
-  store64(offset, load64(frame + 32));
-  v4 = load32(CONSTANT(10928) + ((uint64_t)load8(frame + 40) << 2));
-  goto after_11;
-after_9:;
-  if (bytes >= 256)
-    goto after_12;
-  v5 = 3;
-  goto after_10;
-after_12:;
-  if (bytes >= 0x10000)
-    goto after_13;
-  v5 = 4;
-  goto after_10;
-after_13:;
-  v5 = (bytes < 0x1000000) ? 5ull : 6ull;
-after_10:;
-  if ((v5 + bytes) >= 0x10000000)
-    goto after_8;
-  v5 = load64(frame + 232);
-  store64(frame + 304, CONSTANT(0));
-  v4 = 0;
-  v6 = frame + 312;
-  fill(v6, 0, 96);
-  bytes_len = bytes_len - (bytes + v7);
-  if (bytes == 0)
-    goto after_14;
-  if (bytes == 1)
-    goto after_14;
-  if (((uint32_t)load8(v5) & 0xffu) != 48u)
-    goto after_14;
-  v9 = v5 + 2;
-  v7 = bytes + 0xfffffffffffffffe;
-  v10 = (uint32_t)(int8_t)(uint32_t)load8(v5 + 1);
-  if ((int32_t)v10 >= 0)
-    goto after_15;
-  if (((v10 + 123u) & 0xffu) < 252u)
-    goto after_14;
-  v11 = (uint64_t)(int32_t)v10 + 128;
-  if (v7 < v11)
-    goto after_14;
-  v10 = load8(v9);
-  v12 = 0;
-  if (v11 == 1)
-    goto after_16;
-  v12 = v10 << 8;
-  v10 = v12 | (uint32_t)load8(v5 + 3);
-  if (v11 == 2)
-    goto after_16;
-  v12 = v10 << 8;
-  v10 = v12 | (uint32_t)load8(v5 + 4);
-  if (v11 == 3)
-    goto after_16;
-  v12 = v10 << 8;
-  v10 = v12 | (uint32_t)load8(v5 + 5);
-after_16:;
-  if (v10 < 128u)
-    goto after_14;
-  if (((uint32_t)load8(v9) & 0xffu) == 0u)
-    goto after_14;
-  if (v12 > 0xfffffffu)
-    goto after_14;
-  v9 = v9 + v11;
-  v7 = v7 - v11;
-after_15:;
-  v11 = v10;
-  if (v7 < v11)
-    goto after_14;
-  sec1_private_key_EcPrivateKeyReadInPlace_read_content(frame + 8, frame + 304, v9, v11);
-  if (v7 != v11)
-    goto after_14;
-  if ((uint32_t)load8(frame + 8) & 0xffu)
-    goto after_14;
-  v5 = load64(frame + 304);
-  move(frame + 616, v6, 96);
-  store64(frame + 480, v5);
-  move(frame + 488, frame + 616, 96);
-  v4 = 0;
-  if (load8(frame + 496) != 1u)
-    goto after_11;
-  v5 = load64(frame + 552);
-  curves_curve_Curve_from_content(frame, frame + 512, v5);
-  if (load8(frame) != 1u)
-    goto after_17;
-  if (((uint32_t)load8(frame + 1) & 0xffu) == (v8 & 0xffu))
-    goto after_11;
-after_17:;
   v7 = 0;
-  if (load8(frame + 560) != 1u)
-    goto after_18;
-  v7 = load64(frame + 576);
-  if (v7 > 0xffffffe)
+  if ((v6 & 0xff) != 1)
+    goto after_7;
+  bytes = load32(frame + 256);
+  v9 = (uint32_t)bytes;
+  if (v9 >= 128u)
     goto after_8;
-  v6 = v7 + 1;
-  if (v7 >= 127)
-    goto after_19;
-  v7 = 2;
-  goto after_20;
-after_19:;
-  if (v7 >= 255)
-    goto after_21;
-  v7 = 3;
-  goto after_20;
-after_21:;
-  if (v7 >= 65535)
-    goto after_22;
-  v7 = 4;
-  goto after_20;
-after_22:;
-  v7 = (v7 < 0xffffff) ? 5ull : 6ull;
-after_20:;
-  v7 = v6 + v7;
-  if (v7 > 0xfffffff)
-    goto after_8;
-  if (v7 >= 128)
-    goto after_23;
-  v6 = 0xfffffffffffffffe;
-  goto after_24;
-after_23:;
-  if (v7 >= 256)
-    goto after_25;
-  v6 = 0xfffffffffffffffd;
-  goto after_24;
-after_25:;
-  if (v7 >= 0x10000)
-    goto after_26;
-  v6 = 0xfffffffffffffffc;
-  goto after_24;
-after_26:;
-  v6 = (v7 < 0x1000000) ? 0xfffffffffffffffbull : 0xfffffffffffffffaull;
-after_24:;
-  v7 = v6 - v7;
-after_18:;
-  if (v5 > 0xfffffff)
-    goto after_8;
-  if (v5 >= 128)
-    goto after_27;
-  v6 = 2;
-  goto after_28;
-after_27:;
-  if (v5 >= 256)
-    goto after_29;
-  v6 = 3;
-  goto after_28;
-after_29:;
-  if (v5 >= 0x10000)
-    goto after_30;
-  v6 = 4;
-  goto after_28;
-after_30:;
-  v6 = (v5 < 0x1000000) ? 5ull : 6ull;
-after_28:;
-  if ((v6 + v5) > 0xfffffff)
-    goto after_8;
-  store64(offset, ((bytes_len + bytes) - v5) + v7);
-  v4 = 12;
-  goto after_11;
-after_14:;
-  der_view_faults_key_key_fault(frame + 592, v5, bytes);
-  if (load8(frame + 592) != 1u)
+  v7 = 0xfffffffffffffffe;
+  goto after_9;
+after_5:;
+  der_view_faults_container_container_fault(frame + 16, bytes, bytes_len);
+  v4 = 0;
+  if (load8(frame + 16) != 1u)
+    goto after_10;
+  store64(offset, load64(frame + 24));
+  v4 = load32(CONSTANT(10928) + ((uint64_t)load8(frame + 32) << 2));
+  goto after_10;
+after_8:;
+  if (v9 >= 256u)
     goto after_11;
-  store64(offset, load64(frame + 600) + bytes_len);
-  v4 = load32(CONSTANT(10928) + ((uint64_t)load8(frame + 608) << 2));
-  goto after_11;
-after_6:;
-  t3 = sec1_c_container_fault_tell_curve(bytes_len, frame + 168, offset);
-  v4 = t3;
-  goto after_11;
-after_1:;
+  v7 = 0xfffffffffffffffd;
+  goto after_9;
+after_11:;
+  if (v9 >= 0x10000u)
+    goto after_12;
+  v7 = 0xfffffffffffffffc;
+  goto after_9;
+after_12:;
+  v7 = (v9 < 0x1000000u) ? 0xfffffffffffffffbull : 0xfffffffffffffffaull;
+after_9:;
+  v7 = v7 - bytes;
+after_7:;
+  bytes = load64(frame + 232);
+  if (v5 != 1)
+    goto after_13;
+  v5 = load64(frame + 288) + 1;
+  if (v5 >= 0x10000000)
+    goto after_14;
+  if (v5 >= 128)
+    goto after_15;
+  v6 = 0xfffffffffffffffe;
+  goto after_16;
+after_15:;
+  if (v5 >= 256)
+    goto after_17;
+  v6 = 0xfffffffffffffffd;
+  goto after_16;
+after_17:;
+  if (v5 >= 0x10000)
+    goto after_18;
+  v6 = 0xfffffffffffffffc;
+  goto after_16;
+after_18:;
+  v6 = (v5 < 0x1000000) ? 0xfffffffffffffffbull : 0xfffffffffffffffaull;
+after_16:;
+  v8 = v6 - v5;
+after_13:;
+  if (bytes >= 0x10000000)
+    goto after_14;
+  v5 = load64(frame + 224);
+  store64(frame + 304, 0);
+  store64(frame + 296, CONSTANT(0));
+  store64(frame + 312, 0);
   store64(frame + 320, 0);
+  store64(frame + 328, 0);
+  store64(frame + 336, 0);
+  store64(frame + 344, 0);
+  store64(frame + 352, 0);
+  bytes_len = ((bytes_len - bytes) + v7) + v8;
+  if (bytes == 0)
+    goto after_19;
+  if (bytes == 1)
+    goto after_19;
+  if (((uint32_t)load8(v5) & 0xffu) != 48u)
+    goto after_19;
+  v6 = v5 + 2;
+  v7 = bytes + 0xfffffffffffffffe;
+  v9 = (uint32_t)(int8_t)(uint32_t)load8(v5 + 1);
+  if ((int32_t)v9 >= 0)
+    goto after_20;
+  if (((v9 + 123u) & 0xffu) < 252u)
+    goto after_19;
+  v8 = (uint64_t)(int32_t)v9 + 128;
+  if (v7 < v8)
+    goto after_19;
+  v9 = load8(v6);
+  v10 = 0;
+  if (v8 == 1)
+    goto after_21;
+  v10 = v9 << 8;
+  v9 = v10 | (uint32_t)load8(v5 + 3);
+  if (v8 == 2)
+    goto after_21;
+  v10 = v9 << 8;
+  v9 = v10 | (uint32_t)load8(v5 + 4);
+  if (v8 == 3)
+    goto after_21;
+  v10 = v9 << 8;
+  v9 = v10 | (uint32_t)load8(v5 + 5);
+after_21:;
+  if (v9 < 128u)
+    goto after_19;
+  if (((uint32_t)load8(v6) & 0xffu) == 0u)
+    goto after_19;
+  if (v10 > 0xfffffffu)
+    goto after_19;
+  v6 = v6 + v8;
+  v7 = v7 - v8;
+after_20:;
+  v8 = v9;
+  if (v7 < v8)
+    goto after_19;
+  sec1_borrowed_key_BorrowedKeyReadInPlace_read_content(frame, frame + 296, v6, v8);
+  if (v7 != v8)
+    goto after_19;
+  if ((uint32_t)load8(frame) & 0xffu)
+    goto after_19;
+  v5 = frame + 304;
+  store64(frame + 568, load64(v5));
+  store64(frame + 576, load64(v5 + 8));
+  store64(frame + 584, load64(v5 + 16));
+  store64(frame + 592, load64(v5 + 24));
+  store64(frame + 600, load64(v5 + 32));
+  store64(frame + 608, load64(v5 + 40));
+  store64(frame + 616, load64(v5 + 48));
+  store64(frame + 560, load64(frame + 296));
+  t2 = sec1_c_private_key_names_curve(frame + 560, v4);
+  if (t2 == 0u)
+    goto after_22;
+  v4 = 0;
+  goto after_10;
+after_22:;
+  v5 = 0;
+  if (load8(frame + 600) != 1u)
+    goto after_23;
+  v5 = load64(frame + 616);
+  if (v5 > 0xffffffe)
+    goto after_14;
+  v7 = v5 + 1;
+  if (v5 >= 127)
+    goto after_24;
+  v5 = 2;
+  goto after_25;
+after_24:;
+  if (v5 >= 255)
+    goto after_26;
+  v5 = 3;
+  goto after_25;
+after_26:;
+  if (v5 >= 65535)
+    goto after_27;
+  v5 = 4;
+  goto after_25;
+after_27:;
+  v5 = (v5 < 0xffffff) ? 5ull : 6ull;
+after_25:;
+  v5 = v7 + v5;
+  if (v5 > 0xfffffff)
+    goto after_14;
+  if (v5 >= 128)
+    goto after_28;
+  v7 = 0xfffffffffffffffe;
+  goto after_29;
+after_28:;
+  if (v5 >= 256)
+    goto after_30;
+  v7 = 0xfffffffffffffffd;
+  goto after_29;
+after_30:;
+  if (v5 >= 0x10000)
+    goto after_31;
+  v7 = 0xfffffffffffffffc;
+  goto after_29;
+after_31:;
+  v7 = (v5 < 0x1000000) ? 0xfffffffffffffffbull : 0xfffffffffffffffaull;
+after_29:;
+  v5 = v7 - v5;
+after_23:;
+  t3 = (load8(frame + 576) == 1u) ? ((v5 + bytes) - load64(frame + 592)) : 0ull;
+  store64(offset, t3 + bytes_len);
+  v4 = 12;
+  goto after_10;
+after_19:;
+  der_view_faults_key_key_fault(frame + 496, v5, bytes);
+  if (load8(frame + 496) == 1u)
+    goto after_32;
+  v4 = 0;
+  goto after_10;
+after_32:;
+  store64(offset, load64(frame + 504) + bytes_len);
+  v4 = load32(CONSTANT(10928) + ((uint64_t)load8(frame + 512) << 2));
+  goto after_10;
+after_6:;
+  t4 = sec1_c_container_fault_tell_curve(bytes_len, frame + 160, offset);
+  v4 = t4;
+  goto after_10;
+after_1:;
   store64(frame + 312, 0);
   store64(frame + 304, 0);
-  der_view_faults_key_key_fault(frame + 304, bytes, bytes_len);
+  store64(frame + 296, 0);
+  der_view_faults_key_key_fault(frame + 296, bytes, bytes_len);
   v4 = 0;
-  if (load8(frame + 304) != 1u)
-    goto after_11;
-  store64(offset, load64(frame + 312));
-  v4 = load32(CONSTANT(10928) + ((uint64_t)load8(frame + 320) << 2));
-after_11:;
+  if (load8(frame + 296) != 1u)
+    goto after_10;
+  store64(offset, load64(frame + 304));
+  v4 = load32(CONSTANT(10928) + ((uint64_t)load8(frame + 312) << 2));
+after_10:;
   return v4;
-after_8:;
+after_14:;
   trap();
 }
 
@@ -30787,187 +30896,161 @@ after_8:;
 static uint32_t export_sec1_public_key_fault_at(uint64_t bytes, uint64_t bytes_len, uint64_t offset)
 {
   FRAME(128)
-  uint32_t v7 = 0, v10 = 0, v12 = 0, t0;
-  uint64_t v3 = 0, v5 = 0, v6 = 0, v8 = 0, v9 = 0, v11 = 0, v13 = 0;
-  v3 = frame;
+  uint32_t v7 = 0, v9 = 0, v12 = 0, t0;
+  uint64_t v4 = 0, v5 = 0, v6 = 0, v8 = 0, v10 = 0, v11 = 0;
   fill(frame + 8, 0, 96);
   bytes = bytes + ((bytes == 0) ? 4096ull : 0ull);
   pkix_public_key_SubjectPublicKeyInfo_from_der(frame + 8, bytes, bytes_len);
   if (load8(frame + 8))
     goto after_1;
-  v5 = load64(frame + 96);
-  bytes = v5 + 1;
-  if (bytes > 0xfffffff)
+  v4 = load64(frame + 96);
+  v5 = v4 + 1;
+  if (v5 >= 0x10000000)
     goto after_2;
-  if (bytes >= 128)
+  bytes = load64(frame + 24);
+  if (v5 >= 128)
     goto after_3;
-  v3 = 2;
+  v5 = 0xfffffffffffffffe;
   goto after_4;
 after_3:;
-  if (bytes >= 256)
+  if (v5 >= 256)
     goto after_5;
-  v3 = 3;
+  v5 = 0xfffffffffffffffd;
   goto after_4;
 after_5:;
-  if (bytes >= 0x10000)
+  if (v5 >= 0x10000)
     goto after_6;
-  v3 = 4;
+  v5 = 0xfffffffffffffffc;
   goto after_4;
 after_6:;
-  v3 = (bytes < 0x1000000) ? 5ull : 6ull;
+  v5 = (v5 < 0x1000000) ? 0xfffffffffffffffbull : 0xfffffffffffffffaull;
 after_4:;
-  bytes = v3 + bytes;
-  if (bytes >= 0x10000000)
-    goto after_2;
   v6 = load64(frame + 48);
   v7 = load8(frame + 32);
-  v3 = load64(frame + 16);
-  v8 = bytes_len - bytes;
-  bytes = load64(frame + 24);
+  v5 = (bytes_len + (v4 ^ 0xffffffffffffffff)) + v5;
   if (bytes != 7)
     goto after_7;
-  if (load8(v3) != 42u)
+  bytes_len = load64(frame + 16);
+  if (load8(bytes_len) != 42u)
     goto after_7;
-  if (((uint32_t)load8(v3 + 1) & 0xffu) != 134u)
+  if (((uint32_t)load8(bytes_len + 1) & 0xffu) != 134u)
     goto after_7;
-  if (((uint32_t)load8(v3 + 2) & 0xffu) != 72u)
+  if (((uint32_t)load8(bytes_len + 2) & 0xffu) != 72u)
     goto after_7;
-  if (((uint32_t)load8(v3 + 3) & 0xffu) != 206u)
+  if (((uint32_t)load8(bytes_len + 3) & 0xffu) != 206u)
     goto after_7;
-  v9 = load64(frame + 88);
-  v10 = load8(frame + 80);
-  bytes_len = load64(frame + 72);
+  v8 = load64(frame + 88);
+  v9 = load8(frame + 80);
+  v10 = load64(frame + 72);
   v11 = load64(frame + 64);
   v12 = load8(frame + 56);
-  t0 = core_cmp_slices_groups_equal(v3, 7, CONSTANT(281));
+  t0 = core_cmp_slices_groups_equal(bytes_len, 7, CONSTANT(281));
   if (t0 == 0u)
     goto after_7;
-  v13 = 0;
-  if ((v7 & 0xffu) != 1u)
+  if ((v7 & 0xffu) == 1u)
     goto after_8;
+  bytes_len = 0;
+  v4 = 2;
+  goto after_9;
+after_8:;
   if ((v12 & 0xffu) != 6u)
-    goto after_9;
-  curves_curve_Curve_from_content(frame, v11, bytes_len);
+    goto after_10;
+  curves_curve_Curve_from_content(frame, v11, v10);
   if (load8(frame) != 1u)
-    goto after_9;
-  if (v10 & 0xffu)
     goto after_10;
-  if (v5 == 0)
-    goto after_10;
+  if (v9 & 0xffu)
+    goto after_11;
+  if (v4 == 0)
+    goto after_11;
   bytes = load64(CONSTANT(11728) + (((uint64_t)load8(frame + 1) & 0xff) << 3));
   bytes_len = 1;
-  v12 = load8(v9);
-  switch (v12) {
+  v7 = load8(v8);
+  switch (v7) {
   case 4:
-    goto after_11;
-  case 2: case 3: case 5:
     goto after_12;
-  case 0:
+  case 2: case 3: case 5:
     goto after_13;
-  case 6: case 7:
+  case 0:
     goto after_14;
+  case 6: case 7:
+    goto after_15;
   default:
-    goto after_10;
+    goto after_11;
   }
 after_7:;
-  v13 = 0;
-  if ((v7 & 0xffu) != 1u)
-    goto after_15;
-after_9:;
-  v13 = v6;
-after_15:;
-  if (bytes == 0)
-    goto after_2;
-after_8:;
   bytes_len = 0;
-  v10 = 1;
-again_17:;
-  v12 = (uint32_t)(int8_t)(uint32_t)load8(v3 + bytes_len);
-  if ((v10 & 1u) == 0u)
+  if ((v7 & 0xffu) != 1u)
     goto after_16;
-  if (v12 == 0xffffff80u)
-    goto after_2;
+after_10:;
+  bytes_len = v6;
 after_16:;
-  v10 = (uint32_t)((int32_t)v12 > -1);
-  bytes_len = bytes_len + 1;
-  if (bytes != bytes_len)
-    goto again_17;
-  if (bytes > 0xfffffff)
-    goto after_2;
-  if ((int32_t)v12 < 0)
-    goto after_2;
-  if (bytes >= 128)
-    goto after_18;
-  bytes_len = 2;
-  goto after_19;
-after_18:;
-  if (bytes >= 256)
-    goto after_20;
-  bytes_len = 3;
-  goto after_19;
-after_20:;
-  if (bytes >= 0x10000)
-    goto after_21;
-  bytes_len = 4;
-  goto after_19;
-after_21:;
-  bytes_len = (bytes < 0x1000000) ? 5ull : 6ull;
+  v12 = (uint32_t)bytes;
+  if (v12 >= 128u)
+    goto after_17;
+  v4 = 2;
+  goto after_18;
+after_17:;
+  if (v12 >= 256u)
+    goto after_19;
+  v4 = 3;
+  goto after_18;
 after_19:;
-  bytes = bytes_len + bytes;
-  if (bytes > 0xfffffff)
-    goto after_2;
+  if (v12 >= 0x10000u)
+    goto after_20;
+  v4 = 4;
+  goto after_18;
+after_20:;
+  v4 = (v12 < 0x1000000u) ? 5ull : 6ull;
+after_18:;
+  if ((v7 & 0xffu) == 1u)
+    goto after_21;
   bytes_len = 0;
-  if ((v7 & 0xffu) != 1u)
-    goto after_22;
-  bytes_len = v13;
-  if (v13 > 0xfffffff)
-    goto after_2;
-after_22:;
-  bytes_len = bytes_len + bytes;
-  if (bytes_len > 0xfffffff)
-    goto after_2;
-  if (bytes_len >= 128)
-    goto after_23;
-  bytes = 2;
-  goto after_24;
-after_23:;
-  if (bytes_len >= 256)
-    goto after_25;
-  bytes = 3;
-  goto after_24;
-after_25:;
-  if (bytes_len >= 0x10000)
-    goto after_26;
-  bytes = 4;
-  goto after_24;
-after_26:;
-  bytes = (bytes_len < 0x1000000) ? 5ull : 6ull;
-after_24:;
-  bytes_len = bytes + bytes_len;
+  goto after_9;
+after_21:;
   if (bytes_len >= 0x10000000)
     goto after_2;
-  store64(offset, v8 - bytes_len);
-  v12 = 11;
-  goto after_27;
-after_11:;
-  if (v5 != ((bytes << 1) | 1))
-    goto after_10;
-  v12 = 0;
-  goto after_27;
+after_9:;
+  bytes_len = (v4 + bytes) + bytes_len;
+  v7 = (uint32_t)bytes_len;
+  if (v7 >= 128u)
+    goto after_22;
+  bytes = 0xfffffffffffffffe;
+  goto after_23;
+after_22:;
+  if (v7 >= 256u)
+    goto after_24;
+  bytes = 0xfffffffffffffffd;
+  goto after_23;
+after_24:;
+  if (v7 >= 0x10000u)
+    goto after_25;
+  bytes = 0xfffffffffffffffc;
+  goto after_23;
+after_25:;
+  bytes = (v7 < 0x1000000u) ? 0xfffffffffffffffbull : 0xfffffffffffffffaull;
+after_23:;
+  store64(offset, (v5 - (bytes_len & 0xffffffff)) + bytes);
+  v7 = 11;
+  goto after_26;
 after_12:;
-  bytes_len = bytes | 1;
+  if (v4 != ((bytes << 1) | 1))
+    goto after_11;
+  v7 = 0;
+  goto after_26;
 after_13:;
-  if (v5 != bytes_len)
-    goto after_10;
-  v12 = 0;
-  goto after_27;
+  bytes_len = bytes | 1;
 after_14:;
-  if (v5 != ((bytes << 1) | 1))
-    goto after_10;
-  if (((uint32_t)load8((v9 + v5) + 0xffffffffffffffff) ^ v12) & 1u)
-    goto after_10;
-  v12 = 0;
-  goto after_27;
+  if (v4 != bytes_len)
+    goto after_11;
+  v7 = 0;
+  goto after_26;
+after_15:;
+  if (v4 != ((bytes << 1) | 1))
+    goto after_11;
+  if (((uint32_t)load8((v8 + v4) + 0xffffffffffffffff) ^ v7) & 1u)
+    goto after_11;
+  v7 = 0;
+  goto after_26;
 after_1:;
   store64(frame + 120, 0);
   store64(frame + 112, 0);
@@ -30975,24 +31058,24 @@ after_1:;
   der_view_faults_public_key_info(frame + 104, bytes_len, bytes, bytes_len);
   bytes = load64(frame + 120);
   if (load8(frame + 104))
-    goto after_28;
+    goto after_27;
   if (bytes != 0)
-    goto after_29;
-  v12 = 0;
-  goto after_27;
-after_29:;
-  store64(offset, bytes_len - bytes);
-  v12 = 4;
-  goto after_27;
+    goto after_28;
+  v7 = 0;
+  goto after_26;
 after_28:;
-  store64(offset, load64(frame + 112));
-  v12 = load32(CONSTANT(10928) + ((bytes & 0xff) << 2));
-  goto after_27;
-after_10:;
-  store64(offset, v8);
-  v12 = 9;
+  store64(offset, bytes_len - bytes);
+  v7 = 4;
+  goto after_26;
 after_27:;
-  return v12;
+  store64(offset, load64(frame + 112));
+  v7 = load32(CONSTANT(10928) + ((bytes & 0xff) << 2));
+  goto after_26;
+after_11:;
+  store64(offset, v5);
+  v7 = 9;
+after_26:;
+  return v7;
 after_2:;
   trap();
 }
@@ -32784,246 +32867,166 @@ static uint32_t export_sec1_key_write(uint64_t private_key, uint64_t private_key
     uint64_t curve, uint64_t curve_len, uint64_t public_key, uint64_t public_key_len,
     uint64_t has_public_key, uint64_t out, uint64_t out_len, uint64_t len)
 {
-  FRAME(256)
-  uint32_t v13 = 0, v14 = 0, v15 = 0, v16 = 0, v17 = 0, v18 = 0, v19 = 0, v20 = 0, t0, t1, t2,
+  FRAME(208)
+  uint32_t v13 = 0, v15 = 0, v16 = 0, v17 = 0, v18 = 0, v19 = 0, v20 = 0, v21 = 0, t0, t1, t2,
       t3, t4, t5;
-  uint64_t v11 = 0, v12 = 0, v21 = 0, v22 = 0, v23 = 0, t6;
-  if (curve_len != 0)
-    goto after_1;
-  curve = 0;
-  store64(frame + 136, 0);
-  store64(frame + 128, 0);
-  store64(frame + 120, 0);
-  store64(frame + 112, 0);
-  v11 = 0;
-  goto after_2;
-after_1:;
+  uint64_t v10 = 0, v12 = 0, v14 = 0, t6;
+  v10 = frame;
   v12 = curve + ((curve == 0) ? 4096ull : 0ull);
-  if (curve_len != 8)
+  if (curve_len > 8)
+    goto after_1;
+  v13 = 1;
+  v14 = curve_len;
+  curve = 0;
+  switch ((uint32_t)curve_len) {
+  case 8:
+    goto after_2;
+  case 1: case 2: case 3: case 4: case 5: case 6: case 7:
+    goto after_1;
+  default:
     goto after_3;
+  }
+after_2:;
   v13 = (uint32_t)(int8_t)(uint32_t)load8(v12);
-  v14 = (uint32_t)(int8_t)(uint32_t)load8(v12 + 1);
-  t0 = (uint32_t)((v13 & 0xffu) == 128u) | ((uint32_t)((v14 & 0xffu) == 128u) << 1);
-  v15 = (uint32_t)(int8_t)(uint32_t)load8(v12 + 3);
-  v16 = (uint32_t)(int8_t)(uint32_t)load8(v12 + 2);
-  t1 = ((uint32_t)((v15 & 0xffu) == 128u) << 3) | ((uint32_t)((v16 & 0xffu) == 128u) << 2);
-  v17 = (uint32_t)(int8_t)(uint32_t)load8(v12 + 4);
-  v18 = (uint32_t)(int8_t)(uint32_t)load8(v12 + 5);
-  t2 = (uint32_t)((v17 & 0xffu) == 128u) | ((uint32_t)((v18 & 0xffu) == 128u) << 1);
-  v19 = (uint32_t)(int8_t)(uint32_t)load8(v12 + 7);
-  v20 = (uint32_t)(int8_t)(uint32_t)load8(v12 + 6);
-  t3 = ((uint32_t)((v19 & 0xffu) == 128u) << 3) | ((uint32_t)((v20 & 0xffu) == 128u) << 2);
+  v15 = (uint32_t)(int8_t)(uint32_t)load8(v12 + 1);
+  t0 = (uint32_t)((v13 & 0xffu) == 128u) | ((uint32_t)((v15 & 0xffu) == 128u) << 1);
+  v16 = (uint32_t)(int8_t)(uint32_t)load8(v12 + 3);
+  v17 = (uint32_t)(int8_t)(uint32_t)load8(v12 + 2);
+  t1 = ((uint32_t)((v16 & 0xffu) == 128u) << 3) | ((uint32_t)((v17 & 0xffu) == 128u) << 2);
+  v18 = (uint32_t)(int8_t)(uint32_t)load8(v12 + 4);
+  v19 = (uint32_t)(int8_t)(uint32_t)load8(v12 + 5);
+  t2 = (uint32_t)((v18 & 0xffu) == 128u) | ((uint32_t)((v19 & 0xffu) == 128u) << 1);
+  v20 = (uint32_t)(int8_t)(uint32_t)load8(v12 + 7);
+  v21 = (uint32_t)(int8_t)(uint32_t)load8(v12 + 6);
+  t3 = ((uint32_t)((v20 & 0xffu) == 128u) << 3) | ((uint32_t)((v21 & 0xffu) == 128u) << 2);
   if ((t0 | t1) | ((t2 | t3) << 4))
     goto after_4;
-  t4 = ((uint32_t)((int32_t)v13 > -1) | ((uint32_t)((int32_t)v14 > -1) << 1)) |
-      (((uint32_t)((int32_t)v15 > -1) << 3) | ((uint32_t)((int32_t)v16 > -1) << 2));
-  t5 = ((uint32_t)((int32_t)v17 > -1) | ((uint32_t)((int32_t)v18 > -1) << 1)) |
-      (((uint32_t)((int32_t)v19 > -1) << 3) | ((uint32_t)((int32_t)v20 > -1) << 2));
+  v14 = 1;
+  t4 = ((uint32_t)((int32_t)v13 > -1) | ((uint32_t)((int32_t)v15 > -1) << 1)) |
+      (((uint32_t)((int32_t)v16 > -1) << 3) | ((uint32_t)((int32_t)v17 > -1) << 2));
+  t5 = ((uint32_t)((int32_t)v18 > -1) | ((uint32_t)((int32_t)v19 > -1) << 1)) |
+      (((uint32_t)((int32_t)v20 > -1) << 3) | ((uint32_t)((int32_t)v21 > -1) << 2));
   curve = t4 | (t5 << 4);
   if (((curve >> 1) | curve) != 255)
     goto after_4;
+  v13 = 0;
   goto after_5;
-after_3:;
-  if (curve_len > 39)
-    goto after_6;
+after_1:;
+  if ((curve_len + 0xffffffffffffffd8) >= 0xffffffffffffffd9)
+    goto after_4;
+  v13 = 5;
+  goto after_6;
 after_4:;
-  v11 = curve_len + 0xffffffffffffffff;
+  v10 = curve_len + 0xffffffffffffffff;
   v13 = 0;
   curve = v12;
-again_11:;
-  v14 = (uint32_t)(int8_t)(uint32_t)load8(curve);
-  if ((int32_t)v14 > -1)
+again_13:;
+  v14 = 1;
+  v15 = (uint32_t)(int8_t)(uint32_t)load8(curve);
+  if ((int32_t)v15 > -1)
     goto after_7;
-  v15 = v13 & 0xffu;
-  if (v15)
+  v16 = v13 & 0xffu;
+  if (v16)
     goto after_8;
-  if (v14 == 0xffffff80u)
-    goto after_6;
-  v13 = (v14 < 0xffffff90u) ? 1u : 2u;
-  goto after_9;
-after_8:;
-  if (v15 > 3u)
-    goto after_6;
-  v13 = v13 + 1u;
+  if (v15 != 0xffffff80u)
+    goto after_9;
+  v13 = 5;
+  goto after_6;
 after_9:;
-  if (v11 != 0)
-    goto after_10;
+  v13 = (v15 < 0xffffff90u) ? 1u : 2u;
+  goto after_10;
+after_8:;
+  if (v16 <= 3u)
+    goto after_11;
+  v13 = 5;
+  goto after_6;
+after_11:;
+  v13 = v13 + 1u;
+after_10:;
+  if (v10 != 0)
+    goto after_12;
+  v13 = 5;
   goto after_6;
 after_7:;
   v13 = 0;
-  if (v11 == 0)
+  if (v10 == 0)
     goto after_5;
-after_10:;
-  curve = curve + 1;
-  v11 = v11 + 0xffffffffffffffff;
-  goto again_11;
-after_6:;
-  v13 = 5;
-  goto after_12;
-after_5:;
-  curve = (curve_len > 38) ? 0ull : (39ull - curve_len);
-  if (curve == 0)
-    goto after_13;
-  fill((frame + 8) + curve_len, 0, curve);
-after_13:;
-  if (curve_len == 0)
-    goto after_14;
-  move(frame + 8, v12, curve_len);
-after_14:;
-  curve = load64(frame + 8);
-  store64(frame + 144, curve);
-  store64(frame + 198, curve);
-  store64(frame + 120, load64(frame + 16));
-  store64(frame + 136, load64(frame + 32));
-  store64(frame + 128, load64(frame + 24));
-  store64(frame + 112, curve);
-  t6 = ((uint64_t)load8((frame + 8) + 38) << 48) | ((uint64_t)load16(frame + 44) << 32);
-  v11 = (uint64_t)load32(frame + 40) | t6;
-  curve = 1;
-after_2:;
-  v12 = load64(frame + 136);
-  store64(frame + 168, v12);
-  v21 = load64(frame + 128);
-  store64(frame + 160, v21);
-  v22 = load64(frame + 120);
-  store64(frame + 152, v22);
-  v23 = load64(frame + 112);
-  store64(frame + 144, v23);
-  store64(frame + 32, 0);
-  store64(frame + 24, curve);
-  store64(frame + 16, private_key_len);
-  store64(frame + 8, private_key + ((private_key == 0) ? 4096ull : 0ull));
-  store64(frame + 40, v23);
-  store64(frame + 48, v22);
-  store64(frame + 56, v21);
-  store64(frame + 64, v12);
-  v13 = (uint32_t)(has_public_key != 0);
-  store64(frame + 104, v13 ? public_key_len : 0ull);
-  store64(frame + 96, v13 ? (public_key + ((public_key == 0) ? 4096ull : 0ull)) : 0ull);
-  v12 = v13;
-  store64(frame + 88, v12);
-  store64(frame + 72, v11);
-  store64(frame + 80, curve_len);
-  store64(frame + 112, 0);
-  store64(frame + 120, 0);
-  store64(frame + 176, 0);
-  public_key = (curve_len == 0) ? 0ull : (frame + 40);
-  v11 = frame + 96;
-  v13 = (uint32_t)(has_public_key == 0);
-  if (v13)
-    goto after_15;
-  store64(frame + 120, load64(v11 + 8));
-  store64(frame + 112, load64(v11));
-after_15:;
-  store64(frame + 200, load64(frame + 16));
-  store64(frame + 192, load64(frame + 8));
-  store64(frame + 232, v12);
-  store64(frame + 224, curve_len);
-  store64(frame + 216, public_key);
-  store64(frame + 208, curve);
-  store64(frame + 240, load64(frame + 112));
-  store64(frame + 248, load64(frame + 120));
-  sec1_der_part_Tuple2EncodePart_part_len(frame + 176, frame + 192);
-  v14 = load8(frame + 176);
-  if (v14)
-    goto after_16;
-  v15 = load32(frame + 180);
-  if (v15 >= 128u)
-    goto after_17;
-  private_key = 2;
-  goto after_18;
-after_17:;
-  if (v15 >= 256u)
-    goto after_19;
-  private_key = 3;
-  goto after_18;
-after_19:;
-  if (v15 >= 0x10000u)
-    goto after_20;
-  private_key = 4;
-  goto after_18;
-after_20:;
-  private_key = (v15 < 0x1000000u) ? 5ull : 6ull;
-after_18:;
-  private_key = private_key + (uint64_t)v15;
-  if (out_len < private_key)
-    goto after_16;
-  store64(frame + 128, private_key);
-  store64(frame + 120, private_key);
-  store64(frame + 112, out + ((out == 0) ? 4096ull : 0ull));
-  store64(frame + 176, 0);
-  store64(frame + 184, 0);
-  if (v13)
-    goto after_21;
-  store64(frame + 184, load64(v11 + 8));
-  store64(frame + 176, load64(v11));
-after_21:;
-  store64(frame + 200, load64(frame + 16));
-  store64(frame + 192, load64(frame + 8));
-  store64(frame + 232, v12);
-  store64(frame + 224, curve_len);
-  store64(frame + 216, public_key);
-  store64(frame + 208, curve);
-  store64(frame + 240, load64(frame + 176));
-  store64(frame + 248, load64(frame + 184));
-  sec1_der_part_Tuple2EncodePart_prepend_part(frame + 192, frame + 112);
-  v11 = load64(frame + 128);
-  curve = private_key - v11;
-  if (curve > 127)
-    goto after_22;
-  store16((load64(frame + 112) + v11) + 0xfffffffffffffffe,
-      (uint16_t)(((uint32_t)curve << 8) | 0x30u));
-  goto after_23;
-after_22:;
-  sec1_der_back_writer_BackWriter_prepend_long_header(frame + 112, 48, curve);
-after_23:;
-  store64(len, private_key);
-  v13 = 0;
-  goto after_12;
-after_16:;
-  store64(frame + 112, 0);
-  store64(frame + 120, 0);
-  store64(frame + 176, 0);
-  if (v13)
-    goto after_24;
-  store64(frame + 120, load64(v11 + 8));
-  store64(frame + 112, load64(v11));
-after_24:;
-  store64(frame + 200, load64(frame + 16));
-  store64(frame + 192, load64(frame + 8));
-  store64(frame + 232, v12);
-  store64(frame + 224, curve_len);
-  store64(frame + 216, public_key);
-  store64(frame + 208, curve);
-  store64(frame + 240, load64(frame + 112));
-  store64(frame + 248, load64(frame + 120));
-  sec1_der_part_Tuple2EncodePart_part_len(frame + 176, frame + 192);
-  if (load8(frame + 176))
-    goto after_25;
-  v13 = load32(frame + 180);
-  if (v13 >= 128u)
-    goto after_26;
-  curve = 2;
-  goto after_27;
-after_26:;
-  if (v13 >= 256u)
-    goto after_28;
-  curve = 3;
-  goto after_27;
-after_28:;
-  if (v13 >= 0x10000u)
-    goto after_29;
-  curve = 4;
-  goto after_27;
-after_29:;
-  curve = (v13 < 0x1000000u) ? 5ull : 6ull;
-after_27:;
-  store64(len, curve + (uint64_t)v13);
-  v13 = v14 ? 6u : 7u;
-  goto after_12;
-after_25:;
-  v13 = v14 ? 6u : 7u;
 after_12:;
+  curve = curve + 1;
+  v10 = v10 + 0xffffffffffffffff;
+  goto again_13;
+after_5:;
+  curve = v12;
+after_3:;
+  store64(frame + 72, curve_len);
+  store64(frame + 64, curve);
+  store64(frame + 56, v14);
+  store64(frame + 48, private_key_len);
+  store64(frame + 40, private_key + ((private_key == 0) ? 4096ull : 0ull));
+  v15 = (uint32_t)(has_public_key != 0);
+  store64(frame + 96, v15 ? public_key_len : 0ull);
+  store64(frame + 88, v15 ? (public_key + ((public_key == 0) ? 4096ull : 0ull)) : 0ull);
+  v12 = v15;
+  store64(frame + 80, v12);
+  sec1_der_codec_element_len(frame + 24, frame + 40);
+  v15 = load8(frame + 24);
+  if (v15 != 1u)
+    goto after_14;
+  v10 = load64(frame + 32);
+  if (out_len < v10)
+    goto after_14;
+  store64(frame + 120, v10);
+  store64(frame + 112, v10);
+  store64(frame + 104, out + ((out == 0) ? 4096ull : 0ull));
+  store64(frame + 192, 0);
+  store64(frame + 200, 0);
+  curve_len = v13 ? 0ull : curve_len;
+  curve = v13 ? 0ull : curve;
+  if (has_public_key == 0)
+    goto after_15;
+  public_key = frame + 88;
+  store64(frame + 200, load64(public_key + 8));
+  store64(frame + 192, load64(public_key));
+after_15:;
+  store64(frame + 136, load64(frame + 48));
+  store64(frame + 128, load64(frame + 40));
+  store64(frame + 168, v12);
+  store64(frame + 160, curve_len);
+  store64(frame + 152, curve);
+  store64(frame + 144, v14);
+  store64(frame + 176, load64(frame + 192));
+  store64(frame + 184, load64(frame + 200));
+  sec1_der_optional_OptionalEncodePart_prepend_part(frame + 168, frame + 104);
+  sec1_der_optional_OptionalEncodePart_prepend_part_2(frame + 144, frame + 104);
+  sec1_der_required_RequiredEncodePart_prepend_part(load64(frame + 128), load64(frame + 136),
+      frame + 104);
+  curve = load64(frame + 104);
+  v14 = load64(frame + 120);
+  v12 = curve + v14;
+  store8(v12 + 0xffffffffffffffff, 1);
+  v14 = v14 + 0xfffffffffffffffd;
+  store16(curve + v14, 258);
+  curve_len = v10 - v14;
+  if (curve_len > 127)
+    goto after_16;
+  store16(v12 + 0xfffffffffffffffb, (uint16_t)(((uint32_t)curve_len << 8) | 0x30u));
+  goto after_17;
+after_16:;
+  t6 = sec1_der_back_writer_prepend_long_header(curve, v14, 48, curve_len);
+after_17:;
+  store64(len, v10);
+  v13 = 0;
+  goto after_6;
+after_14:;
+  sec1_der_codec_element_len(frame + 8, frame + 40);
+  if (load8(frame + 8) != 1u)
+    goto after_18;
+  store64(len, load64(frame + 16));
+  v13 = (v15 == 1u) ? 7u : 6u;
+  goto after_6;
+after_18:;
+  v13 = (v15 == 1u) ? 7u : 6u;
+after_6:;
   return v13;
 }
 
@@ -33478,9 +33481,9 @@ after_2:;
 static uint32_t export_sec1_signature_write(uint64_t r, uint64_t r_len, uint64_t s,
     uint64_t s_len, uint64_t out, uint64_t out_len, uint64_t len)
 {
-  FRAME(64)
+  FRAME(32)
   uint32_t v10 = 0, v11 = 0;
-  uint64_t v7 = 0, v9 = 0, v12 = 0;
+  uint64_t v7 = 0, v9 = 0, v12 = 0, t0;
   v7 = frame;
   v7 = (s == 0) ? 4096ull : 0ull;
   r = r + ((r == 0) ? 4096ull : 0ull);
@@ -33602,20 +33605,17 @@ after_21:;
   store64(frame + 24, v7);
   store64(frame + 16, v7);
   store64(frame + 8, out + ((out == 0) ? 4096ull : 0ull));
-  store64(frame + 56, s_len);
-  store64(frame + 48, s);
-  store64(frame + 40, r_len);
-  store64(frame + 32, r);
-  sec1_der_required_RequiredEncodePart_prepend_part(frame + 48, frame + 8);
-  sec1_der_required_RequiredEncodePart_prepend_part(frame + 32, frame + 8);
+  sec1_der_required_RequiredEncodePart_prepend_part_2(s, s_len, frame + 8);
+  sec1_der_required_RequiredEncodePart_prepend_part_2(r, r_len, frame + 8);
+  r = load64(frame + 8);
   s = load64(frame + 24);
-  r = v7 - s;
-  if (r > 127)
+  r_len = v7 - s;
+  if (r_len > 127)
     goto after_24;
-  store16((load64(frame + 8) + s) + 0xfffffffffffffffe, (uint16_t)(((uint32_t)r << 8) | 0x30u));
+  store16((r + s) + 0xfffffffffffffffe, (uint16_t)(((uint32_t)r_len << 8) | 0x30u));
   goto after_25;
 after_24:;
-  sec1_der_back_writer_BackWriter_prepend_long_header(frame + 8, 48, r);
+  t0 = sec1_der_back_writer_prepend_long_header(r, s, 48, r_len);
 after_25:;
   store64(len, v7);
   v11 = 0;
@@ -33711,9 +33711,9 @@ static uint32_t export_sec1_private_key_info_write(uint64_t private_key,
     uint64_t private_key_len, uint64_t curve, uint64_t curve_len, uint64_t public_key,
     uint64_t public_key_len, uint64_t has_public_key, uint64_t out, uint64_t out_len, uint64_t len)
 {
-  FRAME(544)
+  FRAME(464)
   uint32_t v11 = 0;
-  uint64_t v12 = 0, v13 = 0, t0;
+  uint64_t v12 = 0, v13 = 0, t0, t1, t2;
   curves_curve_Curve_from_content(frame + 32, curve + ((curve == 0) ? 4096ull : 0ull), curve_len);
   v11 = 11;
   if (load8(frame + 32) != 1u)
@@ -33721,155 +33721,197 @@ static uint32_t export_sec1_private_key_info_write(uint64_t private_key,
   v11 = load8(frame + 33);
   store32(frame + 47, 0);
   store64(frame + 40, 0);
-  t0 = sec1_c_algorithm_write_curve(v11, frame + 40);
-  curve = t0;
-  store64(frame + 496, 0);
-  store64(frame + 488, curve);
-  store64(frame + 480, frame + 40);
-  store64(frame + 296, 0);
-  store64(frame + 288, 0);
-  store64(frame + 280, 0);
   store64(frame + 272, 0);
-  sec1_der_any_AnyRef_decode(frame + 272, frame + 480);
-  if (load8(frame + 272))
+  store64(frame + 264, 0);
+  store64(frame + 256, 0);
+  store64(frame + 248, 0);
+  store64(frame + 240, 0);
+  store64(frame + 232, 0);
+  curves_curve_Curve_identifier(frame + 232, v11);
+  curve = load64(frame + 272);
+  if (curve > 0xfffffff)
     goto after_2;
-  store64(frame + 248, load64(frame + 280));
-  store64(frame + 256, load64(frame + 288));
-  store64(frame + 264, load64(frame + 296));
-  if (load64(frame + 488) != 0)
+  if (curve >= 128)
+    goto after_3;
+  v12 = 2;
+  goto after_4;
+after_3:;
+  if (curve >= 256)
+    goto after_5;
+  v12 = 3;
+  goto after_4;
+after_5:;
+  if (curve >= 0x10000)
+    goto after_6;
+  v12 = 4;
+  goto after_4;
+after_6:;
+  v12 = (curve < 0x1000000) ? 5ull : 6ull;
+after_4:;
+  curve_len = v12 + curve;
+  if (curve_len > 11)
     goto after_2;
-  if ((uint32_t)load8(frame + 496) & 0xffu)
+  v13 = (frame + 232) + curve;
+  v12 = (frame + 40) | v12;
+  if (curve < 8)
+    goto after_7;
+  store64(v12, load64(frame + 232));
+  store64(((frame + 40) + curve_len) + 0xfffffffffffffff8, load64(v13 + 0xfffffffffffffff8));
+  goto after_8;
+after_7:;
+  if (curve < 4)
+    goto after_9;
+  store32(v12, load32(frame + 232));
+  store32(((frame + 40) + curve_len) + 0xfffffffffffffffc, load32(v13 + 0xfffffffffffffffc));
+  goto after_8;
+after_9:;
+  if (curve == 0)
+    goto after_8;
+  move(v12, frame + 232, curve);
+after_8:;
+  store16(v12 + 0xfffffffffffffffe, (uint16_t)(((uint32_t)curve << 8) | 6u));
+  store64(frame + 416, 0);
+  store64(frame + 408, curve_len);
+  store64(frame + 400, frame + 40);
+  store64(frame + 256, 0);
+  store64(frame + 248, 0);
+  store64(frame + 240, 0);
+  store64(frame + 232, 0);
+  sec1_der_any_AnyRef_decode(frame + 232, frame + 400);
+  if (load8(frame + 232))
     goto after_2;
-  curve_len = load64(frame + 264);
-  store64(frame + 72, curve_len);
-  v12 = load64(frame + 256);
+  store64(frame + 208, load64(frame + 240));
+  store64(frame + 216, load64(frame + 248));
+  store64(frame + 224, load64(frame + 256));
+  if (load64(frame + 408) != 0)
+    goto after_2;
+  if ((uint32_t)load8(frame + 416) & 0xffu)
+    goto after_2;
+  curve = load64(frame + 224);
+  store64(frame + 72, curve);
+  v12 = load64(frame + 216);
   store64(frame + 64, v12);
-  v13 = load64(frame + 248);
+  v13 = load64(frame + 208);
   store64(frame + 56, v13);
-  store64(frame + 112, curve);
+  store64(frame + 112, curve_len);
   store64(frame + 96, 1);
   store64(frame + 88, 7);
   store64(frame + 80, CONSTANT(281));
   store64(frame + 120, v13);
   store64(frame + 128, v12);
-  store64(frame + 136, curve_len);
+  store64(frame + 136, curve);
   curve_len = private_key + ((private_key == 0) ? 4096ull : 0ull);
   store64(frame + 144, curve_len);
   store64(frame + 152, private_key_len);
   store64(frame + 104, frame + 40);
-  store64(frame + 216, 0);
-  store64(frame + 208, 0);
-  store64(frame + 200, 0);
-  store64(frame + 192, 0);
-  store64(frame + 184, 0);
   store64(frame + 176, 0);
   store64(frame + 168, 0);
   store64(frame + 160, 0);
   v11 = (uint32_t)(has_public_key != 0);
   private_key = v11 ? public_key_len : 0ull;
-  store64(frame + 240, private_key);
+  store64(frame + 200, private_key);
   public_key = v11 ? (public_key + ((public_key == 0) ? 4096ull : 0ull)) : 0ull;
-  store64(frame + 232, public_key);
+  store64(frame + 192, public_key);
   has_public_key = v11;
-  store64(frame + 224, has_public_key);
-  sec1_der_codec_element_len(frame + 16, frame + 80);
+  store64(frame + 184, has_public_key);
+  sec1_der_codec_element_len_3(frame + 16, frame + 80);
   v11 = load8(frame + 16);
   if (v11 != 1u)
-    goto after_3;
+    goto after_10;
   curve = load64(frame + 24);
   if (out_len < curve)
-    goto after_3;
-  store64(frame + 264, curve);
-  store64(frame + 256, curve);
-  store64(frame + 248, out + ((out == 0) ? 4096ull : 0ull));
+    goto after_10;
+  store64(frame + 224, curve);
+  store64(frame + 216, curve);
+  store64(frame + 208, out + ((out == 0) ? 4096ull : 0ull));
   public_key_len = load64(frame + 56);
-  store64(frame + 456, public_key_len);
-  out = load64(frame + 64);
-  store64(frame + 464, out);
-  out_len = load64(frame + 72);
-  store64(frame + 472, out_len);
-  store64(frame + 288, 1);
-  store64(frame + 280, 7);
-  store64(frame + 272, CONSTANT(281));
-  store64(frame + 312, public_key_len);
-  store64(frame + 320, out);
-  store64(frame + 328, out_len);
+  store64(frame + 376, public_key_len);
+  v12 = load64(frame + 64);
+  store64(frame + 384, v12);
+  out = load64(frame + 72);
+  store64(frame + 392, out);
+  store64(frame + 248, 1);
+  store64(frame + 240, 7);
+  store64(frame + 232, CONSTANT(281));
+  store64(frame + 272, public_key_len);
+  store64(frame + 280, v12);
+  store64(frame + 288, out);
   public_key_len = frame + 104;
-  out = load64(public_key_len);
-  store64(frame + 440, out);
+  v12 = load64(public_key_len);
+  store64(frame + 360, v12);
   public_key_len = load64(public_key_len + 8);
-  store64(frame + 448, public_key_len);
-  store64(frame + 296, out);
-  store64(frame + 304, public_key_len);
-  store64(frame + 344, private_key_len);
-  store64(frame + 336, curve_len);
-  store64(frame + 352, 0);
-  store64(frame + 360, 0);
-  store64(frame + 368, 0);
-  store64(frame + 376, 0);
-  store64(frame + 384, 0);
-  store64(frame + 392, 0);
-  store64(frame + 400, 0);
-  store64(frame + 408, 0);
-  store64(frame + 416, has_public_key);
-  store64(frame + 424, public_key);
-  store64(frame + 432, private_key);
-  store64(frame + 496, 0);
-  store64(frame + 488, private_key_len);
-  store64(frame + 480, curve_len);
-  store64(frame + 504, 0);
-  store64(frame + 512, 0);
-  store64(frame + 536, private_key);
-  store64(frame + 528, public_key);
-  store64(frame + 520, has_public_key);
-  sec1_der_part_Tuple2EncodePart_prepend_part(frame + 480, frame + 248);
-  curve_len = load64(frame + 264);
-  public_key = curve - curve_len;
-  if (public_key > 127)
-    goto after_4;
-  curve_len = curve_len + 0xfffffffffffffffe;
-  store16(load64(frame + 248) + curve_len, (uint16_t)(((uint32_t)public_key << 8) | 0x30u));
-  store64(frame + 264, curve_len);
-  goto after_5;
-after_4:;
-  sec1_der_back_writer_BackWriter_prepend_long_header(frame + 248, 48, public_key);
-  curve_len = load64(frame + 264);
-after_5:;
-  public_key = curve - curve_len;
-  if (public_key > 127)
-    goto after_6;
-  curve_len = curve_len + 0xfffffffffffffffe;
-  store64(frame + 264, curve_len);
-  store16(load64(frame + 248) + curve_len, (uint16_t)(((uint32_t)public_key << 8) | 4u));
-  goto after_7;
-after_6:;
-  sec1_der_back_writer_BackWriter_prepend_long_header(frame + 248, 4, public_key);
-after_7:;
-  pkix_algorithm_AlgorithmIdentifierEncodePart_prepend_part(frame + 272, frame + 248);
-  public_key = load64(frame + 248);
-  curve_len = load64(frame + 264);
-  private_key = public_key + curve_len;
-  store8(private_key + 0xffffffffffffffff, 0);
-  curve_len = curve_len + 0xfffffffffffffffd;
-  store64(frame + 264, curve_len);
-  store16(public_key + curve_len, 258);
-  curve_len = curve - curve_len;
-  if (curve_len > 127)
-    goto after_8;
-  store16(private_key + 0xfffffffffffffffb, (uint16_t)(((uint32_t)curve_len << 8) | 0x30u));
-  goto after_9;
-after_8:;
-  sec1_der_back_writer_BackWriter_prepend_long_header(frame + 248, 48, curve_len);
-after_9:;
+  store64(frame + 368, public_key_len);
+  store64(frame + 256, v12);
+  store64(frame + 264, public_key_len);
+  store64(frame + 304, private_key_len);
+  store64(frame + 296, curve_len);
+  store64(frame + 312, 0);
+  store64(frame + 320, 0);
+  store64(frame + 328, 0);
+  store64(frame + 336, has_public_key);
+  store64(frame + 344, public_key);
+  store64(frame + 352, private_key);
+  store64(frame + 416, 0);
+  store64(frame + 408, private_key_len);
+  store64(frame + 400, curve_len);
+  store64(frame + 424, 0);
+  store64(frame + 432, 0);
+  store64(frame + 456, private_key);
+  store64(frame + 448, public_key);
+  store64(frame + 440, has_public_key);
+  sec1_der_optional_OptionalEncodePart_prepend_part(frame + 440, frame + 208);
+  sec1_der_optional_OptionalEncodePart_prepend_part_2(frame + 416, frame + 208);
+  sec1_der_required_RequiredEncodePart_prepend_part(curve_len, private_key_len, frame + 208);
+  curve_len = load64(frame + 208);
+  public_key = load64(frame + 224);
+  store8((curve_len + public_key) + 0xffffffffffffffff, 1);
+  private_key = public_key + 0xfffffffffffffffd;
+  store16(curve_len + private_key, 258);
+  private_key_len = curve - private_key;
+  if (private_key_len > 127)
+    goto after_11;
+  public_key = public_key + 0xfffffffffffffffb;
+  store16(curve_len + public_key, (uint16_t)(((uint32_t)private_key_len << 8) | 0x30u));
+  goto after_12;
+after_11:;
+  t0 = sec1_der_back_writer_prepend_long_header(curve_len, private_key, 48, private_key_len);
+  public_key = t0;
+after_12:;
+  private_key = curve - public_key;
+  if (private_key > 127)
+    goto after_13;
+  public_key = public_key + 0xfffffffffffffffe;
+  store16(curve_len + public_key, (uint16_t)(((uint32_t)private_key << 8) | 4u));
+  goto after_14;
+after_13:;
+  t1 = sec1_der_back_writer_prepend_long_header(curve_len, public_key, 4, private_key);
+  public_key = t1;
+after_14:;
+  store64(frame + 224, public_key);
+  pkix_algorithm_AlgorithmIdentifierEncodePart_prepend_part(frame + 232, frame + 208);
+  curve_len = load64(frame + 208);
+  public_key = load64(frame + 224);
+  private_key_len = curve_len + public_key;
+  store8(private_key_len + 0xffffffffffffffff, 0);
+  public_key = public_key + 0xfffffffffffffffd;
+  store16(curve_len + public_key, 258);
+  private_key = curve - public_key;
+  if (private_key > 127)
+    goto after_15;
+  store16(private_key_len + 0xfffffffffffffffb, (uint16_t)(((uint32_t)private_key << 8) | 0x30u));
+  goto after_16;
+after_15:;
+  t2 = sec1_der_back_writer_prepend_long_header(curve_len, public_key, 48, private_key);
+after_16:;
   store64(len, curve);
   v11 = 0;
   goto after_1;
-after_3:;
-  sec1_der_codec_element_len(frame, frame + 80);
-  if (load8(frame) != 1u)
-    goto after_10;
-  store64(len, load64(frame + 8));
 after_10:;
+  sec1_der_codec_element_len_3(frame, frame + 80);
+  if (load8(frame) != 1u)
+    goto after_17;
+  store64(len, load64(frame + 8));
+after_17:;
   v11 = (v11 == 1u) ? 7u : 6u;
 after_1:;
   return v11;
@@ -33881,25 +33923,22 @@ after_2:;
 static uint32_t export_sec1_public_key_write(uint64_t curve, uint64_t curve_len,
     uint64_t public_key, uint64_t public_key_len, uint64_t out, uint64_t out_len, uint64_t len)
 {
-  FRAME(192)
-  uint32_t v8 = 0, v9 = 0, v10 = 0, v13 = 0;
-  uint64_t v11 = 0, v12 = 0, v14 = 0, v15 = 0, v16 = 0, v17 = 0, v18 = 0, v19 = 0, v20 = 0,
-      v21 = 0, v22 = 0, t0;
-  curves_curve_Curve_from_content(frame + 8, curve + ((curve == 0) ? 4096ull : 0ull), curve_len);
+  FRAME(352)
+  uint32_t v8 = 0, v9 = 0, v10 = 0;
+  uint64_t v11 = 0, v12 = 0, v13 = 0, v14 = 0, v15 = 0, v16 = 0, v17 = 0, t0, t1;
+  curves_curve_Curve_from_content(frame + 40, curve + ((curve == 0) ? 4096ull : 0ull), curve_len);
   v8 = 11;
-  if (load8(frame + 8) != 1u)
+  if (load8(frame + 40) != 1u)
     goto after_1;
   v8 = 9;
-  v9 = (uint32_t)(public_key_len == 0);
-  if (v9)
+  if (public_key_len == 0)
     goto after_1;
-  v10 = load8(frame + 9);
-  v11 = load64(CONSTANT(11728) + (((uint64_t)v10 & 0xff) << 3));
-  curve_len = 1;
-  v12 = (public_key == 0) ? 4096ull : 0ull;
-  curve = public_key + v12;
-  v13 = load8(curve);
-  switch (v13) {
+  v9 = load8(frame + 41);
+  curve_len = load64(CONSTANT(11728) + (((uint64_t)v9 & 0xff) << 3));
+  curve = 1;
+  public_key = public_key + ((public_key == 0) ? 4096ull : 0ull);
+  v10 = load8(public_key);
+  switch (v10) {
   case 2: case 3: case 5:
     goto after_2;
   case 0:
@@ -33912,228 +33951,305 @@ static uint32_t export_sec1_public_key_write(uint64_t curve, uint64_t curve_len,
     goto after_1;
   }
 after_2:;
-  curve_len = v11 | 1;
+  curve = curve_len | 1;
 after_3:;
-  if (public_key_len == curve_len)
+  if (public_key_len == curve)
     goto after_6;
   goto after_1;
 after_4:;
-  if (public_key_len != ((v11 << 1) | 1))
+  if (public_key_len != ((curve_len << 1) | 1))
     goto after_1;
-  if (((uint32_t)load8((curve + public_key_len) + 0xffffffffffffffff) ^ v13) & 1u)
+  if (((uint32_t)load8((public_key + public_key_len) + 0xffffffffffffffff) ^ v10) & 1u)
     goto after_1;
   goto after_6;
 after_5:;
-  if (public_key_len != ((v11 << 1) | 1))
+  if (public_key_len != ((curve_len << 1) | 1))
     goto after_1;
 after_6:;
-  store32(frame + 23, 0);
-  store64(frame + 16, 0);
-  t0 = sec1_c_algorithm_write_curve(v10, frame + 16);
-  curve_len = t0;
-  store64(frame + 96, 0);
-  store64(frame + 88, curve_len);
-  store64(frame + 80, frame + 16);
-  store64(frame + 128, 0);
-  store64(frame + 120, 0);
-  store64(frame + 112, 0);
-  store64(frame + 104, 0);
-  sec1_der_any_AnyRef_decode(frame + 104, frame + 80);
-  if (load8(frame + 104))
+  store32(frame + 55, 0);
+  store64(frame + 48, 0);
+  store64(frame + 264, 0);
+  store64(frame + 256, 0);
+  store64(frame + 248, 0);
+  store64(frame + 240, 0);
+  store64(frame + 232, 0);
+  store64(frame + 224, 0);
+  curves_curve_Curve_identifier(frame + 224, v9);
+  curve = load64(frame + 264);
+  if (curve > 0xfffffff)
     goto after_7;
-  store64(frame + 56, load64(frame + 112));
-  store64(frame + 64, load64(frame + 120));
-  store64(frame + 72, load64(frame + 128));
-  if (load64(frame + 88) != 0)
-    goto after_7;
-  if ((uint32_t)load8(frame + 96) & 0xffu)
-    goto after_7;
-  v11 = load64(frame + 72);
-  store64(frame + 48, v11);
-  v14 = load64(frame + 64);
-  store64(frame + 40, v14);
-  v15 = load64(frame + 56);
-  store64(frame + 32, v15);
-  store64(frame + 80, 0);
-  store64(frame + 144, v15);
-  store64(frame + 152, v14);
-  store64(frame + 160, v11);
-  store64(frame + 184, public_key_len);
-  store64(frame + 176, curve);
-  store64(frame + 168, 0);
-  store64(frame + 136, curve_len);
-  store64(frame + 120, 1);
-  store64(frame + 112, 7);
-  store64(frame + 104, CONSTANT(281));
-  store64(frame + 128, frame + 16);
-  sec1_der_part_Tuple2EncodePart_part_len_2(frame + 80, frame + 104);
-  v8 = load8(frame + 80);
-  if (v8)
+  if (curve >= 128)
     goto after_8;
-  v10 = load32(frame + 84);
-  if (v10 >= 128u)
-    goto after_9;
-  v16 = 2;
-  goto after_10;
-after_9:;
-  if (v10 >= 256u)
-    goto after_11;
-  v16 = 3;
-  goto after_10;
-after_11:;
-  if (v10 >= 0x10000u)
-    goto after_12;
-  v16 = 4;
-  goto after_10;
-after_12:;
-  v16 = (v10 < 0x1000000u) ? 5ull : 6ull;
+  v11 = 2;
+  goto after_9;
+after_8:;
+  if (curve >= 256)
+    goto after_10;
+  v11 = 3;
+  goto after_9;
 after_10:;
-  v17 = v10;
-  v18 = v16 + v17;
-  if (out_len < v18)
-    goto after_8;
-  v19 = (out == 0) ? 4096ull : 0ull;
-  v20 = out + v19;
-  store64(frame + 80, v20);
-  store64(frame + 88, v18);
-  store64(frame + 160, load64(frame + 48));
-  store64(frame + 152, load64(frame + 40));
-  store64(frame + 144, load64(frame + 32));
-  store64(frame + 176, curve);
-  store64(frame + 168, 0);
-  store64(frame + 136, curve_len);
-  store64(frame + 120, 1);
-  store64(frame + 112, 7);
-  store64(frame + 104, CONSTANT(281));
-  store64(frame + 184, public_key_len);
-  v21 = v18 - public_key_len;
-  v15 = v20 + v21;
-  store64(frame + 128, frame + 16);
-  if (public_key_len > 32)
-    goto after_13;
-  curve_len = curve + public_key_len;
-  if (public_key_len < 16)
+  if (curve >= 0x10000)
+    goto after_11;
+  v11 = 4;
+  goto after_9;
+after_11:;
+  v11 = (curve < 0x1000000) ? 5ull : 6ull;
+after_9:;
+  curve_len = v11 + curve;
+  if (curve_len > 11)
+    goto after_7;
+  v12 = (frame + 224) + curve;
+  v11 = (frame + 48) | v11;
+  if (curve < 8)
+    goto after_12;
+  store64(v11, load64(frame + 224));
+  store64(((frame + 48) + curve_len) + 0xfffffffffffffff8, load64(v12 + 0xfffffffffffffff8));
+  goto after_13;
+after_12:;
+  if (curve < 4)
     goto after_14;
-  public_key_len = load64(curve);
-  store64(v15 + 8, load64(curve + 8));
-  store64(v15, public_key_len);
-  curve = curve_len + 0xfffffffffffffff0;
-  public_key_len = load64(curve);
-  curve_len = (v20 + v18) + 0xfffffffffffffff0;
-  store64(curve_len + 8, load64(curve + 8));
-  store64(curve_len, public_key_len);
-  goto after_15;
+  store32(v11, load32(frame + 224));
+  store32(((frame + 48) + curve_len) + 0xfffffffffffffffc, load32(v12 + 0xfffffffffffffffc));
+  goto after_13;
 after_14:;
-  if ((public_key_len + 0xfffffffffffffff7) < 0xfffffffffffffffb)
+  if (curve == 0)
     goto after_13;
-  store32(v15, load32(curve));
-  store32((v20 + v18) + 0xfffffffffffffffc, load32(curve_len + 0xfffffffffffffffc));
-  goto after_15;
+  move(v11, frame + 224, curve);
 after_13:;
-  if ((v15 - curve) >= public_key_len)
+  store16(v11 + 0xfffffffffffffffe, (uint16_t)(((uint32_t)curve << 8) | 6u));
+  store64(frame + 216, 0);
+  store64(frame + 208, curve_len);
+  store64(frame + 200, frame + 48);
+  store64(frame + 248, 0);
+  store64(frame + 240, 0);
+  store64(frame + 232, 0);
+  store64(frame + 224, 0);
+  sec1_der_any_AnyRef_decode(frame + 224, frame + 200);
+  if (load8(frame + 224))
+    goto after_7;
+  store64(frame + 176, load64(frame + 232));
+  store64(frame + 184, load64(frame + 240));
+  store64(frame + 192, load64(frame + 248));
+  if (load64(frame + 208) != 0)
+    goto after_7;
+  if ((uint32_t)load8(frame + 216) & 0xffu)
+    goto after_7;
+  v11 = load64(frame + 192);
+  store64(frame + 80, v11);
+  v12 = load64(frame + 184);
+  store64(frame + 72, v12);
+  v13 = load64(frame + 176);
+  store64(frame + 64, v13);
+  curve = frame + 128;
+  store64(curve, v13);
+  store64(curve + 8, v12);
+  store64(curve + 16, v11);
+  store64(frame + 120, curve_len);
+  store64(frame + 104, 1);
+  store64(frame + 96, 7);
+  store64(frame + 88, CONSTANT(281));
+  store64(frame + 152, 0);
+  store64(frame + 160, public_key);
+  store64(frame + 168, public_key_len);
+  store64(frame + 112, frame + 48);
+  sec1_der_codec_element_len_2(frame + 24, frame + 88);
+  v8 = load8(frame + 24);
+  if (v8 != 1u)
+    goto after_15;
+  curve = load64(frame + 32);
+  if (out_len < curve)
+    goto after_15;
+  curve_len = load64(frame + 64);
+  store64(frame + 328, curve_len);
+  public_key_len = load64(frame + 72);
+  store64(frame + 336, public_key_len);
+  public_key = load64(frame + 80);
+  store64(frame + 344, public_key);
+  v14 = (out == 0) ? 4096ull : 0ull;
+  v15 = out + v14;
+  store64(frame + 200, v15);
+  store64(frame + 208, curve);
+  store64(frame + 240, 1);
+  store64(frame + 232, 7);
+  store64(frame + 224, CONSTANT(281));
+  store64(frame + 264, curve_len);
+  store64(frame + 272, public_key_len);
+  store64(frame + 280, public_key);
+  curve_len = frame + 112;
+  public_key_len = load64(curve_len);
+  store64(frame + 312, public_key_len);
+  curve_len = load64(curve_len + 8);
+  store64(frame + 320, curve_len);
+  store64(frame + 248, public_key_len);
+  store64(frame + 256, curve_len);
+  public_key_len = frame + 152;
+  public_key = load64(public_key_len + 16);
+  store64(frame + 304, public_key);
+  curve_len = load64(public_key_len + 8);
+  store64(frame + 296, curve_len);
+  store64(frame + 288, load64(public_key_len));
+  v16 = curve - public_key;
+  v12 = v15 + v16;
+  if (public_key < 33)
     goto after_16;
-  v14 = public_key_len & 3;
-  curve_len = 0;
-  if (public_key_len < 4)
+  public_key_len = curve_len + public_key;
+  if (public_key > 64)
     goto after_17;
-  v22 = public_key_len & 0xfffffffffffffffc;
-  curve_len = 0;
-again_18:;
-  out_len = v15 + curve_len;
-  v11 = curve + curve_len;
+  public_key = load64(curve_len);
+  out = load64(curve_len + 8);
+  out_len = load64(curve_len + 16);
+  store64(v12 + 24, load64(curve_len + 24));
+  store64(v12 + 16, out_len);
+  store64(v12 + 8, out);
+  store64(v12, public_key);
+  curve_len = public_key_len + 0xffffffffffffffe0;
+  public_key = load64(curve_len);
+  out = load64(curve_len + 8);
+  out_len = load64(curve_len + 16);
+  public_key_len = (v15 + curve) + 0xffffffffffffffe0;
+  store64(public_key_len + 24, load64(curve_len + 24));
+  store64(public_key_len + 16, out_len);
+  store64(public_key_len + 8, out);
+  store64(public_key_len, public_key);
+  goto after_18;
+after_17:;
+  if (public_key > 128)
+    goto after_19;
+  public_key = load64(curve_len);
+  out = load64(curve_len + 8);
+  out_len = load64(curve_len + 16);
+  v11 = load64(curve_len + 24);
+  v13 = load64(curve_len + 32);
+  v17 = load64(curve_len + 40);
+  v14 = load64(curve_len + 48);
+  store64(v12 + 56, load64(curve_len + 56));
+  store64(v12 + 48, v14);
+  store64(v12 + 40, v17);
+  store64(v12 + 32, v13);
+  store64(v12 + 24, v11);
+  store64(v12 + 16, out_len);
+  store64(v12 + 8, out);
+  store64(v12, public_key);
+  curve_len = public_key_len + 0xffffffffffffffc0;
+  public_key = load64(curve_len);
+  out = load64(curve_len + 8);
+  out_len = load64(curve_len + 16);
+  v11 = load64(curve_len + 24);
+  v12 = load64(curve_len + 32);
+  v13 = load64(curve_len + 40);
+  v17 = load64(curve_len + 48);
+  public_key_len = (v15 + curve) + 0xffffffffffffffc0;
+  store64(public_key_len + 56, load64(curve_len + 56));
+  store64(public_key_len + 48, v17);
+  store64(public_key_len + 40, v13);
+  store64(public_key_len + 32, v12);
+  store64(public_key_len + 24, v11);
+  store64(public_key_len + 16, out_len);
+  store64(public_key_len + 8, out);
+  store64(public_key_len, public_key);
+  goto after_18;
+after_16:;
+  public_key_len = curve_len + public_key;
+  if (public_key < 16)
+    goto after_20;
+  public_key = load64(curve_len);
+  store64(v12 + 8, load64(curve_len + 8));
+  store64(v12, public_key);
+  curve_len = public_key_len + 0xfffffffffffffff0;
+  public_key_len = load64(curve_len);
+  public_key = (v15 + curve) + 0xfffffffffffffff0;
+  store64(public_key + 8, load64(curve_len + 8));
+  store64(public_key, public_key_len);
+  goto after_18;
+after_20:;
+  if (public_key < 8)
+    goto after_21;
+  store64(v12, load64(curve_len));
+  store64((v15 + curve) + 0xfffffffffffffff8, load64(public_key_len + 0xfffffffffffffff8));
+  goto after_18;
+after_21:;
+  if (public_key < 4)
+    goto after_19;
+  store32(v12, load32(curve_len));
+  store32((v15 + curve) + 0xfffffffffffffffc, load32(public_key_len + 0xfffffffffffffffc));
+  goto after_18;
+after_19:;
+  if ((v12 - curve_len) >= public_key)
+    goto after_22;
+  v13 = public_key & 3;
+  public_key_len = 0;
+  if (public_key < 4)
+    goto after_23;
+  v17 = public_key & 0xfffffffffffffffc;
+  public_key_len = 0;
+again_24:;
+  out_len = v12 + public_key_len;
+  v11 = curve_len + public_key_len;
   store8(out_len, (uint8_t)(uint32_t)load8(v11));
   store8(out_len + 1, (uint8_t)(uint32_t)load8(v11 + 1));
   store8(out_len + 2, (uint8_t)(uint32_t)load8(v11 + 2));
   store8(out_len + 3, (uint8_t)(uint32_t)load8(v11 + 3));
-  curve_len = curve_len + 4;
-  if (v22 != curve_len)
-    goto again_18;
-  if (v14 == 0)
-    goto after_15;
-after_17:;
-  curve = public_key + (v12 + curve_len);
-  public_key_len = out + ((((v19 + v16) + curve_len) + v17) - public_key_len);
-again_19:;
-  store8(public_key_len, (uint8_t)(uint32_t)load8(curve));
-  public_key_len = public_key_len + 1;
-  curve = curve + 1;
-  v14 = v14 + 0xffffffffffffffff;
-  if (v14 != 0)
-    goto again_19;
-  goto after_15;
-after_16:;
-  if (v9)
-    goto after_15;
-  move(v15, curve, public_key_len);
-after_15:;
-  curve = v21 + 0xffffffffffffffff;
-  store64(frame + 96, curve);
-  store8(v20 + curve, 0);
-  curve = v18 - curve;
-  if (curve > 127)
-    goto after_20;
-  public_key_len = v21 + 0xfffffffffffffffd;
-  store64(frame + 96, public_key_len);
-  store16(v20 + public_key_len, (uint16_t)(((uint32_t)curve << 8) | 3u));
-  goto after_21;
-after_20:;
-  sec1_der_back_writer_BackWriter_prepend_long_header(frame + 80, 3, curve);
-after_21:;
-  pkix_algorithm_AlgorithmIdentifierEncodePart_prepend_part(frame + 104, frame + 80);
-  public_key_len = load64(frame + 96);
-  curve = v18 - public_key_len;
-  if (curve > 127)
-    goto after_22;
-  store16((load64(frame + 80) + public_key_len) + 0xfffffffffffffffe,
-      (uint16_t)(((uint32_t)curve << 8) | 0x30u));
-  goto after_23;
-after_22:;
-  sec1_der_back_writer_BackWriter_prepend_long_header(frame + 80, 48, curve);
+  public_key_len = public_key_len + 4;
+  if (v17 != public_key_len)
+    goto again_24;
+  if (v13 == 0)
+    goto after_18;
 after_23:;
-  store64(len, v18);
+  curve_len = curve_len + public_key_len;
+  public_key_len = out + (((curve + v14) + public_key_len) - public_key);
+again_25:;
+  store8(public_key_len, (uint8_t)(uint32_t)load8(curve_len));
+  public_key_len = public_key_len + 1;
+  curve_len = curve_len + 1;
+  v13 = v13 + 0xffffffffffffffff;
+  if (v13 != 0)
+    goto again_25;
+  goto after_18;
+after_22:;
+  if (public_key == 0)
+    goto after_18;
+  move(v12, curve_len, public_key);
+after_18:;
+  curve_len = v16 + 0xffffffffffffffff;
+  store8(v15 + curve_len, (uint8_t)(uint32_t)load8(frame + 288));
+  public_key_len = curve - curve_len;
+  if (public_key_len > 127)
+    goto after_26;
+  curve_len = v16 + 0xfffffffffffffffd;
+  store16(v15 + curve_len, (uint16_t)(((uint32_t)public_key_len << 8) | 3u));
+  goto after_27;
+after_26:;
+  t0 = sec1_der_back_writer_prepend_long_header(v15, curve_len, 3, public_key_len);
+  curve_len = t0;
+after_27:;
+  store64(frame + 216, curve_len);
+  pkix_algorithm_AlgorithmIdentifierEncodePart_prepend_part(frame + 224, frame + 200);
+  curve_len = load64(frame + 200);
+  public_key_len = load64(frame + 216);
+  public_key = curve - public_key_len;
+  if (public_key > 127)
+    goto after_28;
+  store16((curve_len + public_key_len) + 0xfffffffffffffffe,
+      (uint16_t)(((uint32_t)public_key << 8) | 0x30u));
+  goto after_29;
+after_28:;
+  t1 = sec1_der_back_writer_prepend_long_header(curve_len, public_key_len, 48, public_key);
+after_29:;
+  store64(len, curve);
   v8 = 0;
   goto after_1;
-after_8:;
-  store64(frame + 80, 0);
-  store64(frame + 144, load64(frame + 32));
-  store64(frame + 152, load64(frame + 40));
-  store64(frame + 160, load64(frame + 48));
-  store64(frame + 184, public_key_len);
-  store64(frame + 176, curve);
-  store64(frame + 168, 0);
-  store64(frame + 136, curve_len);
-  store64(frame + 120, 1);
-  store64(frame + 112, 7);
-  store64(frame + 104, CONSTANT(281));
-  store64(frame + 128, frame + 16);
-  sec1_der_part_Tuple2EncodePart_part_len_2(frame + 80, frame + 104);
-  if (load8(frame + 80))
-    goto after_24;
-  v9 = load32(frame + 84);
-  if (v9 >= 128u)
-    goto after_25;
-  curve = 2;
-  goto after_26;
-after_25:;
-  if (v9 >= 256u)
-    goto after_27;
-  curve = 3;
-  goto after_26;
-after_27:;
-  if (v9 >= 0x10000u)
-    goto after_28;
-  curve = 4;
-  goto after_26;
-after_28:;
-  curve = (v9 < 0x1000000u) ? 5ull : 6ull;
-after_26:;
-  store64(len, curve + (uint64_t)v9);
-after_24:;
-  v8 = v8 ? 6u : 7u;
-after_1:;
-  return v8;
+after_15:;
+  sec1_der_codec_element_len_2(frame + 8, frame + 88);
+  if (load8(frame + 8) != 1u)
+    goto after_30;
+  store64(len, load64(frame + 16));
+after_30:;
+  v8 = (v8 == 1u) ? 7u : 6u;
+  goto after_1;
 after_7:;
   trap();
+after_1:;
+  return v8;
 }
 
 uint32_t sec1_status_to_text(size_t status, char *text, size_t text_len, size_t *len)

@@ -2501,172 +2501,6 @@ unsafe fn pkix_in_place_Tuple2ReadInPlace_read_in_place(p0: u64, p1: u64, p2: u6
   store8(p0, v5 as u8);
 }
 
-// sec1_der::part::Tuple2EncodePart::part_len::<#747f884ef42d177c>
-unsafe fn sec1_der_part_Tuple2EncodePart_part_len_2(p0: u64, p1: u64) {
-  let mut v2 = 0u64;
-  let mut v3 = 0u32;
-  let mut v4 = 0u64;
-  let mut v5 = 0u64;
-  let mut v6 = 0u64;
-  let mut v7 = 0u32;
-  let mut v8 = 0u32;
-  'after_2: {
-  v2 = 0;
-  'after_1: {
-  v3 = load8(p1.wrapping_add(16)) as u32;
-  if v3 != 1 {
-    break 'after_1;
-  }
-  v2 = load64(p1.wrapping_add(32));
-  }
-  v4 = load64(p1.wrapping_add(8));
-  if v4 == 0 {
-    break 'after_2;
-  }
-  v5 = load64(p1);
-  v6 = 0;
-  v7 = 1;
-  'again_4: loop {
-  v8 = (load8(v5.wrapping_add(v6)) as u32) as i8 as i32 as u32;
-  'after_3: {
-  if (v7 & 1) == 0 {
-    break 'after_3;
-  }
-  if v8 == 0xffffff80 {
-    break 'after_2;
-  }
-  }
-  v7 = u32::from((v8 as i32) > (0xffffffffu32 as i32));
-  v6 = v6.wrapping_add(1);
-  if v4 != v6 {
-    continue 'again_4;
-  }
-  break;
-  }
-  if v4 > 0xfffffff {
-    break 'after_2;
-  }
-  if (v8 as i32) < (0u32 as i32) {
-    break 'after_2;
-  }
-  'after_6: {
-  'after_5: {
-  if v4 >= 128 {
-    break 'after_5;
-  }
-  v6 = 2;
-  break 'after_6;
-  }
-  'after_7: {
-  if v4 >= 256 {
-    break 'after_7;
-  }
-  v6 = 3;
-  break 'after_6;
-  }
-  'after_8: {
-  if v4 >= 0x10000 {
-    break 'after_8;
-  }
-  v6 = 4;
-  break 'after_6;
-  }
-  v6 = if v4 < 0x1000000 { 5u64 } else { 6u64 };
-  }
-  v6 = v6.wrapping_add(v4);
-  if v6 > 0xfffffff {
-    break 'after_2;
-  }
-  v4 = 0;
-  'after_9: {
-  if v3 != 1 {
-    break 'after_9;
-  }
-  v4 = v2;
-  if v2 > 0xfffffff {
-    break 'after_2;
-  }
-  }
-  v6 = v4.wrapping_add(v6);
-  if v6 > 0xfffffff {
-    break 'after_2;
-  }
-  'after_11: {
-  'after_10: {
-  if v6 >= 128 {
-    break 'after_10;
-  }
-  v4 = 2;
-  break 'after_11;
-  }
-  'after_12: {
-  if v6 >= 256 {
-    break 'after_12;
-  }
-  v4 = 3;
-  break 'after_11;
-  }
-  'after_13: {
-  if v6 >= 0x10000 {
-    break 'after_13;
-  }
-  v4 = 4;
-  break 'after_11;
-  }
-  v4 = if v6 < 0x1000000 { 5u64 } else { 6u64 };
-  }
-  v4 = v4.wrapping_add(v6);
-  if v4 > 0xfffffff {
-    break 'after_2;
-  }
-  'after_14: {
-  v6 = (load64(p1.wrapping_add(80))).wrapping_add(1);
-  if v6 > 0xfffffff {
-    break 'after_14;
-  }
-  'after_16: {
-  'after_15: {
-  if v6 >= 128 {
-    break 'after_15;
-  }
-  v5 = 2;
-  break 'after_16;
-  }
-  'after_17: {
-  if v6 >= 256 {
-    break 'after_17;
-  }
-  v5 = 3;
-  break 'after_16;
-  }
-  'after_18: {
-  if v6 >= 0x10000 {
-    break 'after_18;
-  }
-  v5 = 4;
-  break 'after_16;
-  }
-  v5 = if v6 < 0x1000000 { 5u64 } else { 6u64 };
-  }
-  v6 = v5.wrapping_add(v6);
-  if v6 >= 0x10000000 {
-    break 'after_14;
-  }
-  v6 = v6.wrapping_add(v4);
-  v8 = u32::from(v6 > 0xfffffff);
-  store8(p0, v8 as u8);
-  store32(p0.wrapping_add(4), if v8 != 0 { 0u32 } else { v6 as u32 });
-  store8(p0.wrapping_add(1), (if v8 != 0 { 5u32 } else { 0u32 }) as u8);
-  return;
-  }
-  store16(p0, 1281);
-  store32(p0.wrapping_add(4), 0);
-  return;
-  }
-  store16(p0, 1281);
-  store32(p0.wrapping_add(4), 0);
-}
-
 // curves::curve::Curve::from_content
 unsafe fn curves_curve_Curve_from_content(p0: u64, p1: u64, p2: u64) {
   let mut v4 = 0u32;
@@ -3129,8 +2963,8 @@ unsafe fn core_slice_scan_any_in_quarters(p0: u64, p1: u64, mut p2: u64) -> u32 
 }
 
 // sec1_c::key::sec1_key_read
-unsafe fn sec1_c_key_sec1_key_read(mut p0: u64, p1: u64, p2: u64) -> u32 {
-  let mut array = Frame::<112>::new();
+unsafe fn sec1_c_key_sec1_key_read(mut p0: u64, mut p1: u64, p2: u64) -> u32 {
+  let mut array = Frame::<80>::new();
   let frame = address(&raw mut array);
   let mut v4 = 0u32;
   let mut v5 = 0u64;
@@ -3140,10 +2974,19 @@ unsafe fn sec1_c_key_sec1_key_read(mut p0: u64, p1: u64, p2: u64) -> u32 {
   let mut v9 = 0u32;
   let mut v10 = 0u64;
   let mut v11 = 0u64;
+  let mut v12 = 0u64;
+  let mut v13 = 0u64;
+  let mut v14 = 0u64;
   'after_9: {
+  store64(frame.wrapping_add(72), 0);
+  store64(frame.wrapping_add(64), 0);
+  store64(frame.wrapping_add(56), 0);
+  store64(frame.wrapping_add(48), 0);
+  store64(frame.wrapping_add(40), 0);
+  store64(frame.wrapping_add(32), 0);
+  store64(frame.wrapping_add(24), 0);
   v4 = 0;
-  fill(frame.wrapping_add(16), 0, 96);
-  'after_28: {
+  'after_19: {
   'after_1: {
   if p1 == 0 {
     break 'after_1;
@@ -3213,9 +3056,10 @@ unsafe fn sec1_c_key_sec1_key_read(mut p0: u64, p1: u64, p2: u64) -> u32 {
   if v6 < p0 {
     break 'after_1;
   }
-  sec1_private_key_EcPrivateKeyReadInPlace_read_content(frame, frame.wrapping_add(8), v5, p0);
+  sec1_borrowed_key_BorrowedKeyReadInPlace_read_content(frame.wrapping_add(8),
+      frame.wrapping_add(16), v5, p0);
   'after_6: {
-  if (load8(frame) as u32) != 0 {
+  if (load8(frame.wrapping_add(8)) as u32) != 0 {
     break 'after_6;
   }
   'after_7: {
@@ -3225,161 +3069,108 @@ unsafe fn sec1_c_key_sec1_key_read(mut p0: u64, p1: u64, p2: u64) -> u32 {
   v4 = 3;
   break 'after_1;
   }
-  v4 = load8(frame.wrapping_add(24)) as u32;
-  v6 = load64(frame.wrapping_add(104));
-  p0 = load64(frame.wrapping_add(80));
-  v5 = load64(frame.wrapping_add(16));
+  v5 = load64(frame.wrapping_add(48));
+  v4 = load8(frame.wrapping_add(32)) as u32;
+  v6 = load64(frame.wrapping_add(24));
   v8 = 0;
+  v10 = 0;
+  p0 = 0;
+  v11 = 0;
+  v12 = 0;
   'after_8: {
-  v7 = load8(frame.wrapping_add(88)) as u32;
-  if v7 != 1 {
+  if (load8(frame.wrapping_add(56)) as u32) != 1 {
     break 'after_8;
   }
-  if v6 > 0xffffffe {
+  p0 = load64(frame.wrapping_add(72));
+  if p0 > 0xffffffe {
     break 'after_9;
   }
-  v8 = v6.wrapping_add(1);
+  v10 = p0.wrapping_add(1);
   'after_11: {
   'after_10: {
-  if v6 >= 127 {
+  if p0 >= 127 {
     break 'after_10;
   }
-  v10 = 2;
+  v11 = 2;
   break 'after_11;
   }
   'after_12: {
-  if v6 >= 255 {
+  if p0 >= 255 {
     break 'after_12;
   }
-  v10 = 3;
+  v11 = 3;
   break 'after_11;
   }
   'after_13: {
-  if v6 >= 65535 {
+  if p0 >= 65535 {
     break 'after_13;
   }
-  v10 = 4;
+  v11 = 4;
   break 'after_11;
   }
-  v10 = if v6 < 0xffffff { 5u64 } else { 6u64 };
+  v11 = if p0 < 0xffffff { 5u64 } else { 6u64 };
   }
-  v8 = v8.wrapping_add(v10);
-  if v8 > 0xfffffff {
+  v11 = v10.wrapping_add(v11);
+  if v11 > 0xfffffff {
     break 'after_9;
   }
   'after_15: {
   'after_14: {
-  if v8 >= 128 {
+  if v11 >= 128 {
     break 'after_14;
   }
-  v10 = 2;
+  v12 = 2;
   break 'after_15;
   }
   'after_16: {
-  if v8 >= 256 {
+  if v11 >= 256 {
     break 'after_16;
   }
-  v10 = 3;
+  v12 = 3;
   break 'after_15;
   }
   'after_17: {
-  if v8 >= 0x10000 {
+  if v11 >= 0x10000 {
     break 'after_17;
   }
-  v10 = 4;
+  v12 = 4;
   break 'after_15;
   }
-  v10 = if v8 < 0x1000000 { 5u64 } else { 6u64 };
+  v12 = if v11 < 0x1000000 { 5u64 } else { 6u64 };
   }
-  v8 = v10.wrapping_add(v8);
+  v10 = p1.wrapping_sub(p0);
+  v12 = v12.wrapping_add(v11);
+  v11 = 1;
   }
-  'after_27: {
+  p1 = p1.wrapping_sub(v12);
+  v12 = 0;
+  v13 = 0;
+  v14 = 0;
   'after_18: {
-  v9 = v4 & 255;
-  if v9 != 1 {
+  if (v4 & 255) != 1 {
     break 'after_18;
   }
-  if p0 > 0xfffffff {
-    break 'after_9;
+  v14 = 0xfffffffffffffffcu64.wrapping_sub(v5);
+  v8 = p1.wrapping_sub(v5);
+  v13 = 1;
+  v12 = v5;
   }
-  'after_20: {
-  'after_19: {
-  if p0 >= 128 {
-    break 'after_19;
-  }
-  v10 = 2;
-  break 'after_20;
-  }
-  'after_21: {
-  if p0 >= 256 {
-    break 'after_21;
-  }
-  v10 = 3;
-  break 'after_20;
-  }
-  'after_22: {
-  if p0 >= 0x10000 {
-    break 'after_22;
-  }
-  v10 = 4;
-  break 'after_20;
-  }
-  v10 = if p0 < 0x1000000 { 5u64 } else { 6u64 };
-  }
-  v10 = v10.wrapping_add(p0);
-  if v10 > 0xfffffff {
-    break 'after_9;
-  }
-  'after_24: {
-  'after_23: {
-  if v10 >= 128 {
-    break 'after_23;
-  }
-  v11 = 2;
-  break 'after_24;
-  }
-  'after_25: {
-  if v10 >= 256 {
-    break 'after_25;
-  }
-  v11 = 3;
-  break 'after_24;
-  }
-  'after_26: {
-  if v10 >= 0x10000 {
-    break 'after_26;
-  }
-  v11 = 4;
-  break 'after_24;
-  }
-  v11 = if v10 < 0x1000000 { 5u64 } else { 6u64 };
-  }
-  v10 = (v10.wrapping_add(v5)).wrapping_add(v11);
-  break 'after_27;
-  }
-  p0 = if v9 != 0 { p0 } else { 0u64 };
-  v10 = v5;
-  }
-  store64(p2.wrapping_add(64), v7 as u64);
-  store64(p2.wrapping_add(40), (v4 as u64) & 255);
+  store64(p2.wrapping_add(64), v11);
+  store64(p2.wrapping_add(56), p0);
+  store64(p2.wrapping_add(48), v10);
+  store64(p2.wrapping_add(40), v13);
+  store64(p2.wrapping_add(32), v12);
+  store64(p2.wrapping_add(24), v8);
   store64(p2.wrapping_add(16), 1);
-  store64(p2.wrapping_add(8), v5);
-  v5 = p1.wrapping_sub(v8);
-  store64(p2, v5.wrapping_sub(v10));
-  v9 = v7 & 1;
-  store64(p2.wrapping_add(56), if v9 != 0 { v6 } else { 0u64 });
-  v4 = v4 & 1;
-  store64(p2.wrapping_add(32), if v4 != 0 { p0 } else { 0u64 });
-  store64(p2.wrapping_add(24), if v4 != 0 { v5.wrapping_sub(p0) } else { 0u64 });
-  store64(p2.wrapping_add(48),
-      if v9 != 0 { p1.wrapping_sub(if v7 != 0 { v6 } else { 0u64 }) } else { 0u64 });
+  store64(p2.wrapping_add(8), v6);
+  store64(p2, (p1.wrapping_sub(v6)).wrapping_add(v14));
   v7 = 0;
-  break 'after_28;
+  break 'after_19;
   }
   v7 = 15;
-  v4 = load8(frame.wrapping_add(1)) as u32;
+  v4 = load8(frame.wrapping_add(9)) as u32;
   if (v4 & 255) == 10 {
-    break 'after_28;
+    break 'after_19;
   }
   }
   v7 = load32(constant(10340).wrapping_add(((v4 as u64) & 255) << 2));
@@ -3389,694 +3180,653 @@ unsafe fn sec1_c_key_sec1_key_read(mut p0: u64, p1: u64, p2: u64) -> u32 {
   trap();
 }
 
-// sec1::private_key::EcPrivateKeyReadInPlace::read_content
-unsafe fn sec1_private_key_EcPrivateKeyReadInPlace_read_content(p0: u64, p1: u64, mut p2: u64,
+// sec1::borrowed_key::BorrowedKeyReadInPlace::read_content
+unsafe fn sec1_borrowed_key_BorrowedKeyReadInPlace_read_content(p0: u64, p1: u64, mut p2: u64,
     mut p3: u64) {
-  let mut array = Frame::<80>::new();
-  let frame = address(&raw mut array);
-  let mut v4 = 0u64;
+  let mut v4 = 0u32;
   let mut v5 = 0u32;
-  let mut v6 = 0u32;
-  let mut v7 = 0u64;
-  let mut v8 = 0u32;
-  let mut v9 = 0u64;
-  let mut v10 = 0u32;
+  let mut v6 = 0u64;
+  let mut v7 = 0u32;
+  let mut v8 = 0u64;
+  let mut v9 = 0u32;
+  let mut v10 = 0u64;
   let mut v11 = 0u64;
   let mut v12 = 0u64;
-  let mut v13 = 0u64;
-  let mut v14 = 0u32;
+  let mut v13 = 0u32;
+  let mut v14 = 0u64;
   let mut v15 = 0u64;
-  let mut v16 = 0u64;
+  let mut v16 = 0u32;
   let mut v17 = 0u32;
   let mut v18 = 0u32;
   let mut v19 = 0u32;
   let mut v20 = 0u32;
-  let mut v21 = 0u32;
-  let mut v22 = 0u64;
+  let mut v21 = 0u64;
   'after_2: {
   'after_5: {
   'after_17: {
   'after_28: {
   'after_11: {
-  'after_50: {
-  'after_38: {
+  'after_37: {
   'after_13: {
   'after_30: {
   'after_29: {
   'after_26: {
-  v4 = frame;
-  store64(frame.wrapping_add(32), 0);
-  store64(frame.wrapping_add(24), 0);
-  store64(frame.wrapping_add(16), 0);
-  store64(frame.wrapping_add(8), 0);
-  v5 = 0;
+  v4 = 0;
   'after_1: {
   if p3 != 0 {
     break 'after_1;
   }
-  v6 = 1;
+  v5 = 1;
   break 'after_2;
   }
-  v6 = 1;
+  v5 = 1;
   'after_3: {
   if (load8(p2) as u32) == 2 {
     break 'after_3;
   }
-  v5 = 1;
+  v4 = 1;
   break 'after_2;
   }
   if p3 == 1 {
     break 'after_2;
   }
-  v7 = p2.wrapping_add(2);
+  v6 = p2.wrapping_add(2);
   p3 = p3.wrapping_add(0xfffffffffffffffe);
   'after_4: {
-  v8 = (load8(p2.wrapping_add(1)) as u32) as i8 as i32 as u32;
-  if (v8 as i32) >= (0u32 as i32) {
+  v7 = (load8(p2.wrapping_add(1)) as u32) as i8 as i32 as u32;
+  if (v7 as i32) >= (0u32 as i32) {
     break 'after_4;
   }
-  v5 = 2;
-  if ((v8.wrapping_add(123)) & 255) < 252 {
+  v4 = 2;
+  if ((v7.wrapping_add(123)) & 255) < 252 {
     break 'after_2;
   }
-  v9 = (v8 as i32 as i64 as u64).wrapping_add(128);
-  if p3 < v9 {
+  v8 = (v7 as i32 as i64 as u64).wrapping_add(128);
+  if p3 < v8 {
     break 'after_5;
   }
-  v8 = load8(v7) as u32;
-  v10 = 0;
+  v7 = load8(v6) as u32;
+  v9 = 0;
   'after_6: {
-  if v9 == 1 {
+  if v8 == 1 {
     break 'after_6;
   }
-  v10 = v8 << 8;
-  v8 = v10 | (load8(p2.wrapping_add(3)) as u32);
-  if v9 == 2 {
+  v9 = v7 << 8;
+  v7 = v9 | (load8(p2.wrapping_add(3)) as u32);
+  if v8 == 2 {
     break 'after_6;
   }
-  v10 = v8 << 8;
-  v8 = v10 | (load8(p2.wrapping_add(4)) as u32);
-  if v9 == 3 {
+  v9 = v7 << 8;
+  v7 = v9 | (load8(p2.wrapping_add(4)) as u32);
+  if v8 == 3 {
     break 'after_6;
   }
-  v10 = v8 << 8;
-  v8 = v10 | (load8(p2.wrapping_add(5)) as u32);
+  v9 = v7 << 8;
+  v7 = v9 | (load8(p2.wrapping_add(5)) as u32);
   }
-  if v8 < 128 {
+  if v7 < 128 {
     break 'after_2;
   }
-  if ((load8(v7) as u32) & 255) == 0 {
+  if ((load8(v6) as u32) & 255) == 0 {
     break 'after_2;
   }
-  if v10 > 0xfffffff {
+  if v9 > 0xfffffff {
     break 'after_2;
   }
-  v7 = v7.wrapping_add(v9);
-  p3 = p3.wrapping_sub(v9);
+  v6 = v6.wrapping_add(v8);
+  p3 = p3.wrapping_sub(v8);
   }
-  p2 = v8 as u64;
+  p2 = v7 as u64;
   if p3 < p2 {
     break 'after_5;
   }
-  v6 = 1;
-  v5 = 4;
-  if v8 != 1 {
+  v5 = 1;
+  v4 = 4;
+  if v7 != 1 {
     break 'after_2;
   }
-  v6 = 1;
-  if (load8(v7) as u32) != 1 {
+  v5 = 1;
+  if (load8(v6) as u32) != 1 {
     break 'after_2;
   }
   if p3 == p2 {
     break 'after_5;
   }
-  v6 = 1;
+  v5 = 1;
   'after_7: {
-  v7 = v7.wrapping_add(p2);
-  if (load8(v7) as u32) == 4 {
+  v6 = v6.wrapping_add(p2);
+  if (load8(v6) as u32) == 4 {
     break 'after_7;
   }
-  v5 = 1;
+  v4 = 1;
   break 'after_2;
   }
   p3 = p3.wrapping_sub(p2);
   if p3 == 1 {
     break 'after_5;
   }
-  p2 = v7.wrapping_add(2);
+  p2 = v6.wrapping_add(2);
   p3 = p3.wrapping_add(0xfffffffffffffffe);
   'after_8: {
-  v8 = (load8(v7.wrapping_add(1)) as u32) as i8 as i32 as u32;
-  if (v8 as i32) >= (0u32 as i32) {
+  v7 = (load8(v6.wrapping_add(1)) as u32) as i8 as i32 as u32;
+  if (v7 as i32) >= (0u32 as i32) {
     break 'after_8;
   }
-  v5 = 2;
-  if ((v8.wrapping_add(123)) & 255) < 252 {
+  v4 = 2;
+  if ((v7.wrapping_add(123)) & 255) < 252 {
     break 'after_2;
   }
-  v9 = (v8 as i32 as i64 as u64).wrapping_add(128);
-  if p3 < v9 {
+  v8 = (v7 as i32 as i64 as u64).wrapping_add(128);
+  if p3 < v8 {
     break 'after_5;
   }
-  v8 = load8(p2) as u32;
-  v10 = 0;
+  v7 = load8(p2) as u32;
+  v9 = 0;
   'after_9: {
-  if v9 == 1 {
+  if v8 == 1 {
     break 'after_9;
   }
-  v10 = v8 << 8;
-  v8 = v10 | (load8(v7.wrapping_add(3)) as u32);
-  if v9 == 2 {
+  v9 = v7 << 8;
+  v7 = v9 | (load8(v6.wrapping_add(3)) as u32);
+  if v8 == 2 {
     break 'after_9;
   }
-  v10 = v8 << 8;
-  v8 = v10 | (load8(v7.wrapping_add(4)) as u32);
-  if v9 == 3 {
+  v9 = v7 << 8;
+  v7 = v9 | (load8(v6.wrapping_add(4)) as u32);
+  if v8 == 3 {
     break 'after_9;
   }
-  v10 = v8 << 8;
-  v8 = v10 | (load8(v7.wrapping_add(5)) as u32);
+  v9 = v7 << 8;
+  v7 = v9 | (load8(v6.wrapping_add(5)) as u32);
   }
-  if v8 < 128 {
+  if v7 < 128 {
     break 'after_2;
   }
   if ((load8(p2) as u32) & 255) == 0 {
     break 'after_2;
   }
-  if v10 > 0xfffffff {
+  if v9 > 0xfffffff {
     break 'after_2;
   }
-  p2 = p2.wrapping_add(v9);
-  p3 = p3.wrapping_sub(v9);
+  p2 = p2.wrapping_add(v8);
+  p3 = p3.wrapping_sub(v8);
   }
-  v7 = v8 as u64;
-  if p3 < v7 {
+  v6 = v7 as u64;
+  if p3 < v6 {
     break 'after_5;
   }
-  v11 = 0;
+  v10 = 0;
   'after_10: {
-  p3 = p3.wrapping_sub(v7);
+  p3 = p3.wrapping_sub(v6);
   if p3 != 0 {
     break 'after_10;
   }
-  store64(p1.wrapping_add(8), v7);
+  store64(p1.wrapping_add(8), v6);
   store64(p1, p2);
   break 'after_11;
   }
   'after_12: {
-  v9 = p2.wrapping_add(v7);
-  v8 = load8(v9) as u32;
-  if v8 == 160 {
+  v8 = p2.wrapping_add(v6);
+  v7 = load8(v8) as u32;
+  if v7 == 160 {
     break 'after_12;
   }
-  v12 = 0;
-  v5 = v8;
+  v11 = 0;
+  v4 = v7;
   break 'after_13;
   }
   if p3 == 1 {
     break 'after_5;
   }
-  v13 = v9.wrapping_add(2);
+  v12 = v8.wrapping_add(2);
   p3 = p3.wrapping_add(0xfffffffffffffffe);
   'after_14: {
-  v10 = (load8(v9.wrapping_add(1)) as u32) as i8 as i32 as u32;
-  if (v10 as i32) >= (0u32 as i32) {
+  v9 = (load8(v8.wrapping_add(1)) as u32) as i8 as i32 as u32;
+  if (v9 as i32) >= (0u32 as i32) {
     break 'after_14;
   }
-  v5 = 2;
-  if ((v10.wrapping_add(123)) & 255) < 252 {
+  v4 = 2;
+  if ((v9.wrapping_add(123)) & 255) < 252 {
     break 'after_2;
   }
-  v11 = (v10 as i32 as i64 as u64).wrapping_add(128);
-  if p3 < v11 {
+  v10 = (v9 as i32 as i64 as u64).wrapping_add(128);
+  if p3 < v10 {
     break 'after_5;
   }
-  v10 = load8(v13) as u32;
-  v14 = 0;
+  v9 = load8(v12) as u32;
+  v13 = 0;
   'after_15: {
-  if v11 == 1 {
+  if v10 == 1 {
     break 'after_15;
   }
-  v14 = v10 << 8;
-  v10 = v14 | (load8(v9.wrapping_add(3)) as u32);
-  if v11 == 2 {
+  v13 = v9 << 8;
+  v9 = v13 | (load8(v8.wrapping_add(3)) as u32);
+  if v10 == 2 {
     break 'after_15;
   }
-  v14 = v10 << 8;
-  v10 = v14 | (load8(v9.wrapping_add(4)) as u32);
-  if v11 == 3 {
+  v13 = v9 << 8;
+  v9 = v13 | (load8(v8.wrapping_add(4)) as u32);
+  if v10 == 3 {
     break 'after_15;
   }
-  v14 = v10 << 8;
-  v10 = v14 | (load8(v9.wrapping_add(5)) as u32);
+  v13 = v9 << 8;
+  v9 = v13 | (load8(v8.wrapping_add(5)) as u32);
   }
-  if v10 < 128 {
+  if v9 < 128 {
     break 'after_2;
   }
-  if ((load8(v13) as u32) & 255) == 0 {
+  if ((load8(v12) as u32) & 255) == 0 {
     break 'after_2;
   }
-  if v14 > 0xfffffff {
+  if v13 > 0xfffffff {
     break 'after_2;
   }
-  v13 = v13.wrapping_add(v11);
-  p3 = p3.wrapping_sub(v11);
+  v12 = v12.wrapping_add(v10);
+  p3 = p3.wrapping_sub(v10);
   }
-  v9 = v10 as u64;
-  if p3 < v9 {
+  v8 = v9 as u64;
+  if p3 < v8 {
     break 'after_5;
   }
-  if v10 == 0 {
+  if v9 == 0 {
     break 'after_5;
   }
   'after_16: {
-  if (load8(v13) as u32) == 6 {
+  if (load8(v12) as u32) == 6 {
     break 'after_16;
+  }
+  v4 = 1;
+  break 'after_2;
+  }
+  if v9 == 1 {
+    break 'after_17;
+  }
+  v10 = v12.wrapping_add(2);
+  v11 = v8.wrapping_add(0xfffffffffffffffe);
+  'after_18: {
+  v9 = (load8(v12.wrapping_add(1)) as u32) as i8 as i32 as u32;
+  if (v9 as i32) >= (0u32 as i32) {
+    break 'after_18;
+  }
+  v4 = 2;
+  'after_19: {
+  if ((v9.wrapping_add(123)) & 255) >= 252 {
+    break 'after_19;
   }
   v5 = 1;
   break 'after_2;
   }
-  if v10 == 1 {
-    break 'after_17;
-  }
-  v11 = v13.wrapping_add(2);
-  v12 = v9.wrapping_add(0xfffffffffffffffe);
-  'after_18: {
-  v10 = (load8(v13.wrapping_add(1)) as u32) as i8 as i32 as u32;
-  if (v10 as i32) >= (0u32 as i32) {
-    break 'after_18;
-  }
-  v5 = 2;
-  'after_19: {
-  if ((v10.wrapping_add(123)) & 255) >= 252 {
-    break 'after_19;
-  }
-  v6 = 1;
-  break 'after_2;
-  }
   'after_20: {
-  v15 = (v10 as i32 as i64 as u64).wrapping_add(128);
-  if v12 >= v15 {
+  v14 = (v9 as i32 as i64 as u64).wrapping_add(128);
+  if v11 >= v14 {
     break 'after_20;
   }
-  v5 = 0;
-  v6 = 1;
+  v4 = 0;
+  v5 = 1;
   break 'after_2;
   }
-  v10 = load8(v11) as u32;
-  v14 = 0;
+  v9 = load8(v10) as u32;
+  v13 = 0;
   'after_21: {
-  if v15 == 1 {
+  if v14 == 1 {
     break 'after_21;
   }
-  v14 = v10 << 8;
-  v10 = v14 | (load8(v13.wrapping_add(3)) as u32);
-  if v15 == 2 {
+  v13 = v9 << 8;
+  v9 = v13 | (load8(v12.wrapping_add(3)) as u32);
+  if v14 == 2 {
     break 'after_21;
   }
-  v14 = v10 << 8;
-  v10 = v14 | (load8(v13.wrapping_add(4)) as u32);
-  if v15 == 3 {
+  v13 = v9 << 8;
+  v9 = v13 | (load8(v12.wrapping_add(4)) as u32);
+  if v14 == 3 {
     break 'after_21;
   }
-  v14 = v10 << 8;
-  v10 = v14 | (load8(v13.wrapping_add(5)) as u32);
+  v13 = v9 << 8;
+  v9 = v13 | (load8(v12.wrapping_add(5)) as u32);
   }
   'after_22: {
-  if v10 >= 128 {
+  if v9 >= 128 {
     break 'after_22;
   }
-  v6 = 1;
+  v5 = 1;
   break 'after_2;
   }
   'after_23: {
-  if ((load8(v11) as u32) & 255) != 0 {
+  if ((load8(v10) as u32) & 255) != 0 {
     break 'after_23;
   }
-  v6 = 1;
+  v5 = 1;
   break 'after_2;
   }
   'after_24: {
-  if v14 <= 0xfffffff {
+  if v13 <= 0xfffffff {
     break 'after_24;
   }
-  v6 = 1;
+  v5 = 1;
   break 'after_2;
   }
-  v11 = v11.wrapping_add(v15);
-  v12 = v12.wrapping_sub(v15);
+  v10 = v10.wrapping_add(v14);
+  v11 = v11.wrapping_sub(v14);
   }
-  v16 = v10 as u64;
-  if v12 < v16 {
+  v15 = v9 as u64;
+  if v11 < v15 {
     break 'after_17;
   }
   'after_27: {
   'after_25: {
-  if v10 != 8 {
+  if v9 != 8 {
     break 'after_25;
   }
-  v5 = (load8(v11) as u32) as i8 as i32 as u32;
-  v10 = (load8(v11.wrapping_add(1)) as u32) as i8 as i32 as u32;
-  let t0 = (u32::from((v5 & 255) == 128)) | ((u32::from((v10 & 255) == 128)) << 1);
-  v14 = (load8(v11.wrapping_add(3)) as u32) as i8 as i32 as u32;
-  v17 = (load8(v11.wrapping_add(2)) as u32) as i8 as i32 as u32;
-  let t1 = ((u32::from((v14 & 255) == 128)) << 3) | ((u32::from((v17 & 255) == 128)) << 2);
-  v18 = (load8(v11.wrapping_add(4)) as u32) as i8 as i32 as u32;
-  v19 = (load8(v11.wrapping_add(5)) as u32) as i8 as i32 as u32;
-  let t2 = (u32::from((v18 & 255) == 128)) | ((u32::from((v19 & 255) == 128)) << 1);
-  v20 = (load8(v11.wrapping_add(7)) as u32) as i8 as i32 as u32;
-  v21 = (load8(v11.wrapping_add(6)) as u32) as i8 as i32 as u32;
-  let t3 = ((u32::from((v20 & 255) == 128)) << 3) | ((u32::from((v21 & 255) == 128)) << 2);
+  v4 = (load8(v10) as u32) as i8 as i32 as u32;
+  v9 = (load8(v10.wrapping_add(1)) as u32) as i8 as i32 as u32;
+  let t0 = (u32::from((v4 & 255) == 128)) | ((u32::from((v9 & 255) == 128)) << 1);
+  v13 = (load8(v10.wrapping_add(3)) as u32) as i8 as i32 as u32;
+  v16 = (load8(v10.wrapping_add(2)) as u32) as i8 as i32 as u32;
+  let t1 = ((u32::from((v13 & 255) == 128)) << 3) | ((u32::from((v16 & 255) == 128)) << 2);
+  v17 = (load8(v10.wrapping_add(4)) as u32) as i8 as i32 as u32;
+  v18 = (load8(v10.wrapping_add(5)) as u32) as i8 as i32 as u32;
+  let t2 = (u32::from((v17 & 255) == 128)) | ((u32::from((v18 & 255) == 128)) << 1);
+  v19 = (load8(v10.wrapping_add(7)) as u32) as i8 as i32 as u32;
+  v20 = (load8(v10.wrapping_add(6)) as u32) as i8 as i32 as u32;
+  let t3 = ((u32::from((v19 & 255) == 128)) << 3) | ((u32::from((v20 & 255) == 128)) << 2);
   if ((t0 | t1) | ((t2 | t3) << 4)) != 0 {
     break 'after_26;
   }
-  let t4 = ((u32::from((v5 as i32) > (0xffffffffu32 as i32))) | ((u32::from((v10 as i32) >
-      (0xffffffffu32 as i32))) << 1)) | (((u32::from((v14 as i32) > (0xffffffffu32 as i32))) << 3) |
-      ((u32::from((v17 as i32) > (0xffffffffu32 as i32))) << 2));
-  let t5 = ((u32::from((v18 as i32) > (0xffffffffu32 as i32))) | ((u32::from((v19 as i32) >
-      (0xffffffffu32 as i32))) << 1)) | (((u32::from((v20 as i32) > (0xffffffffu32 as i32))) << 3) |
-      ((u32::from((v21 as i32) > (0xffffffffu32 as i32))) << 2));
-  v15 = (t4 | (t5 << 4)) as u64;
-  if ((v15 >> 1) | v15) == 255 {
+  let t4 = ((u32::from((v4 as i32) > (0xffffffffu32 as i32))) | ((u32::from((v9 as i32) >
+      (0xffffffffu32 as i32))) << 1)) | (((u32::from((v13 as i32) > (0xffffffffu32 as i32))) << 3) |
+      ((u32::from((v16 as i32) > (0xffffffffu32 as i32))) << 2));
+  let t5 = ((u32::from((v17 as i32) > (0xffffffffu32 as i32))) | ((u32::from((v18 as i32) >
+      (0xffffffffu32 as i32))) << 1)) | (((u32::from((v19 as i32) > (0xffffffffu32 as i32))) << 3) |
+      ((u32::from((v20 as i32) > (0xffffffffu32 as i32))) << 2));
+  v14 = (t4 | (t5 << 4)) as u64;
+  if ((v14 >> 1) | v14) == 255 {
     break 'after_27;
   }
   break 'after_26;
   }
-  if (v10.wrapping_add(0xffffffd8)) >= 0xffffffd9 {
+  if (v9.wrapping_add(0xffffffd8)) >= 0xffffffd9 {
     break 'after_26;
   }
   break 'after_28;
   }
-  if v12 != v16 {
+  if v11 != v15 {
     break 'after_29;
   }
   break 'after_30;
   }
-  v22 = v16.wrapping_add(0xffffffffffffffff);
-  v5 = 0;
-  v15 = v11;
+  v21 = v15.wrapping_add(0xffffffffffffffff);
+  v4 = 0;
+  v14 = v10;
   'after_35: {
   'again_36: loop {
   'after_34: {
   'after_31: {
-  v10 = (load8(v15) as u32) as i8 as i32 as u32;
-  if (v10 as i32) > (0xffffffffu32 as i32) {
+  v9 = (load8(v14) as u32) as i8 as i32 as u32;
+  if (v9 as i32) > (0xffffffffu32 as i32) {
     break 'after_31;
   }
   'after_33: {
   'after_32: {
-  v14 = v5 & 255;
-  if v14 != 0 {
+  v13 = v4 & 255;
+  if v13 != 0 {
     break 'after_32;
   }
-  if v10 == 0xffffff80 {
+  if v9 == 0xffffff80 {
     break 'after_28;
   }
-  v5 = if v10 < 0xffffff90 { 1u32 } else { 2u32 };
+  v4 = if v9 < 0xffffff90 { 1u32 } else { 2u32 };
   break 'after_33;
   }
-  if v14 > 3 {
+  if v13 > 3 {
     break 'after_28;
   }
-  v5 = v5.wrapping_add(1);
+  v4 = v4.wrapping_add(1);
   }
-  if v22 == 0 {
+  if v21 == 0 {
     break 'after_28;
   }
   break 'after_34;
   }
-  v5 = 0;
-  if v22 == 0 {
+  v4 = 0;
+  if v21 == 0 {
     break 'after_35;
   }
   }
-  v15 = v15.wrapping_add(1);
-  v22 = v22.wrapping_add(0xffffffffffffffff);
+  v14 = v14.wrapping_add(1);
+  v21 = v21.wrapping_add(0xffffffffffffffff);
   continue 'again_36;
   }
   }
-  if v12 == v16 {
+  if v11 == v15 {
     break 'after_30;
   }
   }
-  v5 = 3;
-  v6 = 1;
+  v4 = 3;
+  v5 = 1;
   break 'after_2;
   }
-  v15 = 0;
-  'after_37: {
-  p3 = p3.wrapping_sub(v9);
-  if p3 != 0 {
+  p3 = p3.wrapping_sub(v8);
+  if p3 == 0 {
     break 'after_37;
   }
-  store64(p1.wrapping_add(8), v7);
-  store64(p1, p2);
-  v5 = 0;
-  v16 = 0;
-  break 'after_38;
+  v8 = v12.wrapping_add(v8);
+  v4 = load8(v8) as u32;
   }
-  v9 = v13.wrapping_add(v9);
-  v5 = load8(v9) as u32;
+  'after_38: {
+  if (v4 & 255) == 161 {
+    break 'after_38;
   }
-  'after_39: {
-  if (v5 & 255) == 161 {
-    break 'after_39;
-  }
-  v5 = 3;
+  v4 = 3;
   break 'after_2;
   }
   if p3 == 1 {
     break 'after_5;
   }
-  v13 = v9.wrapping_add(2);
+  v12 = v8.wrapping_add(2);
   p3 = p3.wrapping_add(0xfffffffffffffffe);
+  'after_39: {
+  v9 = (load8(v8.wrapping_add(1)) as u32) as i8 as i32 as u32;
+  if (v9 as i32) >= (0u32 as i32) {
+    break 'after_39;
+  }
+  v4 = 2;
+  if ((v9.wrapping_add(123)) & 255) < 252 {
+    break 'after_2;
+  }
+  v14 = (v9 as i32 as i64 as u64).wrapping_add(128);
+  if p3 < v14 {
+    break 'after_5;
+  }
+  v9 = load8(v12) as u32;
+  v13 = 0;
   'after_40: {
-  v10 = (load8(v9.wrapping_add(1)) as u32) as i8 as i32 as u32;
-  if (v10 as i32) >= (0u32 as i32) {
+  if v14 == 1 {
     break 'after_40;
   }
-  v5 = 2;
-  if ((v10.wrapping_add(123)) & 255) < 252 {
+  v13 = v9 << 8;
+  v9 = v13 | (load8(v8.wrapping_add(3)) as u32);
+  if v14 == 2 {
+    break 'after_40;
+  }
+  v13 = v9 << 8;
+  v9 = v13 | (load8(v8.wrapping_add(4)) as u32);
+  if v14 == 3 {
+    break 'after_40;
+  }
+  v13 = v9 << 8;
+  v9 = v13 | (load8(v8.wrapping_add(5)) as u32);
+  }
+  if v9 < 128 {
     break 'after_2;
   }
-  v15 = (v10 as i32 as i64 as u64).wrapping_add(128);
-  if p3 < v15 {
+  if ((load8(v12) as u32) & 255) == 0 {
+    break 'after_2;
+  }
+  if v13 > 0xfffffff {
+    break 'after_2;
+  }
+  v12 = v12.wrapping_add(v14);
+  p3 = p3.wrapping_sub(v14);
+  }
+  if v9 == 0 {
     break 'after_5;
   }
-  v10 = load8(v13) as u32;
-  v14 = 0;
-  'after_41: {
-  if v15 == 1 {
-    break 'after_41;
-  }
-  v14 = v10 << 8;
-  v10 = v14 | (load8(v9.wrapping_add(3)) as u32);
-  if v15 == 2 {
-    break 'after_41;
-  }
-  v14 = v10 << 8;
-  v10 = v14 | (load8(v9.wrapping_add(4)) as u32);
-  if v15 == 3 {
-    break 'after_41;
-  }
-  v14 = v10 << 8;
-  v10 = v14 | (load8(v9.wrapping_add(5)) as u32);
-  }
-  if v10 < 128 {
-    break 'after_2;
-  }
-  if ((load8(v13) as u32) & 255) == 0 {
-    break 'after_2;
-  }
-  if v14 > 0xfffffff {
-    break 'after_2;
-  }
-  v13 = v13.wrapping_add(v15);
-  p3 = p3.wrapping_sub(v15);
-  }
-  if v10 == 0 {
+  v8 = v9 as u64;
+  if p3 < v8 {
     break 'after_5;
   }
-  v9 = v10 as u64;
-  if p3 < v9 {
-    break 'after_5;
+  v4 = 1;
+  if (load8(v12) as u32) != 3 {
+    break 'after_2;
   }
   v5 = 1;
-  if (load8(v13) as u32) != 3 {
-    break 'after_2;
-  }
-  v6 = 1;
-  if v10 == 1 {
+  if v9 == 1 {
     break 'after_5;
   }
-  v22 = v13.wrapping_add(2);
-  v15 = v9.wrapping_add(0xfffffffffffffffe);
+  v21 = v12.wrapping_add(2);
+  v14 = v8.wrapping_add(0xfffffffffffffffe);
+  'after_41: {
+  v9 = (load8(v12.wrapping_add(1)) as u32) as i8 as i32 as u32;
+  if (v9 as i32) >= (0u32 as i32) {
+    break 'after_41;
+  }
+  v4 = 2;
+  if ((v9.wrapping_add(123)) & 255) < 252 {
+    break 'after_2;
+  }
+  v15 = (v9 as i32 as i64 as u64).wrapping_add(128);
+  if v14 < v15 {
+    break 'after_5;
+  }
+  v9 = load8(v21) as u32;
+  v13 = 0;
   'after_42: {
-  v10 = (load8(v13.wrapping_add(1)) as u32) as i8 as i32 as u32;
-  if (v10 as i32) >= (0u32 as i32) {
+  if v15 == 1 {
     break 'after_42;
   }
-  v5 = 2;
-  if ((v10.wrapping_add(123)) & 255) < 252 {
+  v13 = v9 << 8;
+  v9 = v13 | (load8(v12.wrapping_add(3)) as u32);
+  if v15 == 2 {
+    break 'after_42;
+  }
+  v13 = v9 << 8;
+  v9 = v13 | (load8(v12.wrapping_add(4)) as u32);
+  if v15 == 3 {
+    break 'after_42;
+  }
+  v13 = v9 << 8;
+  v9 = v13 | (load8(v12.wrapping_add(5)) as u32);
+  }
+  if v9 < 128 {
     break 'after_2;
   }
-  v16 = (v10 as i32 as i64 as u64).wrapping_add(128);
-  if v15 < v16 {
+  if ((load8(v21) as u32) & 255) == 0 {
+    break 'after_2;
+  }
+  if v13 > 0xfffffff {
+    break 'after_2;
+  }
+  v21 = v21.wrapping_add(v15);
+  v14 = v14.wrapping_sub(v15);
+  }
+  v12 = v9 as u64;
+  if v14 < v12 {
     break 'after_5;
   }
-  v10 = load8(v22) as u32;
-  v14 = 0;
+  v4 = 4;
   'after_43: {
-  if v16 == 1 {
+  if v9 != 0 {
     break 'after_43;
   }
-  v14 = v10 << 8;
-  v10 = v14 | (load8(v13.wrapping_add(3)) as u32);
-  if v16 == 2 {
-    break 'after_43;
-  }
-  v14 = v10 << 8;
-  v10 = v14 | (load8(v13.wrapping_add(4)) as u32);
-  if v16 == 3 {
-    break 'after_43;
-  }
-  v14 = v10 << 8;
-  v10 = v14 | (load8(v13.wrapping_add(5)) as u32);
-  }
-  if v10 < 128 {
-    break 'after_2;
-  }
-  if ((load8(v22) as u32) & 255) == 0 {
-    break 'after_2;
-  }
-  if v14 > 0xfffffff {
-    break 'after_2;
-  }
-  v22 = v22.wrapping_add(v16);
-  v15 = v15.wrapping_sub(v16);
-  }
-  v13 = v10 as u64;
-  if v15 < v13 {
-    break 'after_5;
-  }
-  v5 = 4;
-  'after_44: {
-  if v10 != 0 {
-    break 'after_44;
-  }
-  v5 = 4;
+  v4 = 4;
   break 'after_2;
   }
-  v10 = load8(v22) as u32;
-  'after_46: {
+  v9 = load8(v21) as u32;
   'after_45: {
-  v16 = v13.wrapping_add(0xffffffffffffffff);
-  if v16 != 0 {
+  'after_44: {
+  v15 = v12.wrapping_add(0xffffffffffffffff);
+  if v15 != 0 {
+    break 'after_44;
+  }
+  if (v9 & 255) != 0 {
+    break 'after_2;
+  }
+  v4 = 3;
+  if p3 != v8 {
+    break 'after_2;
+  }
+  if v14 == v12 {
     break 'after_45;
   }
-  if (v10 & 255) != 0 {
-    break 'after_2;
+  break 'after_2;
   }
-  v5 = 3;
-  if p3 != v9 {
-    break 'after_2;
-  }
-  if v15 == v13 {
+  'after_46: {
+  v4 = v9 & 255;
+  if v4 <= 7 {
     break 'after_46;
   }
+  v4 = 4;
   break 'after_2;
   }
   'after_47: {
-  v5 = v10 & 255;
-  if v5 <= 7 {
+  let t6 = u32::from((((0xffffffffu32 << (v4 & 31)) ^ 0xffffffff) &
+      (load8(v15.wrapping_add(v21)) as u32)) == 0);
+  if t6 != 0 {
     break 'after_47;
   }
-  v5 = 4;
+  v4 = 4;
   break 'after_2;
+  }
+  v4 = 3;
+  if v14 != v12 {
+    break 'after_2;
   }
   'after_48: {
-  let t6 = u32::from((((0xffffffffu32 << (v5 & 31)) ^ 0xffffffff) &
-      (load8(v16.wrapping_add(v22)) as u32)) == 0);
-  if t6 != 0 {
+  if (v9 & 255) == 0 {
     break 'after_48;
   }
-  v5 = 4;
+  v4 = 4;
   break 'after_2;
   }
-  v5 = 3;
-  if v15 != v13 {
+  if p3 != v8 {
     break 'after_2;
   }
+  }
+  p3 = v21.wrapping_add(1);
+  store64(p1.wrapping_add(8), v6);
+  store64(p1, p2);
   'after_49: {
-  if (v10 & 255) == 0 {
+  if v7 != 160 {
     break 'after_49;
   }
-  v5 = 4;
-  break 'after_2;
-  }
-  if p3 != v9 {
-    break 'after_2;
-  }
-  }
-  v15 = v22.wrapping_add(1);
-  store64(p1.wrapping_add(8), v7);
-  store64(p1, p2);
-  v5 = 1;
-  if v8 != 160 {
-    break 'after_50;
-  }
-  }
-  store64(v4.wrapping_add(71), 0);
-  store64(v4.wrapping_add(64), 0);
-  store64(v4.wrapping_add(56), 0);
-  store64(v4.wrapping_add(48), 0);
-  store64(v4.wrapping_add(40), 0);
-  'after_51: {
-  if v12 == 0 {
-    break 'after_51;
-  }
-  move_(v4.wrapping_add(40), v11, v12);
-  }
-  p3 = load64(v4.wrapping_add(64));
-  store64(v4.wrapping_add(32), p3);
-  p2 = load64(v4.wrapping_add(56));
-  store64(v4.wrapping_add(24), p2);
-  v7 = load64(v4.wrapping_add(48));
-  store64(v4.wrapping_add(16), v7);
-  v9 = load64(v4.wrapping_add(40));
-  store64(v4.wrapping_add(8), v9);
-  v11 = load8(v4.wrapping_add(78)) as u64;
-  v13 = load16(v4.wrapping_add(76)) as u64;
-  v4 = load32(v4.wrapping_add(72)) as u64;
-  store64(p1.wrapping_add(24), 0);
+  store64(p1.wrapping_add(32), v11);
+  store64(p1.wrapping_add(24), v10);
   store64(p1.wrapping_add(16), 1);
-  store64(p1.wrapping_add(32), v9);
-  store64(p1.wrapping_add(40), v7);
-  store64(p1.wrapping_add(48), p2);
-  store64(p1.wrapping_add(56), p3);
-  store64(p1.wrapping_add(72), v12);
-  store64(p1.wrapping_add(64), v4 | ((v11 << 48) | (v13 << 32)));
-  if v5 == 0 {
-    break 'after_11;
   }
+  store64(p1.wrapping_add(56), v15);
+  store64(p1.wrapping_add(48), p3);
+  store64(p1.wrapping_add(40), 1);
+  break 'after_11;
   }
-  store64(p1.wrapping_add(96), v16);
-  store64(p1.wrapping_add(88), v15);
-  store64(p1.wrapping_add(80), 1);
-  }
-  v6 = 0;
-  break 'after_5;
-  }
-  v5 = 4;
-  v6 = 1;
-  break 'after_2;
-  }
-  v6 = 1;
+  store64(p1.wrapping_add(8), v6);
+  store64(p1, p2);
+  store64(p1.wrapping_add(32), v11);
+  store64(p1.wrapping_add(24), v10);
+  store64(p1.wrapping_add(16), 1);
   }
   v5 = 0;
+  break 'after_5;
   }
-  store8(p0.wrapping_add(1), v5 as u8);
-  store8(p0, v6 as u8);
+  v4 = 4;
+  v5 = 1;
+  break 'after_2;
+  }
+  v5 = 1;
+  }
+  v4 = 0;
+  }
+  store8(p0.wrapping_add(1), v4 as u8);
+  store8(p0, v5 as u8);
 }
 
 // pkix::private_key::PrivateKeyInfo::from_der
@@ -5128,323 +4878,6 @@ unsafe fn pkix_private_key_OneAsymmetricKey_from_der(p0: u64, mut p1: u64, mut p
   }
 }
 
-// sec1_c::fields::fields_len::<#19b6bbbb548dea63>
-unsafe fn sec1_c_fields_fields_len(p0: u64) -> u64 {
-  let mut v2 = 0u64;
-  let mut v3 = 0u64;
-  let mut v4 = 0u64;
-  let mut v5 = 0u64;
-  let mut v6 = 0u64;
-  let mut v7 = 0u64;
-  let mut v8 = 0u64;
-  let mut v9 = 0u32;
-  let mut v10 = 0u32;
-  let mut v11 = 0u64;
-  let mut v12 = 0u64;
-  let mut v13 = 0u64;
-  let mut v14 = 0u64;
-  'after_22: {
-  'after_3: {
-  v2 = 0;
-  v3 = 0;
-  'after_1: {
-  if (load8(p0) as u32) != 1 {
-    break 'after_1;
-  }
-  v4 = load64(p0.wrapping_add(8));
-  v5 = v4;
-  v6 = load64(p0.wrapping_add(16));
-  v7 = v6;
-  'after_2: {
-  'again_12: loop {
-  if v7 == 0 {
-    break 'after_2;
-  }
-  if v7 == 1 {
-    break 'after_3;
-  }
-  if ((load8(v5) as u32) & 255) != 48 {
-    break 'after_3;
-  }
-  v8 = v5.wrapping_add(2);
-  v7 = v7.wrapping_add(0xfffffffffffffffe);
-  'after_4: {
-  v9 = (load8(v5.wrapping_add(1)) as u32) as i8 as i32 as u32;
-  if (v9 as i32) >= (0u32 as i32) {
-    break 'after_4;
-  }
-  if ((v9.wrapping_add(123)) & 255) < 252 {
-    break 'after_3;
-  }
-  v3 = (v9 as i32 as i64 as u64).wrapping_add(128);
-  if v7 < v3 {
-    break 'after_3;
-  }
-  v9 = load8(v8) as u32;
-  v10 = 0;
-  'after_5: {
-  if v3 == 1 {
-    break 'after_5;
-  }
-  v10 = v9 << 8;
-  v9 = v10 | (load8(v5.wrapping_add(3)) as u32);
-  if v3 == 2 {
-    break 'after_5;
-  }
-  v10 = v9 << 8;
-  v9 = v10 | (load8(v5.wrapping_add(4)) as u32);
-  if v3 == 3 {
-    break 'after_5;
-  }
-  v10 = v9 << 8;
-  v9 = v10 | (load8(v5.wrapping_add(5)) as u32);
-  }
-  if v9 < 128 {
-    break 'after_3;
-  }
-  if ((load8(v8) as u32) & 255) == 0 {
-    break 'after_3;
-  }
-  if v10 > 0xfffffff {
-    break 'after_3;
-  }
-  v8 = v8.wrapping_add(v3);
-  v7 = v7.wrapping_sub(v3);
-  }
-  v5 = v9 as u64;
-  if v7 < v5 {
-    break 'after_3;
-  }
-  if v9 == 0 {
-    break 'after_3;
-  }
-  if v9 == 1 {
-    break 'after_3;
-  }
-  if ((load8(v8) as u32) & 255) != 6 {
-    break 'after_3;
-  }
-  v3 = v8.wrapping_add(2);
-  v11 = v5.wrapping_add(0xfffffffffffffffe);
-  'after_6: {
-  v9 = (load8(v8.wrapping_add(1)) as u32) as i8 as i32 as u32;
-  if (v9 as i32) >= (0u32 as i32) {
-    break 'after_6;
-  }
-  if ((v9.wrapping_add(123)) & 255) < 252 {
-    break 'after_3;
-  }
-  v12 = (v9 as i32 as i64 as u64).wrapping_add(128);
-  if v11 < v12 {
-    break 'after_3;
-  }
-  v9 = load8(v3) as u32;
-  v10 = 0;
-  'after_7: {
-  if v12 == 1 {
-    break 'after_7;
-  }
-  v10 = v9 << 8;
-  v9 = v10 | (load8(v8.wrapping_add(3)) as u32);
-  if v12 == 2 {
-    break 'after_7;
-  }
-  v10 = v9 << 8;
-  v9 = v10 | (load8(v8.wrapping_add(4)) as u32);
-  if v12 == 3 {
-    break 'after_7;
-  }
-  v10 = v9 << 8;
-  v9 = v10 | (load8(v8.wrapping_add(5)) as u32);
-  }
-  if v9 < 128 {
-    break 'after_3;
-  }
-  if ((load8(v3) as u32) & 255) == 0 {
-    break 'after_3;
-  }
-  if v10 > 0xfffffff {
-    break 'after_3;
-  }
-  v3 = v3.wrapping_add(v12);
-  v11 = v11.wrapping_sub(v12);
-  }
-  v12 = v9 as u64;
-  if v11 < v12 {
-    break 'after_3;
-  }
-  if v9 == 0 {
-    break 'after_3;
-  }
-  v7 = v7.wrapping_sub(v5);
-  v5 = v8.wrapping_add(v5);
-  v13 = v11.wrapping_sub(v12);
-  v14 = v3.wrapping_add(v12);
-  v8 = v12;
-  v10 = 1;
-  'again_9: loop {
-  v9 = (load8(v3) as u32) as i8 as i32 as u32;
-  'after_8: {
-  if (v10 & 1) == 0 {
-    break 'after_8;
-  }
-  if v9 == 0xffffff80 {
-    break 'after_3;
-  }
-  }
-  v3 = v3.wrapping_add(1);
-  v10 = u32::from((v9 as i32) > (0xffffffffu32 as i32));
-  v8 = v8.wrapping_add(0xffffffffffffffff);
-  if v8 != 0 {
-    continue 'again_9;
-  }
-  break;
-  }
-  if v11 == v12 {
-    break 'after_3;
-  }
-  if (v9 as i32) < (0u32 as i32) {
-    break 'after_3;
-  }
-  if (load8(v14) as u32) != 49 {
-    break 'after_3;
-  }
-  if v13 == 1 {
-    break 'after_3;
-  }
-  v3 = v13.wrapping_add(0xfffffffffffffffe);
-  'after_10: {
-  v9 = (load8(v14.wrapping_add(1)) as u32) as i8 as i32 as u32;
-  if (v9 as i32) >= (0u32 as i32) {
-    break 'after_10;
-  }
-  if ((v9.wrapping_add(123)) & 255) < 252 {
-    break 'after_3;
-  }
-  v8 = (v9 as i32 as i64 as u64).wrapping_add(128);
-  if v3 < v8 {
-    break 'after_3;
-  }
-  v11 = v14.wrapping_add(2);
-  v9 = load8(v11) as u32;
-  v10 = 0;
-  'after_11: {
-  if v8 == 1 {
-    break 'after_11;
-  }
-  v10 = v9 << 8;
-  v9 = v10 | (load8(v14.wrapping_add(3)) as u32);
-  if v8 == 2 {
-    break 'after_11;
-  }
-  v10 = v9 << 8;
-  v9 = v10 | (load8(v14.wrapping_add(4)) as u32);
-  if v8 == 3 {
-    break 'after_11;
-  }
-  v10 = v9 << 8;
-  v9 = v10 | (load8(v14.wrapping_add(5)) as u32);
-  }
-  if v9 < 128 {
-    break 'after_3;
-  }
-  if ((load8(v11) as u32) & 255) == 0 {
-    break 'after_3;
-  }
-  if v10 > 0xfffffff {
-    break 'after_3;
-  }
-  v3 = v3.wrapping_sub(v8);
-  }
-  if v3 == (v9 as u64) {
-    continue 'again_12;
-  }
-  break 'after_3;
-  }
-  }
-  let t0 = der_types_set_of_is_ascending(v4, v6);
-  if t0 == 0 {
-    break 'after_3;
-  }
-  if v6 > 0xfffffff {
-    break 'after_3;
-  }
-  'after_14: {
-  'after_13: {
-  if v6 >= 128 {
-    break 'after_13;
-  }
-  v3 = 2;
-  break 'after_14;
-  }
-  'after_15: {
-  if v6 >= 256 {
-    break 'after_15;
-  }
-  v3 = 3;
-  break 'after_14;
-  }
-  'after_16: {
-  if v6 >= 0x10000 {
-    break 'after_16;
-  }
-  v3 = 4;
-  break 'after_14;
-  }
-  v3 = if v6 < 0x1000000 { 5u64 } else { 6u64 };
-  }
-  v3 = v3.wrapping_add(v6);
-  if v3 > 0xfffffff {
-    break 'after_3;
-  }
-  }
-  'after_17: {
-  if (load8(p0.wrapping_add(24)) as u32) != 1 {
-    break 'after_17;
-  }
-  v8 = (load64(p0.wrapping_add(48))).wrapping_add(1);
-  if v8 > 0xfffffff {
-    break 'after_3;
-  }
-  'after_19: {
-  'after_18: {
-  if v8 >= 128 {
-    break 'after_18;
-  }
-  v11 = 2;
-  break 'after_19;
-  }
-  'after_20: {
-  if v8 >= 256 {
-    break 'after_20;
-  }
-  v11 = 3;
-  break 'after_19;
-  }
-  'after_21: {
-  if v8 >= 0x10000 {
-    break 'after_21;
-  }
-  v11 = 4;
-  break 'after_19;
-  }
-  v11 = if v8 < 0x1000000 { 5u64 } else { 6u64 };
-  }
-  v2 = v11.wrapping_add(v8);
-  if v2 > 0xfffffff {
-    break 'after_3;
-  }
-  }
-  v3 = v2.wrapping_add(v3);
-  if v3 <= 0xfffffff {
-    break 'after_22;
-  }
-  }
-  trap();
-  }
-  return v3;
-}
-
 // sec1_der::required::RequiredDecodePart::decode_part::<#bae983b3689e6e8f>
 unsafe fn sec1_der_required_RequiredDecodePart_decode_part(p0: u64, p1: u64) {
   let mut v2 = 0u32;
@@ -6029,6 +5462,626 @@ unsafe fn sec1_c_private_key_has_algorithm(mut p0: u64, mut p1: u64) -> u32 {
   v2 = u32::from((load8(v5.wrapping_add(p0)) as u32) == 48);
   }
   return v2;
+}
+
+// sec1_c::private_key::names_curve
+unsafe fn sec1_c_private_key_names_curve(mut p0: u64, p1: u32) -> u32 {
+  let mut array = Frame::<96>::new();
+  let frame = address(&raw mut array);
+  let mut v3 = 0u32;
+  let mut v4 = 0u64;
+  let mut v5 = 0u64;
+  let mut v6 = 0u32;
+  let mut v7 = 0u32;
+  let mut v8 = 0u32;
+  let mut v9 = 0u32;
+  let mut v10 = 0u32;
+  let mut v11 = 0u32;
+  let mut v12 = 0u32;
+  let mut v13 = 0u32;
+  let mut v14 = 0u32;
+  let mut v15 = 0u32;
+  let mut v16 = 0u32;
+  let mut v17 = 0u32;
+  let mut v18 = 0u32;
+  let mut v19 = 0u32;
+  let mut v20 = 0u32;
+  let mut v21 = 0u32;
+  let mut v22 = 0u32;
+  let mut v23 = 0u32;
+  let mut v24 = 0u32;
+  let mut v25 = 0u32;
+  let mut v26 = 0u32;
+  let mut v27 = 0u32;
+  let mut v28 = 0u32;
+  let mut v29 = 0u32;
+  let mut v30 = 0u32;
+  let mut v31 = 0u32;
+  let mut v32 = 0u32;
+  let mut v33 = 0u32;
+  let mut v34 = 0u32;
+  let mut v35 = 0u32;
+  let mut v36 = 0u32;
+  let mut v37 = 0u32;
+  let mut v38 = 0u64;
+  store64(frame.wrapping_add(48), 0);
+  store64(frame.wrapping_add(40), 0);
+  store64(frame.wrapping_add(32), 0);
+  store64(frame.wrapping_add(24), 0);
+  store64(frame.wrapping_add(16), 0);
+  store64(frame.wrapping_add(8), 0);
+  v3 = 1;
+  'after_1: {
+  if (load8(p0.wrapping_add(16)) as u32) != 1 {
+    break 'after_1;
+  }
+  v4 = load64(p0.wrapping_add(32));
+  p0 = load64(p0.wrapping_add(24));
+  store64(frame.wrapping_add(87), 0);
+  store64(frame.wrapping_add(80), 0);
+  store64(frame.wrapping_add(72), 0);
+  store64(frame.wrapping_add(64), 0);
+  store64(frame.wrapping_add(56), 0);
+  'after_2: {
+  if v4 == 0 {
+    break 'after_2;
+  }
+  move_(frame.wrapping_add(56), p0, v4);
+  }
+  p0 = load8(frame.wrapping_add(94)) as u64;
+  v5 = load16(frame.wrapping_add(92)) as u64;
+  v6 = load8(frame.wrapping_add(87)) as u32;
+  v7 = load8(frame.wrapping_add(86)) as u32;
+  v8 = load8(frame.wrapping_add(85)) as u32;
+  v9 = load8(frame.wrapping_add(84)) as u32;
+  v10 = load8(frame.wrapping_add(83)) as u32;
+  v11 = load8(frame.wrapping_add(82)) as u32;
+  v12 = load8(frame.wrapping_add(81)) as u32;
+  v13 = load8(frame.wrapping_add(80)) as u32;
+  v14 = load8(frame.wrapping_add(79)) as u32;
+  v15 = load8(frame.wrapping_add(78)) as u32;
+  v16 = load8(frame.wrapping_add(77)) as u32;
+  v17 = load8(frame.wrapping_add(76)) as u32;
+  v18 = load8(frame.wrapping_add(75)) as u32;
+  v19 = load8(frame.wrapping_add(74)) as u32;
+  v20 = load8(frame.wrapping_add(73)) as u32;
+  v21 = load8(frame.wrapping_add(72)) as u32;
+  v22 = load8(frame.wrapping_add(71)) as u32;
+  v23 = load8(frame.wrapping_add(70)) as u32;
+  v24 = load8(frame.wrapping_add(69)) as u32;
+  v25 = load8(frame.wrapping_add(68)) as u32;
+  v26 = load8(frame.wrapping_add(67)) as u32;
+  v27 = load8(frame.wrapping_add(66)) as u32;
+  v28 = load8(frame.wrapping_add(65)) as u32;
+  v29 = load8(frame.wrapping_add(64)) as u32;
+  v30 = load8(frame.wrapping_add(63)) as u32;
+  v31 = load8(frame.wrapping_add(62)) as u32;
+  v32 = load8(frame.wrapping_add(61)) as u32;
+  v33 = load8(frame.wrapping_add(60)) as u32;
+  v34 = load8(frame.wrapping_add(59)) as u32;
+  v35 = load8(frame.wrapping_add(58)) as u32;
+  v36 = load8(frame.wrapping_add(57)) as u32;
+  v37 = load8(frame.wrapping_add(56)) as u32;
+  v38 = load32(frame.wrapping_add(88)) as u64;
+  curves_curve_Curve_identifier(frame.wrapping_add(8), p1);
+  v3 = 0;
+  if v37 != (load8(frame.wrapping_add(8)) as u32) {
+    break 'after_1;
+  }
+  if (v36 & 255) != ((load8(frame.wrapping_add(9)) as u32) & 255) {
+    break 'after_1;
+  }
+  if (v35 & 255) != ((load8(frame.wrapping_add(10)) as u32) & 255) {
+    break 'after_1;
+  }
+  if (v34 & 255) != ((load8(frame.wrapping_add(11)) as u32) & 255) {
+    break 'after_1;
+  }
+  if (v33 & 255) != ((load8(frame.wrapping_add(12)) as u32) & 255) {
+    break 'after_1;
+  }
+  if (v32 & 255) != ((load8(frame.wrapping_add(13)) as u32) & 255) {
+    break 'after_1;
+  }
+  if (v31 & 255) != ((load8(frame.wrapping_add(14)) as u32) & 255) {
+    break 'after_1;
+  }
+  if (v30 & 255) != ((load8(frame.wrapping_add(15)) as u32) & 255) {
+    break 'after_1;
+  }
+  if (v29 & 255) != ((load8(frame.wrapping_add(16)) as u32) & 255) {
+    break 'after_1;
+  }
+  if (v22 & 255) != ((load8(frame.wrapping_add(23)) as u32) & 255) {
+    break 'after_1;
+  }
+  if (v23 & 255) != ((load8(frame.wrapping_add(22)) as u32) & 255) {
+    break 'after_1;
+  }
+  if (v24 & 255) != ((load8(frame.wrapping_add(21)) as u32) & 255) {
+    break 'after_1;
+  }
+  if (v25 & 255) != ((load8(frame.wrapping_add(20)) as u32) & 255) {
+    break 'after_1;
+  }
+  if (v26 & 255) != ((load8(frame.wrapping_add(19)) as u32) & 255) {
+    break 'after_1;
+  }
+  if (v27 & 255) != ((load8(frame.wrapping_add(18)) as u32) & 255) {
+    break 'after_1;
+  }
+  if (v28 & 255) != ((load8(frame.wrapping_add(17)) as u32) & 255) {
+    break 'after_1;
+  }
+  if (v14 & 255) != ((load8(frame.wrapping_add(31)) as u32) & 255) {
+    break 'after_1;
+  }
+  if (v15 & 255) != ((load8(frame.wrapping_add(30)) as u32) & 255) {
+    break 'after_1;
+  }
+  if (v16 & 255) != ((load8(frame.wrapping_add(29)) as u32) & 255) {
+    break 'after_1;
+  }
+  if (v17 & 255) != ((load8(frame.wrapping_add(28)) as u32) & 255) {
+    break 'after_1;
+  }
+  if (v18 & 255) != ((load8(frame.wrapping_add(27)) as u32) & 255) {
+    break 'after_1;
+  }
+  if (v19 & 255) != ((load8(frame.wrapping_add(26)) as u32) & 255) {
+    break 'after_1;
+  }
+  if (v20 & 255) != ((load8(frame.wrapping_add(25)) as u32) & 255) {
+    break 'after_1;
+  }
+  if (v21 & 255) != ((load8(frame.wrapping_add(24)) as u32) & 255) {
+    break 'after_1;
+  }
+  if (v6 & 255) != ((load8(frame.wrapping_add(39)) as u32) & 255) {
+    break 'after_1;
+  }
+  if (v7 & 255) != ((load8(frame.wrapping_add(38)) as u32) & 255) {
+    break 'after_1;
+  }
+  if (v8 & 255) != ((load8(frame.wrapping_add(37)) as u32) & 255) {
+    break 'after_1;
+  }
+  if (v9 & 255) != ((load8(frame.wrapping_add(36)) as u32) & 255) {
+    break 'after_1;
+  }
+  if (v10 & 255) != ((load8(frame.wrapping_add(35)) as u32) & 255) {
+    break 'after_1;
+  }
+  if (v11 & 255) != ((load8(frame.wrapping_add(34)) as u32) & 255) {
+    break 'after_1;
+  }
+  if (v12 & 255) != ((load8(frame.wrapping_add(33)) as u32) & 255) {
+    break 'after_1;
+  }
+  if (v13 & 255) != ((load8(frame.wrapping_add(32)) as u32) & 255) {
+    break 'after_1;
+  }
+  if ((load8(frame.wrapping_add(40)) as u32) & 255) != ((v38 as u32) & 255) {
+    break 'after_1;
+  }
+  v5 = (p0 << 48) | (v5 << 32);
+  v38 = v38 | v5;
+  let t0 = u32::from(((load8(frame.wrapping_add(41)) as u32) & 255) != (((v38 >> 8) as u32) & 255));
+  if t0 != 0 {
+    break 'after_1;
+  }
+  let t1 = u32::from(((load8(frame.wrapping_add(42)) as u32) & 255) != (((v38 >> 16) as u32) &
+      255));
+  if t1 != 0 {
+    break 'after_1;
+  }
+  let t2 = u32::from(((load8(frame.wrapping_add(43)) as u32) & 255) != (((v38 >> 24) as u32) &
+      255));
+  if t2 != 0 {
+    break 'after_1;
+  }
+  let t3 = u32::from(((load8(frame.wrapping_add(44)) as u32) & 255) != (((v5 >> 32) as u32) & 255));
+  if t3 != 0 {
+    break 'after_1;
+  }
+  let t4 = u32::from(((load8(frame.wrapping_add(45)) as u32) & 255) != (((v5 >> 40) as u32) & 255));
+  if t4 != 0 {
+    break 'after_1;
+  }
+  if ((load8(frame.wrapping_add(46)) as u32) & 255) != (p0 as u32) {
+    break 'after_1;
+  }
+  v3 = u32::from(v4 == (load64(frame.wrapping_add(48))));
+  }
+  return v3;
+}
+
+// curves::curve::Curve::identifier
+unsafe fn curves_curve_Curve_identifier(p0: u64, mut p1: u32) {
+  let mut array = Frame::<112>::new();
+  let frame = address(&raw mut array);
+  let mut v2 = 0u64;
+  let mut v3 = 0u64;
+  let mut v4 = 0u64;
+  let mut v5 = 0u64;
+  let mut v6 = 0u32;
+  let mut v7 = 0u32;
+  let mut v8 = 0u32;
+  let mut v9 = 0u32;
+  let mut v10 = 0u32;
+  let mut v11 = 0u32;
+  let mut v12 = 0u32;
+  let mut v13 = 0u64;
+  let mut v14 = 0u64;
+  let mut v15 = 0u64;
+  let mut v16 = 0u64;
+  'after_36: {
+  'after_39: {
+  v2 = frame;
+  store64(frame.wrapping_add(30), 0);
+  store64(frame.wrapping_add(24), 0);
+  store64(frame.wrapping_add(16), 0);
+  store64(frame.wrapping_add(8), 0);
+  store64(frame, 0);
+  v3 = constant(74);
+  v4 = constant(34);
+  v5 = 5;
+  'after_34: {
+  'after_35: {
+  'after_33: {
+  'after_32: {
+  'after_31: {
+  'after_30: {
+  'after_29: {
+  'after_28: {
+  'after_27: {
+  'after_26: {
+  'after_25: {
+  'after_24: {
+  'after_23: {
+  'after_22: {
+  'after_21: {
+  'after_20: {
+  'after_19: {
+  'after_18: {
+  'after_17: {
+  'after_16: {
+  'after_15: {
+  'after_14: {
+  'after_13: {
+  'after_12: {
+  'after_11: {
+  'after_10: {
+  'after_9: {
+  'after_8: {
+  'after_7: {
+  'after_6: {
+  'after_5: {
+  'after_4: {
+  'after_3: {
+  'after_2: {
+  'after_1: {
+  match ((p1 as u64) & 255) as u32 {
+  2 => {
+    break 'after_1;
+  }
+  3 => {
+    break 'after_2;
+  }
+  4 => {
+    break 'after_3;
+  }
+  5 => {
+    break 'after_4;
+  }
+  6 => {
+    break 'after_5;
+  }
+  7 => {
+    break 'after_6;
+  }
+  9 => {
+    break 'after_7;
+  }
+  10 => {
+    break 'after_8;
+  }
+  11 => {
+    break 'after_9;
+  }
+  13 => {
+    break 'after_10;
+  }
+  14 => {
+    break 'after_11;
+  }
+  15 => {
+    break 'after_12;
+  }
+  16 => {
+    break 'after_13;
+  }
+  17 => {
+    break 'after_14;
+  }
+  18 => {
+    break 'after_15;
+  }
+  19 => {
+    break 'after_16;
+  }
+  20 => {
+    break 'after_17;
+  }
+  21 => {
+    break 'after_18;
+  }
+  22 => {
+    break 'after_19;
+  }
+  23 => {
+    break 'after_20;
+  }
+  24 => {
+    break 'after_21;
+  }
+  25 => {
+    break 'after_22;
+  }
+  26 => {
+    break 'after_23;
+  }
+  27 => {
+    break 'after_24;
+  }
+  28 => {
+    break 'after_25;
+  }
+  29 => {
+    break 'after_26;
+  }
+  30 => {
+    break 'after_27;
+  }
+  31 => {
+    break 'after_28;
+  }
+  32 => {
+    break 'after_29;
+  }
+  33 => {
+    break 'after_30;
+  }
+  12 => {
+    break 'after_31;
+  }
+  8 => {
+    break 'after_32;
+  }
+  1 => {
+    break 'after_33;
+  }
+  _ => {
+    break 'after_34;
+  }
+  }
+  }
+  v4 = constant(44);
+  break 'after_34;
+  }
+  v4 = constant(49);
+  break 'after_34;
+  }
+  v4 = constant(54);
+  break 'after_34;
+  }
+  v4 = constant(59);
+  break 'after_34;
+  }
+  v4 = constant(64);
+  break 'after_34;
+  }
+  v4 = constant(69);
+  break 'after_34;
+  }
+  v4 = constant(82);
+  break 'after_34;
+  }
+  v4 = constant(87);
+  break 'after_34;
+  }
+  v4 = constant(92);
+  break 'after_34;
+  }
+  v4 = constant(105);
+  break 'after_34;
+  }
+  v4 = constant(110);
+  break 'after_34;
+  }
+  v3 = constant(115);
+  break 'after_32;
+  }
+  v3 = constant(123);
+  break 'after_32;
+  }
+  v3 = constant(131);
+  break 'after_32;
+  }
+  v3 = constant(139);
+  break 'after_32;
+  }
+  v3 = constant(147);
+  break 'after_32;
+  }
+  v4 = constant(155);
+  v5 = 9;
+  break 'after_34;
+  }
+  v4 = constant(164);
+  v5 = 9;
+  break 'after_34;
+  }
+  v4 = constant(173);
+  v5 = 9;
+  break 'after_34;
+  }
+  v4 = constant(182);
+  v5 = 9;
+  break 'after_34;
+  }
+  v4 = constant(191);
+  v5 = 9;
+  break 'after_34;
+  }
+  v4 = constant(200);
+  v5 = 9;
+  break 'after_34;
+  }
+  v4 = constant(209);
+  v5 = 9;
+  break 'after_34;
+  }
+  v4 = constant(218);
+  v5 = 9;
+  break 'after_34;
+  }
+  v4 = constant(227);
+  v5 = 9;
+  break 'after_34;
+  }
+  v4 = constant(236);
+  v5 = 9;
+  break 'after_34;
+  }
+  v4 = constant(245);
+  v5 = 9;
+  break 'after_34;
+  }
+  v4 = constant(254);
+  v5 = 9;
+  break 'after_34;
+  }
+  v4 = constant(263);
+  v5 = 9;
+  break 'after_34;
+  }
+  v4 = constant(272);
+  v5 = 9;
+  break 'after_34;
+  }
+  v3 = constant(97);
+  }
+  v5 = 8;
+  p1 = (load8(v3) as u32) as i8 as i32 as u32;
+  v6 = (load8(v3.wrapping_add(1)) as u32) as i8 as i32 as u32;
+  let t0 = (u32::from((p1 & 255) == 128)) | ((u32::from((v6 & 255) == 128)) << 1);
+  v7 = (load8(v3.wrapping_add(3)) as u32) as i8 as i32 as u32;
+  v8 = (load8(v3.wrapping_add(2)) as u32) as i8 as i32 as u32;
+  let t1 = ((u32::from((v7 & 255) == 128)) << 3) | ((u32::from((v8 & 255) == 128)) << 2);
+  v9 = (load8(v3.wrapping_add(4)) as u32) as i8 as i32 as u32;
+  v10 = (load8(v3.wrapping_add(5)) as u32) as i8 as i32 as u32;
+  let t2 = (u32::from((v9 & 255) == 128)) | ((u32::from((v10 & 255) == 128)) << 1);
+  v11 = (load8(v3.wrapping_add(7)) as u32) as i8 as i32 as u32;
+  v12 = (load8(v3.wrapping_add(6)) as u32) as i8 as i32 as u32;
+  let t3 = ((u32::from((v11 & 255) == 128)) << 3) | ((u32::from((v12 & 255) == 128)) << 2);
+  if ((t0 | t1) | ((t2 | t3) << 4)) == 0 {
+    break 'after_35;
+  }
+  v4 = v3;
+  break 'after_34;
+  }
+  v4 = constant(39);
+  break 'after_34;
+  }
+  v4 = v3;
+  let t4 = ((u32::from((p1 as i32) > (0xffffffffu32 as i32))) | ((u32::from((v6 as i32) >
+      (0xffffffffu32 as i32))) << 1)) | (((u32::from((v7 as i32) > (0xffffffffu32 as i32))) << 3) |
+      ((u32::from((v8 as i32) > (0xffffffffu32 as i32))) << 2));
+  let t5 = ((u32::from((v9 as i32) > (0xffffffffu32 as i32))) | ((u32::from((v10 as i32) >
+      (0xffffffffu32 as i32))) << 1)) | (((u32::from((v11 as i32) > (0xffffffffu32 as i32))) << 3) |
+      ((u32::from((v12 as i32) > (0xffffffffu32 as i32))) << 2));
+  v13 = (t4 | (t5 << 4)) as u64;
+  if ((v13 >> 1) | v13) == 255 {
+    break 'after_36;
+  }
+  }
+  v13 = v5.wrapping_add(0xffffffffffffffff);
+  p1 = 0;
+  v3 = 0;
+  'again_42: loop {
+  'after_41: {
+  'after_37: {
+  v6 = (load8(v4.wrapping_add(v3)) as u32) as i8 as i32 as u32;
+  if (v6 as i32) > (0xffffffffu32 as i32) {
+    break 'after_37;
+  }
+  'after_40: {
+  'after_38: {
+  v7 = p1 & 255;
+  if v7 != 0 {
+    break 'after_38;
+  }
+  if v6 == 0xffffff80 {
+    break 'after_39;
+  }
+  p1 = if v6 < 0xffffff90 { 1u32 } else { 2u32 };
+  break 'after_40;
+  }
+  if v7 > 3 {
+    break 'after_39;
+  }
+  p1 = p1.wrapping_add(1);
+  }
+  if v13 == v3 {
+    break 'after_39;
+  }
+  break 'after_41;
+  }
+  p1 = 0;
+  if v13 != v3 {
+    break 'after_41;
+  }
+  v3 = v4;
+  break 'after_36;
+  }
+  v3 = v3.wrapping_add(1);
+  continue 'again_42;
+  }
+  }
+  trap();
+  }
+  store64(v2.wrapping_add(103), 0);
+  store64(v2.wrapping_add(96), 0);
+  store64(v2.wrapping_add(88), 0);
+  store64(v2.wrapping_add(80), 0);
+  store64(v2.wrapping_add(72), 0);
+  'after_43: {
+  if v5 == 0 {
+    break 'after_43;
+  }
+  move_(v2.wrapping_add(72), v3, v5);
+  }
+  v3 = load64(v2.wrapping_add(96));
+  store64(v2.wrapping_add(64), v3);
+  v4 = load64(v2.wrapping_add(88));
+  store64(v2.wrapping_add(56), v4);
+  v13 = load64(v2.wrapping_add(72));
+  store64(v2.wrapping_add(40), v13);
+  store64(v2.wrapping_add(6), v13);
+  v14 = load64(v2.wrapping_add(80));
+  store64(v2.wrapping_add(14), v14);
+  store64(v2.wrapping_add(22), v4);
+  store64(v2.wrapping_add(30), v3);
+  v15 = load8(v2.wrapping_add(110)) as u64;
+  v16 = load16(v2.wrapping_add(108)) as u64;
+  v2 = load32(v2.wrapping_add(104)) as u64;
+  store64(p0.wrapping_add(24), v3);
+  store64(p0.wrapping_add(16), v4);
+  store64(p0.wrapping_add(8), v14);
+  store64(p0, v13);
+  store64(p0.wrapping_add(40), v5);
+  store64(p0.wrapping_add(32), v2 | ((v15 << 48) | (v16 << 32)));
 }
 
 // der_view::text::Sources::new
@@ -8675,7 +8728,7 @@ unsafe fn itoa_integer_write_unsigned(mut p0: u64, p1: u64) -> u64 {
 
 // sec1_c::picture::lines::Lines::push_bytes
 unsafe fn sec1_c_picture_lines_Lines_push_bytes(mut p0: u64, p1: u64, p2: u64, p3: u64) {
-  let mut array = Frame::<4960>::new();
+  let mut array = Frame::<4912>::new();
   let frame = address(&raw mut array);
   let mut v5 = 0u32;
   let mut v6 = 0u32;
@@ -8688,24 +8741,24 @@ unsafe fn sec1_c_picture_lines_Lines_push_bytes(mut p0: u64, p1: u64, p2: u64, p
   let mut v13 = 0u64;
   let mut v14 = 0u64;
   let mut v15 = 0u64;
-  fill(frame.wrapping_add(552), 0, 2152);
-  fill(frame.wrapping_add(344), 0, 208);
-  fill(frame.wrapping_add(192), 0, 152);
-  fill(frame.wrapping_add(16), 0, 176);
-  der_view_rows_Rows_new(frame.wrapping_add(552), p2, p3, 0);
-  move_(frame.wrapping_add(2704), frame.wrapping_add(552), 2152);
-  v5 = load8(frame.wrapping_add(2737)) as u32;
-  v6 = load8(frame.wrapping_add(2736)) as u32;
-  der_view_rows_Rows_next_row(frame.wrapping_add(344), frame.wrapping_add(2704));
+  fill(frame.wrapping_add(544), 0, 2152);
+  fill(frame.wrapping_add(336), 0, 208);
+  fill(frame.wrapping_add(184), 0, 152);
+  fill(frame.wrapping_add(8), 0, 176);
+  der_view_rows_Rows_new(frame.wrapping_add(544), p2, p3, 0);
+  move_(frame.wrapping_add(2696), frame.wrapping_add(544), 2152);
+  v5 = load8(frame.wrapping_add(2729)) as u32;
+  v6 = load8(frame.wrapping_add(2728)) as u32;
+  der_view_rows_Rows_next_row(frame.wrapping_add(336), frame.wrapping_add(2696));
   'after_1: {
-  if (load8(frame.wrapping_add(344)) as u32) != 1 {
+  if (load8(frame.wrapping_add(336)) as u32) != 1 {
     break 'after_1;
   }
   v7 = v6.wrapping_add(0xfffffff9);
   v8 = u32::from((v7 & 255) < 4);
   'again_10: loop {
-  v6 = load8(frame.wrapping_add(440)) as u32;
-  v9 = load64(frame.wrapping_add(352));
+  v6 = load8(frame.wrapping_add(432)) as u32;
+  v9 = load64(frame.wrapping_add(344));
   'after_3: {
   'after_2: {
   if (v5 & 1) != 0 {
@@ -8725,12 +8778,12 @@ unsafe fn sec1_c_picture_lines_Lines_push_bytes(mut p0: u64, p1: u64, p2: u64, p
     break 'after_3;
   }
   'after_4: {
-  if ((load8(frame.wrapping_add(433)) as u32) & 255) != 1 {
+  if ((load8(frame.wrapping_add(425)) as u32) & 255) != 1 {
     break 'after_4;
   }
   v5 = 1;
   v10 = 1;
-  match load8(frame.wrapping_add(434)) as u32 {
+  match load8(frame.wrapping_add(426)) as u32 {
   6 | 7 | 17 | 18 | 26 | 27 | 28 | 29 | 32 | 33 => {
     break 'after_3;
   }
@@ -8748,11 +8801,11 @@ unsafe fn sec1_c_picture_lines_Lines_push_bytes(mut p0: u64, p1: u64, p2: u64, p
   if v13 >= (load64(p0.wrapping_add(8))) {
     break 'after_5;
   }
-  v11 = load8(frame.wrapping_add(504)) as u32;
-  v14 = load64(frame.wrapping_add(424));
-  v15 = load64(frame.wrapping_add(392));
+  v11 = load8(frame.wrapping_add(496)) as u32;
+  v14 = load64(frame.wrapping_add(416));
+  v15 = load64(frame.wrapping_add(384));
   v13 = load64(p0).wrapping_add(v13.wrapping_mul(48));
-  store64(v13.wrapping_add(32), load64(frame.wrapping_add(360)));
+  store64(v13.wrapping_add(32), load64(frame.wrapping_add(352)));
   store64(v13.wrapping_add(24), v14);
   store64(v13.wrapping_add(16), v15);
   store64(v13.wrapping_add(8), v9);
@@ -8761,7 +8814,7 @@ unsafe fn sec1_c_picture_lines_Lines_push_bytes(mut p0: u64, p1: u64, p2: u64, p
   store64(v13.wrapping_add(40), t0 as u64);
   v13 = load64(v12);
   }
-  v10 = load8(frame.wrapping_add(472)) as u32;
+  v10 = load8(frame.wrapping_add(464)) as u32;
   v13 = v13.wrapping_add(1);
   v13 = if v13 == 0 { 0xffffffffffffffffu64 } else { v13 };
   store64(v12, v13);
@@ -8806,8 +8859,8 @@ unsafe fn sec1_c_picture_lines_Lines_push_bytes(mut p0: u64, p1: u64, p2: u64, p
   v13 = v13.wrapping_add(1);
   store64(p0.wrapping_add(16), if v13 == 0 { 0xffffffffffffffffu64 } else { v13 });
   }
-  der_view_rows_Rows_next_row(frame.wrapping_add(344), frame.wrapping_add(2704));
-  if (load8(frame.wrapping_add(344)) as u32) == 1 {
+  der_view_rows_Rows_next_row(frame.wrapping_add(336), frame.wrapping_add(2696));
+  if (load8(frame.wrapping_add(336)) as u32) == 1 {
     continue 'again_10;
   }
   break;
@@ -8834,7 +8887,7 @@ unsafe fn sec1_c_picture_lines_Lines_push_bytes(mut p0: u64, p1: u64, p2: u64, p
   }
   v5 = 2;
   }
-  der_view_picture_verdict_Subject_new(frame.wrapping_add(16), p2, p3, v5);
+  der_view_picture_verdict_Subject_new(frame.wrapping_add(8), p2, p3, v5);
   v5 = 0;
   'after_14: {
   if p3 == 0 {
@@ -8901,12 +8954,11 @@ unsafe fn sec1_c_picture_lines_Lines_push_bytes(mut p0: u64, p1: u64, p2: u64, p
   if v13 < v9 {
     break 'after_14;
   }
-  sec1_private_key_EcPrivateKeyReadInPlace_read_content(frame.wrapping_add(8),
-      frame.wrapping_add(4856), v12, v9);
-  v5 = (u32::from(v13 == v9)) & (u32::from((load8(frame.wrapping_add(8)) as u32) == 0));
+  sec1_borrowed_key_BorrowedKeyReadInPlace_read_content(frame, frame.wrapping_add(4848), v12, v9);
+  v5 = (u32::from(v13 == v9)) & (u32::from((load8(frame) as u32) == 0));
   }
-  der_view_picture_verdict_Subject_verdict(frame.wrapping_add(192), frame.wrapping_add(16), v5);
-  v9 = load64(frame.wrapping_add(312));
+  der_view_picture_verdict_Subject_verdict(frame.wrapping_add(184), frame.wrapping_add(8), v5);
+  v9 = load64(frame.wrapping_add(304));
   'after_18: {
   v12 = p0.wrapping_add(16);
   v13 = load64(v12);
@@ -8922,7 +8974,7 @@ unsafe fn sec1_c_picture_lines_Lines_push_bytes(mut p0: u64, p1: u64, p2: u64, p
   store64(v13.wrapping_add(40), 0);
   v13 = load64(v12);
   }
-  v5 = load8(frame.wrapping_add(320)) as u32;
+  v5 = load8(frame.wrapping_add(312)) as u32;
   v13 = v13.wrapping_add(1);
   v13 = if v13 == 0 { 0xffffffffffffffffu64 } else { v13 };
   store64(v12, v13);
@@ -20943,195 +20995,236 @@ unsafe fn pkix_public_key_SubjectPublicKeyInfo_from_der(p0: u64, mut p1: u64, mu
   }
 }
 
-// sec1_der::part::Tuple2EncodePart::part_len::<#4ae47bafd251ed8c>
-unsafe fn sec1_der_part_Tuple2EncodePart_part_len(p0: u64, mut p1: u64) {
+// sec1_der::codec::element_len::<#f9f0f5ce30fdb27e>
+unsafe fn sec1_der_codec_element_len(p0: u64, mut p1: u64) {
   let mut v2 = 0u64;
   let mut v3 = 0u64;
-  let mut v4 = 0u64;
-  let mut v5 = 0u64;
+  let mut v4 = 0u32;
+  let mut v5 = 0u32;
   let mut v6 = 0u32;
-  'after_1: {
-  v2 = load64(p1.wrapping_add(8));
-  if v2 > 0xfffffff {
-    break 'after_1;
-  }
-  'after_3: {
-  'after_2: {
-  if v2 >= 128 {
-    break 'after_2;
-  }
-  v3 = 2;
-  break 'after_3;
-  }
-  'after_4: {
-  if v2 >= 256 {
-    break 'after_4;
-  }
-  v3 = 3;
-  break 'after_3;
-  }
-  'after_5: {
-  if v2 >= 0x10000 {
-    break 'after_5;
-  }
-  v3 = 4;
-  break 'after_3;
-  }
-  v3 = if v2 < 0x1000000 { 5u64 } else { 6u64 };
-  }
-  v2 = v3.wrapping_add(v2);
-  if v2 > 0xfffffff {
-    break 'after_1;
-  }
-  v4 = 0;
+  let mut v7 = 0u64;
+  let mut v8 = 0u64;
+  let mut v9 = 0u64;
+  v2 = 0;
   v3 = 0;
-  'after_6: {
-  if (load8(p1.wrapping_add(16)) as u32) != 1 {
-    break 'after_6;
+  'after_1: {
+  v4 = load8(p1.wrapping_add(16)) as u32;
+  if v4 != 1 {
+    break 'after_1;
   }
   v3 = load64(p1.wrapping_add(32));
-  if v3 > 0xfffffff {
-    break 'after_1;
   }
-  'after_8: {
+  'after_2: {
+  v5 = load8(p1.wrapping_add(40)) as u32;
+  if v5 != 1 {
+    break 'after_2;
+  }
+  v2 = load64(p1.wrapping_add(56));
+  }
+  v6 = 0;
+  v7 = 0;
+  'after_3: {
+  p1 = load64(p1.wrapping_add(8));
+  if p1 > 0xfffffff {
+    break 'after_3;
+  }
+  'after_5: {
+  'after_4: {
+  if p1 >= 128 {
+    break 'after_4;
+  }
+  v8 = 2;
+  break 'after_5;
+  }
+  'after_6: {
+  if p1 >= 256 {
+    break 'after_6;
+  }
+  v8 = 3;
+  break 'after_5;
+  }
   'after_7: {
-  if v3 >= 128 {
+  if p1 >= 0x10000 {
     break 'after_7;
   }
-  v5 = 2;
-  break 'after_8;
+  v8 = 4;
+  break 'after_5;
   }
-  'after_9: {
-  if v3 >= 256 {
-    break 'after_9;
+  v8 = if p1 < 0x1000000 { 5u64 } else { 6u64 };
   }
-  v5 = 3;
-  break 'after_8;
+  p1 = v8.wrapping_add(p1);
+  if p1 > 0xfffffff {
+    break 'after_3;
+  }
+  v9 = 0;
+  v8 = 0;
+  'after_8: {
+  if v4 != 1 {
+    break 'after_8;
+  }
+  v7 = 0;
+  if v3 > 0xfffffff {
+    break 'after_3;
   }
   'after_10: {
-  if v3 >= 0x10000 {
-    break 'after_10;
-  }
-  v5 = 4;
-  break 'after_8;
-  }
-  v5 = if v3 < 0x1000000 { 5u64 } else { 6u64 };
-  }
-  v3 = v5.wrapping_add(v3);
-  if v3 > 0xfffffff {
-    break 'after_1;
-  }
-  'after_12: {
-  'after_11: {
+  'after_9: {
   if v3 >= 128 {
+    break 'after_9;
+  }
+  v8 = 2;
+  break 'after_10;
+  }
+  'after_11: {
+  if v3 >= 256 {
     break 'after_11;
   }
-  v5 = 2;
-  break 'after_12;
+  v8 = 3;
+  break 'after_10;
   }
-  'after_13: {
-  if v3 >= 256 {
-    break 'after_13;
+  'after_12: {
+  if v3 >= 0x10000 {
+    break 'after_12;
   }
-  v5 = 3;
-  break 'after_12;
+  v8 = 4;
+  break 'after_10;
+  }
+  v8 = if v3 < 0x1000000 { 5u64 } else { 6u64 };
+  }
+  v3 = v8.wrapping_add(v3);
+  if v3 > 0xfffffff {
+    break 'after_3;
   }
   'after_14: {
-  if v3 >= 0x10000 {
-    break 'after_14;
+  'after_13: {
+  if v3 >= 128 {
+    break 'after_13;
   }
-  v5 = 4;
-  break 'after_12;
-  }
-  v5 = if v3 < 0x1000000 { 5u64 } else { 6u64 };
-  }
-  v3 = v5.wrapping_add(v3);
-  if v3 > 0xfffffff {
-    break 'after_1;
-  }
+  v8 = 2;
+  break 'after_14;
   }
   'after_15: {
-  if (load8(p1.wrapping_add(40)) as u32) != 1 {
+  if v3 >= 256 {
     break 'after_15;
   }
-  p1 = load64(p1.wrapping_add(56));
-  if p1 > 0xffffffe {
-    break 'after_1;
+  v8 = 3;
+  break 'after_14;
   }
-  v4 = p1.wrapping_add(1);
-  'after_17: {
   'after_16: {
-  if p1 >= 127 {
+  if v3 >= 0x10000 {
     break 'after_16;
   }
-  p1 = 2;
-  break 'after_17;
+  v8 = 4;
+  break 'after_14;
   }
+  v8 = if v3 < 0x1000000 { 5u64 } else { 6u64 };
+  }
+  v8 = v8.wrapping_add(v3);
+  if v8 > 0xfffffff {
+    break 'after_3;
+  }
+  }
+  'after_17: {
+  if v5 != 1 {
+    break 'after_17;
+  }
+  v7 = 0;
+  if v2 > 0xffffffe {
+    break 'after_3;
+  }
+  v3 = v2.wrapping_add(1);
+  'after_19: {
   'after_18: {
-  if p1 >= 255 {
+  if v2 >= 127 {
     break 'after_18;
   }
-  p1 = 3;
-  break 'after_17;
+  v2 = 2;
+  break 'after_19;
   }
-  'after_19: {
-  if p1 >= 65535 {
-    break 'after_19;
-  }
-  p1 = 4;
-  break 'after_17;
-  }
-  p1 = if p1 < 0xffffff { 5u64 } else { 6u64 };
-  }
-  p1 = v4.wrapping_add(p1);
-  if p1 > 0xfffffff {
-    break 'after_1;
-  }
-  'after_21: {
   'after_20: {
-  if p1 >= 128 {
+  if v2 >= 255 {
     break 'after_20;
   }
-  v4 = 2;
-  break 'after_21;
+  v2 = 3;
+  break 'after_19;
   }
-  'after_22: {
-  if p1 >= 256 {
-    break 'after_22;
+  'after_21: {
+  if v2 >= 65535 {
+    break 'after_21;
   }
-  v4 = 3;
-  break 'after_21;
+  v2 = 4;
+  break 'after_19;
+  }
+  v2 = if v2 < 0xffffff { 5u64 } else { 6u64 };
+  }
+  v3 = v3.wrapping_add(v2);
+  if v3 > 0xfffffff {
+    break 'after_3;
   }
   'after_23: {
-  if p1 >= 0x10000 {
-    break 'after_23;
+  'after_22: {
+  if v3 >= 128 {
+    break 'after_22;
   }
-  v4 = 4;
-  break 'after_21;
+  v2 = 2;
+  break 'after_23;
   }
-  v4 = if p1 < 0x1000000 { 5u64 } else { 6u64 };
+  'after_24: {
+  if v3 >= 256 {
+    break 'after_24;
   }
-  v4 = v4.wrapping_add(p1);
-  if v4 > 0xfffffff {
-    break 'after_1;
+  v2 = 3;
+  break 'after_23;
+  }
+  'after_25: {
+  if v3 >= 0x10000 {
+    break 'after_25;
+  }
+  v2 = 4;
+  break 'after_23;
+  }
+  v2 = if v3 < 0x1000000 { 5u64 } else { 6u64 };
+  }
+  v9 = v2.wrapping_add(v3);
+  if v9 > 0xfffffff {
+    break 'after_3;
   }
   }
-  p1 = v4.wrapping_add(v3);
-  if p1 > 0xfffffff {
-    break 'after_1;
+  v7 = 0;
+  v3 = v9.wrapping_add(v8);
+  if v3 > 0xfffffff {
+    break 'after_3;
   }
-  p1 = p1.wrapping_add(v2);
-  if p1 >= 0x10000000 {
-    break 'after_1;
+  p1 = v3.wrapping_add(p1);
+  if p1 > 0xffffffc {
+    break 'after_3;
   }
-  v6 = u32::from(p1 > 0xffffffc);
+  v7 = 3;
+  v3 = p1.wrapping_add(3);
+  'after_27: {
+  'after_26: {
+  if p1 >= 125 {
+    break 'after_26;
+  }
+  v7 = 2;
+  break 'after_27;
+  }
+  if p1 < 253 {
+    break 'after_27;
+  }
+  'after_28: {
+  if p1 >= 65533 {
+    break 'after_28;
+  }
+  v7 = 4;
+  break 'after_27;
+  }
+  v7 = if p1 < 0xfffffd { 5u64 } else { 6u64 };
+  }
+  v7 = v3.wrapping_add(v7);
+  v6 = 1;
+  }
+  store64(p0.wrapping_add(8), v7);
   store8(p0, v6 as u8);
-  store8(p0.wrapping_add(1), (if v6 != 0 { 5u32 } else { 0u32 }) as u8);
-  store32(p0.wrapping_add(4), if v6 != 0 { 0u32 } else { (p1 as u32).wrapping_add(3) });
-  return;
-  }
-  store16(p0, 1281);
-  store32(p0.wrapping_add(4), 0);
   return;
 }
 
@@ -23989,43 +24082,40 @@ unsafe fn der_view_faults_tree_check_forest(p0: u64, mut p1: u64, mut p2: u64, m
 
 // sec1_c::container::fault::tell_curve
 unsafe fn sec1_c_container_fault_tell_curve(p0: u64, mut p1: u64, p2: u64) -> u32 {
-  let mut array = Frame::<112>::new();
+  let mut array = Frame::<16>::new();
   let frame = address(&raw mut array);
   let mut v3 = 0u64;
   let mut v5 = 0u64;
   let mut v6 = 0u32;
   let mut v7 = 0u64;
-  let mut v8 = 0u64;
+  let mut v8 = 0u32;
   let mut v9 = 0u64;
   let mut v10 = 0u64;
-  let mut v11 = 0u64;
-  let mut v12 = 0u32;
+  let mut v11 = 0u32;
+  let mut v12 = 0u64;
   let mut v13 = 0u64;
-  let mut v14 = 0u64;
-  let mut v15 = 0u64;
-  let mut v16 = 0u32;
   v3 = frame;
-  'after_6: {
-  v5 = load64(p1);
+  'after_12: {
   'after_2: {
   'after_1: {
-  v3 = load64(p1.wrapping_add(8));
-  if v3 != 7 {
+  v5 = load64(p1.wrapping_add(8));
+  if v5 != 7 {
     break 'after_1;
   }
-  if (load8(v5) as u32) != 42 {
+  v3 = load64(p1);
+  if (load8(v3) as u32) != 42 {
     break 'after_1;
   }
-  if ((load8(v5.wrapping_add(1)) as u32) & 255) != 134 {
+  if ((load8(v3.wrapping_add(1)) as u32) & 255) != 134 {
     break 'after_1;
   }
-  if ((load8(v5.wrapping_add(2)) as u32) & 255) != 72 {
+  if ((load8(v3.wrapping_add(2)) as u32) & 255) != 72 {
     break 'after_1;
   }
-  if ((load8(v5.wrapping_add(3)) as u32) & 255) != 206 {
+  if ((load8(v3.wrapping_add(3)) as u32) & 255) != 206 {
     break 'after_1;
   }
-  let t0 = core_cmp_slices_groups_equal(v5, 7, constant(281));
+  let t0 = core_cmp_slices_groups_equal(v3, 7, constant(281));
   if t0 == 0 {
     break 'after_1;
   }
@@ -24035,188 +24125,197 @@ unsafe fn sec1_c_container_fault_tell_curve(p0: u64, mut p1: u64, p2: u64) -> u3
   if (load8(p1.wrapping_add(40)) as u32) != 6 {
     break 'after_1;
   }
-  curves_curve_Curve_from_content(frame, load64(p1.wrapping_add(48)), load64(p1.wrapping_add(56)));
+  curves_curve_Curve_from_content(frame.wrapping_add(8), load64(p1.wrapping_add(48)),
+      load64(p1.wrapping_add(56)));
   v6 = 0;
-  if (load8(frame) as u32) == 1 {
+  if (load8(frame.wrapping_add(8)) as u32) == 1 {
     break 'after_2;
   }
   }
   v7 = 0;
-  store64(frame.wrapping_add(104), 0);
-  store64(frame.wrapping_add(96), 0);
-  store64(frame.wrapping_add(88), 0);
-  v8 = 0;
   'after_3: {
-  v9 = load8(p1.wrapping_add(80)) as u64;
-  if v9 != 1 {
+  v6 = load8(p1.wrapping_add(80)) as u32;
+  if v6 != 1 {
     break 'after_3;
   }
-  v8 = load64(p1.wrapping_add(96));
-  v7 = load64(p1.wrapping_add(88));
+  v7 = load32(p1.wrapping_add(96)) as u64;
   }
+  v3 = 1;
   'after_4: {
-  v10 = load8(p1.wrapping_add(104)) as u64;
-  if v10 != 1 {
+  v8 = load8(p1.wrapping_add(104)) as u32;
+  if v8 != 1 {
     break 'after_4;
   }
-  store64(frame.wrapping_add(104), load64(p1.wrapping_add(128)));
-  store64(frame.wrapping_add(96), load64(p1.wrapping_add(120)));
-  store64(frame.wrapping_add(88), load64(p1.wrapping_add(112)));
+  v3 = (load64(p1.wrapping_add(128))).wrapping_add(1);
   }
-  v11 = 0;
+  v9 = 0;
+  v10 = 0;
   'after_5: {
-  v12 = load8(p1.wrapping_add(16)) as u32;
-  if v12 != 1 {
+  v11 = load8(p1.wrapping_add(16)) as u32;
+  if v11 != 1 {
     break 'after_5;
   }
-  v11 = load64(p1.wrapping_add(32));
+  v10 = load64(p1.wrapping_add(32));
   }
-  v13 = load64(frame.wrapping_add(88));
-  store64(frame.wrapping_add(8), v13);
-  v14 = load64(frame.wrapping_add(96));
-  store64(frame.wrapping_add(16), v14);
-  v15 = load64(frame.wrapping_add(104));
-  store64(frame.wrapping_add(24), v15);
-  store64(frame.wrapping_add(56), v10);
-  store64(frame.wrapping_add(48), v8);
-  store64(frame.wrapping_add(40), v7);
-  store64(frame.wrapping_add(32), v9);
-  store64(frame.wrapping_add(64), v13);
-  store64(frame.wrapping_add(72), v14);
-  store64(frame.wrapping_add(80), v15);
-  p1 = load64(p1.wrapping_add(72));
-  let t1 = sec1_c_fields_fields_len(frame.wrapping_add(32));
-  v8 = t1;
-  if p1 > 0xfffffff {
+  p1 = p1.wrapping_add(72);
+  'after_6: {
+  if v6 != 1 {
     break 'after_6;
   }
   'after_8: {
   'after_7: {
-  if p1 >= 128 {
+  v6 = v7 as u32;
+  if v6 >= 128 {
     break 'after_7;
   }
-  v7 = 2;
+  v9 = 0xfffffffffffffffe;
   break 'after_8;
   }
   'after_9: {
-  if p1 >= 256 {
+  if v6 >= 256 {
     break 'after_9;
   }
-  v7 = 3;
+  v9 = 0xfffffffffffffffd;
   break 'after_8;
   }
   'after_10: {
-  if p1 >= 0x10000 {
+  if v6 >= 0x10000 {
     break 'after_10;
   }
-  v7 = 4;
+  v9 = 0xfffffffffffffffc;
   break 'after_8;
   }
-  v7 = if p1 < 0x1000000 { 5u64 } else { 6u64 };
+  v9 = if v6 < 0x1000000 { 0xfffffffffffffffbu64 } else { 0xfffffffffffffffau64 };
   }
-  v7 = v7.wrapping_add(p1);
-  if v7 >= 0x10000000 {
-    break 'after_6;
+  v9 = v9.wrapping_sub(v7);
   }
-  if v3 == 0 {
-    break 'after_6;
-  }
-  p1 = 0;
-  v16 = 1;
-  'again_12: loop {
-  v6 = (load8(v5.wrapping_add(p1)) as u32) as i8 as i32 as u32;
+  p1 = load64(p1);
+  v7 = 0;
   'after_11: {
-  if (v16 & 1) == 0 {
+  if v8 != 1 {
     break 'after_11;
   }
-  if v6 == 0xffffff80 {
-    break 'after_6;
-  }
-  }
-  v16 = u32::from((v6 as i32) > (0xffffffffu32 as i32));
-  p1 = p1.wrapping_add(1);
-  if v3 != p1 {
-    continue 'again_12;
-  }
-  break;
-  }
-  if v3 > 0xfffffff {
-    break 'after_6;
-  }
-  if (v6 as i32) < (0u32 as i32) {
-    break 'after_6;
+  if v3 >= 0x10000000 {
+    break 'after_12;
   }
   'after_14: {
   'after_13: {
   if v3 >= 128 {
     break 'after_13;
   }
-  p1 = 2;
+  v7 = 0xfffffffffffffffe;
   break 'after_14;
   }
   'after_15: {
   if v3 >= 256 {
     break 'after_15;
   }
-  p1 = 3;
+  v7 = 0xfffffffffffffffd;
   break 'after_14;
   }
   'after_16: {
   if v3 >= 0x10000 {
     break 'after_16;
   }
-  p1 = 4;
+  v7 = 0xfffffffffffffffc;
   break 'after_14;
   }
-  p1 = if v3 < 0x1000000 { 5u64 } else { 6u64 };
+  v7 = if v3 < 0x1000000 { 0xfffffffffffffffbu64 } else { 0xfffffffffffffffau64 };
   }
-  v3 = p1.wrapping_add(v3);
-  if v3 > 0xfffffff {
-    break 'after_6;
+  v7 = v7.wrapping_sub(v3);
   }
-  p1 = 0;
+  if p1 >= 0x10000000 {
+    break 'after_12;
+  }
+  'after_18: {
   'after_17: {
-  if v12 != 1 {
+  if p1 >= 128 {
     break 'after_17;
   }
-  p1 = v11;
-  if v11 > 0xfffffff {
-    break 'after_6;
-  }
-  }
-  p1 = p1.wrapping_add(v3);
-  if p1 > 0xfffffff {
-    break 'after_6;
+  v12 = 0xfffffffffffffffe;
+  break 'after_18;
   }
   'after_19: {
-  'after_18: {
-  if p1 >= 128 {
-    break 'after_18;
+  if p1 >= 256 {
+    break 'after_19;
   }
-  v3 = 2;
-  break 'after_19;
+  v12 = 0xfffffffffffffffd;
+  break 'after_18;
   }
   'after_20: {
-  if p1 >= 256 {
+  if p1 >= 0x10000 {
     break 'after_20;
   }
-  v3 = 3;
-  break 'after_19;
+  v12 = 0xfffffffffffffffc;
+  break 'after_18;
   }
+  v12 = if p1 < 0x1000000 { 0xfffffffffffffffbu64 } else { 0xfffffffffffffffau64 };
+  }
+  'after_22: {
   'after_21: {
-  if p1 >= 0x10000 {
+  v6 = v5 as u32;
+  if v6 >= 128 {
     break 'after_21;
   }
-  v3 = 4;
-  break 'after_19;
+  v13 = 2;
+  break 'after_22;
   }
-  v3 = if p1 < 0x1000000 { 5u64 } else { 6u64 };
+  'after_23: {
+  if v6 >= 256 {
+    break 'after_23;
   }
-  p1 = v3.wrapping_add(p1);
-  if p1 >= 0x10000000 {
-    break 'after_6;
+  v13 = 3;
+  break 'after_22;
   }
-  store64(p2, p0.wrapping_sub((v8.wrapping_add(v7)).wrapping_add(p1)));
+  'after_24: {
+  if v6 >= 0x10000 {
+    break 'after_24;
+  }
+  v13 = 4;
+  break 'after_22;
+  }
+  v13 = if v6 < 0x1000000 { 5u64 } else { 6u64 };
+  }
+  v3 = 0;
+  'after_25: {
+  if v11 != 1 {
+    break 'after_25;
+  }
+  v3 = v10;
+  if v10 >= 0x10000000 {
+    break 'after_12;
+  }
+  }
+  'after_27: {
+  'after_26: {
+  v3 = (v13.wrapping_add(v5)).wrapping_add(v3);
+  v6 = v3 as u32;
+  if v6 >= 128 {
+    break 'after_26;
+  }
+  v5 = 0xfffffffffffffffe;
+  break 'after_27;
+  }
+  'after_28: {
+  if v6 >= 256 {
+    break 'after_28;
+  }
+  v5 = 0xfffffffffffffffd;
+  break 'after_27;
+  }
+  'after_29: {
+  if v6 >= 0x10000 {
+    break 'after_29;
+  }
+  v5 = 0xfffffffffffffffc;
+  break 'after_27;
+  }
+  v5 = if v6 < 0x1000000 { 0xfffffffffffffffbu64 } else { 0xfffffffffffffffau64 };
+  }
+  let t1 =
+      ((((p0.wrapping_sub(p1)).wrapping_add(v9)).wrapping_add(v7)).wrapping_add(v12)).wrapping_sub(v3
+      & 0xffffffff);
+  store64(p2, t1.wrapping_add(v5));
   v6 = 11;
   }
   return v6;
@@ -29033,7 +29132,7 @@ unsafe fn der_view_picture_draw_bytes(p0: u64, p1: u64, p2: u64, p3: u32, mut p4
   if v5 < v46 {
     break 'after_287;
   }
-  sec1_private_key_EcPrivateKeyReadInPlace_read_content(frame, frame.wrapping_add(2712), v49, v46);
+  sec1_borrowed_key_BorrowedKeyReadInPlace_read_content(frame, frame.wrapping_add(2712), v49, v46);
   v7 = (u32::from(v5 == v46)) & (u32::from((load8(frame) as u32) == 0));
   }
   der_view_picture_verdict_Subject_new(frame.wrapping_add(24), p1, p2, p3);
@@ -31170,8 +31269,8 @@ unsafe fn der_view_picture_write_mark(p0: u64, mut p1: u64) {
   }
 }
 
-// sec1_der::part::Tuple2EncodePart::prepend_part::<#4ae47bafd251ed8c>
-unsafe fn sec1_der_part_Tuple2EncodePart_prepend_part(mut p0: u64, p1: u64) {
+// sec1_der::optional::OptionalEncodePart::prepend_part::<#5bf5a3832346df17>
+unsafe fn sec1_der_optional_OptionalEncodePart_prepend_part(mut p0: u64, p1: u64) {
   let mut v3 = 0u64;
   let mut v4 = 0u64;
   let mut v5 = 0u64;
@@ -31183,959 +31282,856 @@ unsafe fn sec1_der_part_Tuple2EncodePart_prepend_part(mut p0: u64, p1: u64) {
   let mut v11 = 0u64;
   let mut v12 = 0u64;
   let mut v13 = 0u64;
+  let mut v14 = 0u64;
   'after_1: {
-  if (load8(p0.wrapping_add(40)) as u32) != 1 {
+  if (load8(p0) as u32) != 1 {
     break 'after_1;
   }
   v3 = load64(p1);
   v4 = load64(p1.wrapping_add(16));
-  v5 = load64(p0.wrapping_add(56));
+  v5 = load64(p0.wrapping_add(16));
   v6 = v4.wrapping_sub(v5);
   v7 = v3.wrapping_add(v6);
-  v8 = load64(p0.wrapping_add(48));
+  p0 = load64(p0.wrapping_add(8));
   'after_4: {
+  'after_5: {
   'after_2: {
-  if v5 > 32 {
+  if v5 < 33 {
     break 'after_2;
   }
-  v9 = v8.wrapping_add(v5);
+  v8 = p0.wrapping_add(v5);
   'after_3: {
-  if v5 < 16 {
+  if v5 > 64 {
     break 'after_3;
   }
-  v10 = load64(v8);
-  store64(v7.wrapping_add(8), load64(v8.wrapping_add(8)));
-  store64(v7, v10);
-  v9 = v9.wrapping_add(0xfffffffffffffff0);
-  v10 = load64(v9);
-  v11 = (v3.wrapping_add(v4)).wrapping_add(0xfffffffffffffff0);
-  store64(v11.wrapping_add(8), load64(v9.wrapping_add(8)));
-  store64(v11, v10);
+  v9 = load64(p0);
+  v10 = load64(p0.wrapping_add(8));
+  v5 = load64(p0.wrapping_add(16));
+  store64(v7.wrapping_add(24), load64(p0.wrapping_add(24)));
+  store64(v7.wrapping_add(16), v5);
+  store64(v7.wrapping_add(8), v10);
+  store64(v7, v9);
+  p0 = v8.wrapping_add(0xffffffffffffffe0);
+  v9 = load64(p0);
+  v10 = load64(p0.wrapping_add(8));
+  v7 = load64(p0.wrapping_add(16));
+  v8 = (v3.wrapping_add(v4)).wrapping_add(0xffffffffffffffe0);
+  store64(v8.wrapping_add(24), load64(p0.wrapping_add(24)));
+  store64(v8.wrapping_add(16), v7);
+  store64(v8.wrapping_add(8), v10);
+  store64(v8, v9);
   break 'after_4;
   }
-  if (v5.wrapping_add(0xfffffffffffffff7)) < 0xfffffffffffffffb {
-    break 'after_2;
-  }
-  store32(v7, load32(v8));
-  store32((v3.wrapping_add(v4)).wrapping_add(0xfffffffffffffffc),
-      load32(v9.wrapping_add(0xfffffffffffffffc)));
-  break 'after_4;
-  }
-  'after_5: {
-  if (v7.wrapping_sub(v8)) >= v5 {
+  if v5 > 128 {
     break 'after_5;
   }
-  v12 = v5 & 3;
-  v10 = 0;
-  'after_6: {
-  if v5 < 4 {
-    break 'after_6;
-  }
-  v13 = v5 & 0xfffffffffffffffc;
-  v10 = 0;
-  'again_7: loop {
-  v9 = v7.wrapping_add(v10);
-  v11 = v8.wrapping_add(v10);
-  store8(v9, (load8(v11) as u32) as u8);
-  store8(v9.wrapping_add(1), (load8(v11.wrapping_add(1)) as u32) as u8);
-  store8(v9.wrapping_add(2), (load8(v11.wrapping_add(2)) as u32) as u8);
-  store8(v9.wrapping_add(3), (load8(v11.wrapping_add(3)) as u32) as u8);
-  v10 = v10.wrapping_add(4);
-  if v13 != v10 {
-    continue 'again_7;
-  }
-  break;
-  }
-  if v12 == 0 {
-    break 'after_4;
-  }
-  }
-  v9 = v8.wrapping_add(v10);
-  v10 = v3.wrapping_add((v10.wrapping_add(v4)).wrapping_sub(v5));
-  'again_8: loop {
-  store8(v10, (load8(v9) as u32) as u8);
-  v10 = v10.wrapping_add(1);
-  v9 = v9.wrapping_add(1);
-  v12 = v12.wrapping_add(0xffffffffffffffff);
-  if v12 != 0 {
-    continue 'again_8;
-  }
+  v9 = load64(p0);
+  v10 = load64(p0.wrapping_add(8));
+  v5 = load64(p0.wrapping_add(16));
+  v11 = load64(p0.wrapping_add(24));
+  v12 = load64(p0.wrapping_add(32));
+  v13 = load64(p0.wrapping_add(40));
+  v14 = load64(p0.wrapping_add(48));
+  store64(v7.wrapping_add(56), load64(p0.wrapping_add(56)));
+  store64(v7.wrapping_add(48), v14);
+  store64(v7.wrapping_add(40), v13);
+  store64(v7.wrapping_add(32), v12);
+  store64(v7.wrapping_add(24), v11);
+  store64(v7.wrapping_add(16), v5);
+  store64(v7.wrapping_add(8), v10);
+  store64(v7, v9);
+  p0 = v8.wrapping_add(0xffffffffffffffc0);
+  v9 = load64(p0);
+  v10 = load64(p0.wrapping_add(8));
+  v7 = load64(p0.wrapping_add(16));
+  v5 = load64(p0.wrapping_add(24));
+  v11 = load64(p0.wrapping_add(32));
+  v12 = load64(p0.wrapping_add(40));
+  v13 = load64(p0.wrapping_add(48));
+  v8 = (v3.wrapping_add(v4)).wrapping_add(0xffffffffffffffc0);
+  store64(v8.wrapping_add(56), load64(p0.wrapping_add(56)));
+  store64(v8.wrapping_add(48), v13);
+  store64(v8.wrapping_add(40), v12);
+  store64(v8.wrapping_add(32), v11);
+  store64(v8.wrapping_add(24), v5);
+  store64(v8.wrapping_add(16), v7);
+  store64(v8.wrapping_add(8), v10);
+  store64(v8, v9);
   break 'after_4;
   }
-  }
-  if v5 == 0 {
-    break 'after_4;
-  }
-  move_(v7, v8, v5);
-  }
-  v9 = v6.wrapping_add(0xffffffffffffffff);
-  store8(load64(p1).wrapping_add(v9), 0);
-  v10 = p1.wrapping_add(16);
-  store64(v10, v9);
-  'after_10: {
-  'after_9: {
-  v11 = v4.wrapping_sub(v9);
-  if v11 > 127 {
-    break 'after_9;
-  }
-  v9 = v6.wrapping_add(0xfffffffffffffffd);
-  store16(load64(p1).wrapping_add(v9), (((v11 as u32) << 8) | 3) as u16);
-  store64(v10, v9);
-  break 'after_10;
-  }
-  sec1_der_back_writer_BackWriter_prepend_long_header(p1, 3, v11);
-  v9 = load64(v10);
-  }
-  'after_11: {
-  v10 = v4.wrapping_sub(v9);
-  if v10 > 127 {
-    break 'after_11;
-  }
-  v9 = v9.wrapping_add(0xfffffffffffffffe);
-  store16(load64(p1).wrapping_add(v9), (((v10 as u32) << 8) | 161) as u16);
-  store64(p1.wrapping_add(16), v9);
-  break 'after_1;
-  }
-  sec1_der_back_writer_BackWriter_prepend_long_header(p1, 161, v10);
-  }
-  'after_12: {
-  if (load8(p0.wrapping_add(16)) as u32) != 1 {
-    break 'after_12;
-  }
-  v3 = load64(p1);
-  v4 = load64(p1.wrapping_add(16));
-  v5 = load64(p0.wrapping_add(32));
-  v6 = v4.wrapping_sub(v5);
-  v7 = v3.wrapping_add(v6);
-  v8 = load64(p0.wrapping_add(24));
-  'after_22: {
-  'after_21: {
-  'after_15: {
-  'after_13: {
-  if v5 > 32 {
-    break 'after_13;
-  }
-  v9 = v8.wrapping_add(v5);
-  'after_14: {
-  if v5 < 16 {
-    break 'after_14;
-  }
-  v10 = load64(v8);
-  store64(v7.wrapping_add(8), load64(v8.wrapping_add(8)));
-  store64(v7, v10);
-  v9 = v9.wrapping_add(0xfffffffffffffff0);
-  v10 = load64(v9);
-  v11 = (v3.wrapping_add(v4)).wrapping_add(0xfffffffffffffff0);
-  store64(v11.wrapping_add(8), load64(v9.wrapping_add(8)));
-  store64(v11, v10);
-  break 'after_15;
-  }
-  if (v5.wrapping_add(0xfffffffffffffff7)) < 0xfffffffffffffffb {
-    break 'after_13;
-  }
-  store32(v7, load32(v8));
-  store32((v3.wrapping_add(v4)).wrapping_add(0xfffffffffffffffc),
-      load32(v9.wrapping_add(0xfffffffffffffffc)));
-  break 'after_15;
-  }
-  'after_19: {
-  'after_16: {
-  if (v7.wrapping_sub(v8)) >= v5 {
-    break 'after_16;
-  }
-  v12 = v5 & 3;
-  v10 = 0;
-  'after_17: {
-  if v5 < 4 {
-    break 'after_17;
-  }
-  v13 = v5 & 0xfffffffffffffffc;
-  v10 = 0;
-  'again_18: loop {
-  v9 = v7.wrapping_add(v10);
-  v11 = v8.wrapping_add(v10);
-  store8(v9, (load8(v11) as u32) as u8);
-  store8(v9.wrapping_add(1), (load8(v11.wrapping_add(1)) as u32) as u8);
-  store8(v9.wrapping_add(2), (load8(v11.wrapping_add(2)) as u32) as u8);
-  store8(v9.wrapping_add(3), (load8(v11.wrapping_add(3)) as u32) as u8);
-  v10 = v10.wrapping_add(4);
-  if v13 != v10 {
-    continue 'again_18;
-  }
-  break;
-  }
-  if v12 == 0 {
-    break 'after_19;
-  }
-  }
-  v9 = v8.wrapping_add(v10);
-  v10 = v3.wrapping_add((v10.wrapping_add(v4)).wrapping_sub(v5));
-  'again_20: loop {
-  store8(v10, (load8(v9) as u32) as u8);
-  v10 = v10.wrapping_add(1);
-  v9 = v9.wrapping_add(1);
-  v12 = v12.wrapping_add(0xffffffffffffffff);
-  if v12 != 0 {
-    continue 'again_20;
-  }
-  break 'after_19;
-  }
-  }
-  if v5 == 0 {
-    break 'after_19;
-  }
-  move_(v7, v8, v5);
-  }
-  v9 = p1.wrapping_add(16);
-  store64(v9, v6);
-  if v5 > 127 {
-    break 'after_21;
-  }
-  }
-  v9 = v6.wrapping_add(0xfffffffffffffffe);
-  store16(load64(p1).wrapping_add(v9), (((v5 as u32) << 8) | 6) as u16);
-  store64(p1.wrapping_add(16), v9);
-  break 'after_22;
-  }
-  sec1_der_back_writer_BackWriter_prepend_long_header(p1, 6, v5);
-  v9 = load64(v9);
-  }
-  'after_23: {
-  v10 = v4.wrapping_sub(v9);
-  if v10 > 127 {
-    break 'after_23;
-  }
-  v9 = v9.wrapping_add(0xfffffffffffffffe);
-  store16(load64(p1).wrapping_add(v9), (((v10 as u32) << 8) | 160) as u16);
-  store64(p1.wrapping_add(16), v9);
-  break 'after_12;
-  }
-  sec1_der_back_writer_BackWriter_prepend_long_header(p1, 160, v10);
-  }
-  v4 = load64(p1);
-  v6 = load64(p1.wrapping_add(16));
-  v7 = load64(p0.wrapping_add(8));
-  v13 = v6.wrapping_sub(v7);
-  v8 = v4.wrapping_add(v13);
-  p0 = load64(p0);
-  'after_33: {
-  'after_32: {
-  'after_26: {
-  'after_24: {
-  if v7 > 32 {
-    break 'after_24;
-  }
-  v9 = p0.wrapping_add(v7);
-  'after_25: {
-  if v7 < 16 {
-    break 'after_25;
-  }
-  v10 = load64(p0);
-  store64(v8.wrapping_add(8), load64(p0.wrapping_add(8)));
-  store64(v8, v10);
-  v9 = v9.wrapping_add(0xfffffffffffffff0);
-  v10 = load64(v9);
-  v11 = (v4.wrapping_add(v6)).wrapping_add(0xfffffffffffffff0);
-  store64(v11.wrapping_add(8), load64(v9.wrapping_add(8)));
-  store64(v11, v10);
-  break 'after_26;
-  }
-  if (v7.wrapping_add(0xfffffffffffffff7)) < 0xfffffffffffffffb {
-    break 'after_24;
-  }
-  store32(v8, load32(p0));
-  store32((v4.wrapping_add(v6)).wrapping_add(0xfffffffffffffffc),
-      load32(v9.wrapping_add(0xfffffffffffffffc)));
-  break 'after_26;
-  }
-  'after_30: {
-  'after_27: {
-  if (v8.wrapping_sub(p0)) >= v7 {
-    break 'after_27;
-  }
-  v12 = v7 & 3;
-  v10 = 0;
-  'after_28: {
-  if v7 < 4 {
-    break 'after_28;
-  }
-  v5 = v7 & 0xfffffffffffffffc;
-  v10 = 0;
-  'again_29: loop {
-  v9 = v8.wrapping_add(v10);
-  v11 = p0.wrapping_add(v10);
-  store8(v9, (load8(v11) as u32) as u8);
-  store8(v9.wrapping_add(1), (load8(v11.wrapping_add(1)) as u32) as u8);
-  store8(v9.wrapping_add(2), (load8(v11.wrapping_add(2)) as u32) as u8);
-  store8(v9.wrapping_add(3), (load8(v11.wrapping_add(3)) as u32) as u8);
-  v10 = v10.wrapping_add(4);
-  if v5 != v10 {
-    continue 'again_29;
-  }
-  break;
-  }
-  if v12 == 0 {
-    break 'after_30;
-  }
-  }
-  v9 = p0.wrapping_add(v10);
-  v10 = v4.wrapping_add((v10.wrapping_add(v6)).wrapping_sub(v7));
-  'again_31: loop {
-  store8(v10, (load8(v9) as u32) as u8);
-  v10 = v10.wrapping_add(1);
-  v9 = v9.wrapping_add(1);
-  v12 = v12.wrapping_add(0xffffffffffffffff);
-  if v12 != 0 {
-    continue 'again_31;
-  }
-  break 'after_30;
-  }
-  }
-  if v7 == 0 {
-    break 'after_30;
-  }
-  move_(v8, p0, v7);
-  }
-  v9 = p1.wrapping_add(16);
-  store64(v9, v13);
-  if v7 > 127 {
-    break 'after_32;
-  }
-  }
-  v9 = v13.wrapping_add(0xfffffffffffffffe);
-  store16(load64(p1).wrapping_add(v9), (((v7 as u32) << 8) | 4) as u16);
-  break 'after_33;
-  }
-  sec1_der_back_writer_BackWriter_prepend_long_header(p1, 4, v7);
-  v9 = load64(v9);
-  }
-  store8((load64(p1).wrapping_add(v9)).wrapping_add(0xffffffffffffffff), 1);
-  v9 = v9.wrapping_add(0xfffffffffffffffd);
-  store16(load64(p1).wrapping_add(v9), 258);
-  store64(p1.wrapping_add(16), v9);
-  return;
-}
-
-// sec1_der::back_writer::BackWriter::prepend_long_header
-unsafe fn sec1_der_back_writer_BackWriter_prepend_long_header(p0: u64, p1: u32, mut p2: u64) {
-  let mut array = Frame::<16>::new();
-  let frame = address(&raw mut array);
-  let mut v4 = 0u32;
-  let mut v5 = 0u32;
-  let mut v6 = 0u64;
-  let mut v7 = 0u32;
-  let mut v8 = 0u32;
-  let mut v9 = 0u32;
-  let mut v10 = 0u32;
-  let mut v11 = 0u64;
-  let mut v12 = 0u64;
-  let mut v13 = 0u64;
-  'after_5: {
-  'after_2: {
-  v4 = 0;
-  'after_1: {
-  v5 = p2 as u32;
-  if v5 >= 128 {
-    break 'after_1;
-  }
-  v6 = 2;
-  v7 = v5;
-  v8 = 0;
-  break 'after_2;
-  }
-  'after_3: {
-  if v5 >= 256 {
-    break 'after_3;
-  }
-  v6 = 3;
-  v7 = 129;
-  v8 = v5;
-  break 'after_2;
-  }
-  v8 = (p2 >> 8) as u32;
-  'after_4: {
-  if v5 >= 0x10000 {
-    break 'after_4;
-  }
-  v6 = 4;
-  v7 = 130;
-  v9 = 0;
-  break 'after_5;
-  }
-  v7 = u32::from(v5 < 0x1000000);
-  v6 = if v7 != 0 { 5u64 } else { 6u64 };
-  v9 = if v5 > 0x1000000 { v5 } else { 0x1000000u32 };
-  v4 = if v7 != 0 { v5 } else { v8 };
-  v10 = (p2 >> 16) as u32;
-  v5 = if v7 != 0 { v8 } else { v10 };
-  v8 = if v7 != 0 { v10 } else { (p2 >> 24) as u32 };
-  v7 = if v7 != 0 { 0xffffff83u32 } else { 0xffffff84u32 };
-  break 'after_5;
-  }
-  v5 = 0;
-  v9 = 0;
-  }
-  store8(frame.wrapping_add(13), v9 as u8);
-  store8(frame.wrapping_add(12), v4 as u8);
-  store8(frame.wrapping_add(11), v5 as u8);
-  store8(frame.wrapping_add(10), v8 as u8);
-  store8(frame.wrapping_add(9), v7 as u8);
-  store8(frame.wrapping_add(8), p1 as u8);
-  v11 = load64(p0);
-  v12 = load64(p0.wrapping_add(16));
-  p2 = v12.wrapping_sub(v6);
-  v13 = v11.wrapping_add(p2);
-  'after_7: {
+  v8 = p0.wrapping_add(v5);
   'after_6: {
-  if v6 < 4 {
+  if v5 < 16 {
     break 'after_6;
   }
-  store32(v13, load32(frame.wrapping_add(8)));
-  store32((v11.wrapping_add(v12)).wrapping_add(0xfffffffffffffffc),
-      load32(((frame.wrapping_add(8)).wrapping_add(v6)).wrapping_add(0xfffffffffffffffc)));
-  break 'after_7;
+  v9 = load64(p0);
+  store64(v7.wrapping_add(8), load64(p0.wrapping_add(8)));
+  store64(v7, v9);
+  p0 = v8.wrapping_add(0xfffffffffffffff0);
+  v8 = load64(p0);
+  v9 = (v3.wrapping_add(v4)).wrapping_add(0xfffffffffffffff0);
+  store64(v9.wrapping_add(8), load64(p0.wrapping_add(8)));
+  store64(v9, v8);
+  break 'after_4;
   }
-  if v6 == 0 {
+  'after_7: {
+  if v5 < 8 {
     break 'after_7;
   }
-  move_(v13, frame.wrapping_add(8), v6);
+  store64(v7, load64(p0));
+  store64((v3.wrapping_add(v4)).wrapping_add(0xfffffffffffffff8),
+      load64(v8.wrapping_add(0xfffffffffffffff8)));
+  break 'after_4;
   }
-  store64(p0.wrapping_add(16), p2);
-}
-
-// sec1_der::required::RequiredEncodePart::prepend_part::<#6053cb6a5d4ca589>
-unsafe fn sec1_der_required_RequiredEncodePart_prepend_part(p0: u64, p1: u64) {
-  let mut v3 = 0u64;
-  let mut v4 = 0u64;
-  let mut v5 = 0u64;
-  let mut v6 = 0u64;
-  let mut v7 = 0u64;
-  let mut v8 = 0u64;
-  let mut v9 = 0u64;
-  let mut v10 = 0u64;
-  let mut v11 = 0u64;
-  let mut v12 = 0u64;
-  let mut v13 = 0u64;
-  v3 = load64(p1);
-  v4 = load64(p1.wrapping_add(16));
-  v5 = load64(p0.wrapping_add(8));
-  v6 = v4.wrapping_sub(v5);
-  v7 = v3.wrapping_add(v6);
-  v8 = load64(p0);
-  'after_3: {
-  'after_1: {
-  if v5 > 32 {
-    break 'after_1;
-  }
-  v9 = v8.wrapping_add(v5);
-  'after_2: {
-  if v5 < 16 {
-    break 'after_2;
-  }
-  v10 = load64(v8);
-  store64(v7.wrapping_add(8), load64(v8.wrapping_add(8)));
-  store64(v7, v10);
-  v9 = v9.wrapping_add(0xfffffffffffffff0);
-  v10 = load64(v9);
-  v11 = (v3.wrapping_add(v4)).wrapping_add(0xfffffffffffffff0);
-  store64(v11.wrapping_add(8), load64(v9.wrapping_add(8)));
-  store64(v11, v10);
-  break 'after_3;
-  }
-  if (v5.wrapping_add(0xfffffffffffffff7)) < 0xfffffffffffffffb {
-    break 'after_1;
-  }
-  store32(v7, load32(v8));
-  store32((v3.wrapping_add(v4)).wrapping_add(0xfffffffffffffffc),
-      load32(v9.wrapping_add(0xfffffffffffffffc)));
-  break 'after_3;
-  }
-  'after_4: {
-  if (v7.wrapping_sub(v8)) >= v5 {
-    break 'after_4;
-  }
-  v12 = v5 & 3;
-  v10 = 0;
-  'after_5: {
   if v5 < 4 {
     break 'after_5;
   }
-  v13 = v5 & 0xfffffffffffffffc;
-  v10 = 0;
-  'again_6: loop {
-  v9 = v7.wrapping_add(v10);
-  v11 = v8.wrapping_add(v10);
-  store8(v9, (load8(v11) as u32) as u8);
-  store8(v9.wrapping_add(1), (load8(v11.wrapping_add(1)) as u32) as u8);
-  store8(v9.wrapping_add(2), (load8(v11.wrapping_add(2)) as u32) as u8);
-  store8(v9.wrapping_add(3), (load8(v11.wrapping_add(3)) as u32) as u8);
-  v10 = v10.wrapping_add(4);
-  if v13 != v10 {
-    continue 'again_6;
+  store32(v7, load32(p0));
+  store32((v3.wrapping_add(v4)).wrapping_add(0xfffffffffffffffc),
+      load32(v8.wrapping_add(0xfffffffffffffffc)));
+  break 'after_4;
+  }
+  'after_8: {
+  if (v7.wrapping_sub(p0)) >= v5 {
+    break 'after_8;
+  }
+  v11 = v5 & 3;
+  v8 = 0;
+  'after_9: {
+  if v5 < 4 {
+    break 'after_9;
+  }
+  v12 = v5 & 0xfffffffffffffffc;
+  v8 = 0;
+  'again_10: loop {
+  v9 = v7.wrapping_add(v8);
+  v10 = p0.wrapping_add(v8);
+  store8(v9, (load8(v10) as u32) as u8);
+  store8(v9.wrapping_add(1), (load8(v10.wrapping_add(1)) as u32) as u8);
+  store8(v9.wrapping_add(2), (load8(v10.wrapping_add(2)) as u32) as u8);
+  store8(v9.wrapping_add(3), (load8(v10.wrapping_add(3)) as u32) as u8);
+  v8 = v8.wrapping_add(4);
+  if v12 != v8 {
+    continue 'again_10;
   }
   break;
   }
-  if v12 == 0 {
-    break 'after_3;
+  if v11 == 0 {
+    break 'after_4;
   }
   }
-  v9 = v8.wrapping_add(v10);
-  v10 = v3.wrapping_add((v10.wrapping_add(v4)).wrapping_sub(v5));
-  'again_7: loop {
-  store8(v10, (load8(v9) as u32) as u8);
-  v10 = v10.wrapping_add(1);
-  v9 = v9.wrapping_add(1);
-  v12 = v12.wrapping_add(0xffffffffffffffff);
-  if v12 != 0 {
-    continue 'again_7;
+  p0 = p0.wrapping_add(v8);
+  v8 = v3.wrapping_add((v8.wrapping_add(v4)).wrapping_sub(v5));
+  'again_11: loop {
+  store8(v8, (load8(p0) as u32) as u8);
+  v8 = v8.wrapping_add(1);
+  p0 = p0.wrapping_add(1);
+  v11 = v11.wrapping_add(0xffffffffffffffff);
+  if v11 != 0 {
+    continue 'again_11;
   }
-  break 'after_3;
+  break 'after_4;
   }
   }
   if v5 == 0 {
-    break 'after_3;
+    break 'after_4;
   }
-  move_(v7, v8, v5);
+  move_(v7, p0, v5);
   }
-  v9 = p1.wrapping_add(16);
-  store64(v9, v6);
-  'after_9: {
-  'after_8: {
-  if (load64(p0.wrapping_add(8))) == 0 {
-    break 'after_8;
+  p0 = v6.wrapping_add(0xffffffffffffffff);
+  store8(load64(p1).wrapping_add(p0), 0);
+  'after_13: {
+  'after_12: {
+  v8 = v4.wrapping_sub(p0);
+  if v8 > 127 {
+    break 'after_12;
   }
-  if (((load8(load64(p0)) as u32) as i8 as i32 as u32) as i32) > (0xffffffffu32 as i32) {
-    break 'after_9;
+  p0 = v6.wrapping_add(0xfffffffffffffffd);
+  store16(load64(p1).wrapping_add(p0), (((v8 as u32) << 8) | 3) as u16);
+  break 'after_13;
   }
+  let t0 = sec1_der_back_writer_prepend_long_header(load64(p1), p0, 3, v8);
+  p0 = t0;
   }
-  v6 = v6.wrapping_add(0xffffffffffffffff);
-  store8(load64(p1).wrapping_add(v6), 0);
-  store64(v9, v6);
+  'after_15: {
+  'after_14: {
+  v8 = v4.wrapping_sub(p0);
+  if v8 > 127 {
+    break 'after_14;
   }
-  'after_10: {
-  v9 = v4.wrapping_sub(v6);
-  if v9 > 127 {
-    break 'after_10;
+  p0 = p0.wrapping_add(0xfffffffffffffffe);
+  store16(load64(p1).wrapping_add(p0), (((v8 as u32) << 8) | 161) as u16);
+  break 'after_15;
   }
-  v10 = v6.wrapping_add(0xfffffffffffffffe);
-  store16(load64(p1).wrapping_add(v10), (((v9 as u32) << 8) | 2) as u16);
-  store64(p1.wrapping_add(16), v10);
-  return;
+  let t1 = sec1_der_back_writer_prepend_long_header(load64(p1), p0, 161, v8);
+  p0 = t1;
   }
-  sec1_der_back_writer_BackWriter_prepend_long_header(p1, 2, v9);
+  store64(p1.wrapping_add(16), p0);
+  }
   return;
 }
 
-// sec1_c::algorithm::write_curve
-unsafe fn sec1_c_algorithm_write_curve(mut p0: u32, p1: u64) -> u64 {
-  let mut array = Frame::<192>::new();
+// sec1_der::back_writer::prepend_long_header
+unsafe fn sec1_der_back_writer_prepend_long_header(p0: u64, p1: u64, p2: u32, mut p3: u64) -> u64 {
+  let mut array = Frame::<16>::new();
   let frame = address(&raw mut array);
-  let mut v2 = 0u64;
-  let mut v4 = 0u64;
-  let mut v5 = 0u64;
+  let mut v5 = 0u32;
   let mut v6 = 0u32;
-  let mut v7 = 0u32;
+  let mut v7 = 0u64;
   let mut v8 = 0u32;
   let mut v9 = 0u32;
   let mut v10 = 0u32;
   let mut v11 = 0u32;
-  let mut v12 = 0u32;
-  let mut v13 = 0u64;
-  v2 = frame;
-  'after_36: {
-  'after_39: {
-  store64(frame.wrapping_add(72), 0);
-  store64(frame.wrapping_add(64), 0);
-  store64(frame.wrapping_add(56), 0);
-  store64(frame.wrapping_add(48), 0);
-  store64(frame, 0);
-  store64(frame.wrapping_add(8), 0);
-  store64(frame.wrapping_add(16), 0);
-  store64(frame.wrapping_add(24), 0);
-  store64(frame.wrapping_add(32), 0);
-  store64(frame.wrapping_add(40), 0);
-  store64(frame.wrapping_add(110), 0);
-  store64(frame.wrapping_add(104), 0);
-  store64(frame.wrapping_add(96), 0);
-  store64(frame.wrapping_add(88), 0);
-  store64(frame.wrapping_add(80), 0);
-  v2 = constant(74);
-  v4 = constant(34);
-  v5 = 5;
-  'after_34: {
-  'after_35: {
-  'after_33: {
-  'after_32: {
-  'after_31: {
-  'after_30: {
-  'after_29: {
-  'after_28: {
-  'after_27: {
-  'after_26: {
-  'after_25: {
-  'after_24: {
-  'after_23: {
-  'after_22: {
-  'after_21: {
-  'after_20: {
-  'after_19: {
-  'after_18: {
-  'after_17: {
-  'after_16: {
-  'after_15: {
-  'after_14: {
-  'after_13: {
-  'after_12: {
-  'after_11: {
-  'after_10: {
-  'after_9: {
-  'after_8: {
-  'after_7: {
-  'after_6: {
+  let mut v12 = 0u64;
   'after_5: {
-  'after_4: {
-  'after_3: {
   'after_2: {
+  v5 = 0;
   'after_1: {
-  match ((p0 as u64) & 255) as u32 {
-  2 => {
+  v6 = p3 as u32;
+  if v6 >= 128 {
     break 'after_1;
   }
-  3 => {
-    break 'after_2;
+  v7 = 2;
+  v8 = v6;
+  v9 = 0;
+  break 'after_2;
   }
-  4 => {
+  'after_3: {
+  if v6 >= 256 {
     break 'after_3;
   }
-  5 => {
+  v7 = 3;
+  v8 = 129;
+  v9 = v6;
+  break 'after_2;
+  }
+  v9 = (p3 >> 8) as u32;
+  'after_4: {
+  if v6 >= 0x10000 {
     break 'after_4;
   }
-  6 => {
-    break 'after_5;
+  v7 = 4;
+  v8 = 130;
+  v10 = 0;
+  break 'after_5;
   }
-  7 => {
+  v8 = u32::from(v6 < 0x1000000);
+  v7 = if v8 != 0 { 5u64 } else { 6u64 };
+  v10 = if v6 > 0x1000000 { v6 } else { 0x1000000u32 };
+  v5 = if v8 != 0 { v6 } else { v9 };
+  v11 = (p3 >> 16) as u32;
+  v6 = if v8 != 0 { v9 } else { v11 };
+  v9 = if v8 != 0 { v11 } else { (p3 >> 24) as u32 };
+  v8 = if v8 != 0 { 0xffffff83u32 } else { 0xffffff84u32 };
+  break 'after_5;
+  }
+  v6 = 0;
+  v10 = 0;
+  }
+  store8(frame.wrapping_add(13), v10 as u8);
+  store8(frame.wrapping_add(12), v5 as u8);
+  store8(frame.wrapping_add(11), v6 as u8);
+  store8(frame.wrapping_add(10), v9 as u8);
+  store8(frame.wrapping_add(9), v8 as u8);
+  store8(frame.wrapping_add(8), p2 as u8);
+  p3 = p1.wrapping_sub(v7);
+  v12 = p0.wrapping_add(p3);
+  'after_6: {
+  if v7 < 4 {
     break 'after_6;
   }
-  9 => {
+  store32(v12, load32(frame.wrapping_add(8)));
+  store32((p0.wrapping_add(p1)).wrapping_add(0xfffffffffffffffc),
+      load32(((frame.wrapping_add(8)).wrapping_add(v7)).wrapping_add(0xfffffffffffffffc)));
+  return p3;
+  }
+  'after_7: {
+  if v7 == 0 {
     break 'after_7;
   }
-  10 => {
+  move_(v12, frame.wrapping_add(8), v7);
+  }
+  return p3;
+}
+
+// sec1_der::optional::OptionalEncodePart::prepend_part::<#f70a924d5919e516>
+unsafe fn sec1_der_optional_OptionalEncodePart_prepend_part_2(mut p0: u64, p1: u64) {
+  let mut v3 = 0u64;
+  let mut v4 = 0u64;
+  let mut v5 = 0u64;
+  let mut v6 = 0u64;
+  let mut v7 = 0u64;
+  let mut v8 = 0u64;
+  let mut v9 = 0u64;
+  let mut v10 = 0u64;
+  let mut v11 = 0u64;
+  let mut v12 = 0u64;
+  let mut v13 = 0u64;
+  let mut v14 = 0u64;
+  let mut v15 = 0u64;
+  'after_1: {
+  if (load8(p0) as u32) != 1 {
+    break 'after_1;
+  }
+  v3 = load64(p1);
+  v4 = load64(p1.wrapping_add(16));
+  v5 = load64(p0.wrapping_add(16));
+  v6 = v4.wrapping_sub(v5);
+  v7 = v3.wrapping_add(v6);
+  p0 = load64(p0.wrapping_add(8));
+  'after_14: {
+  'after_13: {
+  'after_4: {
+  'after_6: {
+  'after_5: {
+  'after_2: {
+  if v5 < 33 {
+    break 'after_2;
+  }
+  v8 = p0.wrapping_add(v5);
+  'after_3: {
+  if v5 > 64 {
+    break 'after_3;
+  }
+  v9 = load64(p0);
+  v10 = load64(p0.wrapping_add(8));
+  v11 = load64(p0.wrapping_add(16));
+  store64(v7.wrapping_add(24), load64(p0.wrapping_add(24)));
+  store64(v7.wrapping_add(16), v11);
+  store64(v7.wrapping_add(8), v10);
+  store64(v7, v9);
+  p0 = v8.wrapping_add(0xffffffffffffffe0);
+  v9 = load64(p0);
+  v10 = load64(p0.wrapping_add(8));
+  v7 = load64(p0.wrapping_add(16));
+  v8 = (v3.wrapping_add(v4)).wrapping_add(0xffffffffffffffe0);
+  store64(v8.wrapping_add(24), load64(p0.wrapping_add(24)));
+  store64(v8.wrapping_add(16), v7);
+  store64(v8.wrapping_add(8), v10);
+  store64(v8, v9);
+  break 'after_4;
+  }
+  if v5 > 128 {
+    break 'after_5;
+  }
+  v9 = load64(p0);
+  v10 = load64(p0.wrapping_add(8));
+  v11 = load64(p0.wrapping_add(16));
+  v12 = load64(p0.wrapping_add(24));
+  v13 = load64(p0.wrapping_add(32));
+  v14 = load64(p0.wrapping_add(40));
+  v15 = load64(p0.wrapping_add(48));
+  store64(v7.wrapping_add(56), load64(p0.wrapping_add(56)));
+  store64(v7.wrapping_add(48), v15);
+  store64(v7.wrapping_add(40), v14);
+  store64(v7.wrapping_add(32), v13);
+  store64(v7.wrapping_add(24), v12);
+  store64(v7.wrapping_add(16), v11);
+  store64(v7.wrapping_add(8), v10);
+  store64(v7, v9);
+  p0 = v8.wrapping_add(0xffffffffffffffc0);
+  v9 = load64(p0);
+  v10 = load64(p0.wrapping_add(8));
+  v7 = load64(p0.wrapping_add(16));
+  v11 = load64(p0.wrapping_add(24));
+  v12 = load64(p0.wrapping_add(32));
+  v13 = load64(p0.wrapping_add(40));
+  v14 = load64(p0.wrapping_add(48));
+  v8 = (v3.wrapping_add(v4)).wrapping_add(0xffffffffffffffc0);
+  store64(v8.wrapping_add(56), load64(p0.wrapping_add(56)));
+  store64(v8.wrapping_add(48), v14);
+  store64(v8.wrapping_add(40), v13);
+  store64(v8.wrapping_add(32), v12);
+  store64(v8.wrapping_add(24), v11);
+  store64(v8.wrapping_add(16), v7);
+  store64(v8.wrapping_add(8), v10);
+  store64(v8, v9);
+  break 'after_6;
+  }
+  v8 = p0.wrapping_add(v5);
+  'after_7: {
+  if v5 < 16 {
+    break 'after_7;
+  }
+  v9 = load64(p0);
+  store64(v7.wrapping_add(8), load64(p0.wrapping_add(8)));
+  store64(v7, v9);
+  p0 = v8.wrapping_add(0xfffffffffffffff0);
+  v8 = load64(p0);
+  v9 = (v3.wrapping_add(v4)).wrapping_add(0xfffffffffffffff0);
+  store64(v9.wrapping_add(8), load64(p0.wrapping_add(8)));
+  store64(v9, v8);
+  break 'after_4;
+  }
+  'after_8: {
+  if v5 < 8 {
     break 'after_8;
   }
-  11 => {
+  store64(v7, load64(p0));
+  store64((v3.wrapping_add(v4)).wrapping_add(0xfffffffffffffff8),
+      load64(v8.wrapping_add(0xfffffffffffffff8)));
+  break 'after_4;
+  }
+  if v5 < 4 {
+    break 'after_5;
+  }
+  store32(v7, load32(p0));
+  store32((v3.wrapping_add(v4)).wrapping_add(0xfffffffffffffffc),
+      load32(v8.wrapping_add(0xfffffffffffffffc)));
+  break 'after_4;
+  }
+  'after_9: {
+  if (v7.wrapping_sub(p0)) >= v5 {
     break 'after_9;
   }
-  13 => {
+  v11 = v5 & 3;
+  v8 = 0;
+  'after_10: {
+  if v5 < 4 {
     break 'after_10;
   }
-  14 => {
-    break 'after_11;
+  v12 = v5 & 0xfffffffffffffffc;
+  v8 = 0;
+  'again_11: loop {
+  v9 = v7.wrapping_add(v8);
+  v10 = p0.wrapping_add(v8);
+  store8(v9, (load8(v10) as u32) as u8);
+  store8(v9.wrapping_add(1), (load8(v10.wrapping_add(1)) as u32) as u8);
+  store8(v9.wrapping_add(2), (load8(v10.wrapping_add(2)) as u32) as u8);
+  store8(v9.wrapping_add(3), (load8(v10.wrapping_add(3)) as u32) as u8);
+  v8 = v8.wrapping_add(4);
+  if v12 != v8 {
+    continue 'again_11;
   }
-  15 => {
-    break 'after_12;
+  break;
   }
-  16 => {
+  if v11 == 0 {
+    break 'after_6;
+  }
+  }
+  p0 = p0.wrapping_add(v8);
+  v8 = v3.wrapping_add((v8.wrapping_add(v4)).wrapping_sub(v5));
+  'again_12: loop {
+  store8(v8, (load8(p0) as u32) as u8);
+  v8 = v8.wrapping_add(1);
+  p0 = p0.wrapping_add(1);
+  v11 = v11.wrapping_add(0xffffffffffffffff);
+  if v11 != 0 {
+    continue 'again_12;
+  }
+  break 'after_6;
+  }
+  }
+  if v5 == 0 {
+    break 'after_6;
+  }
+  move_(v7, p0, v5);
+  }
+  if v5 > 127 {
     break 'after_13;
   }
-  17 => {
-    break 'after_14;
   }
-  18 => {
+  p0 = v6.wrapping_add(0xfffffffffffffffe);
+  store16(load64(p1).wrapping_add(p0), (((v5 as u32) << 8) | 6) as u16);
+  break 'after_14;
+  }
+  let t0 = sec1_der_back_writer_prepend_long_header(load64(p1), v6, 6, v5);
+  p0 = t0;
+  }
+  'after_16: {
+  'after_15: {
+  v8 = v4.wrapping_sub(p0);
+  if v8 > 127 {
     break 'after_15;
   }
-  19 => {
-    break 'after_16;
+  p0 = p0.wrapping_add(0xfffffffffffffffe);
+  store16(load64(p1).wrapping_add(p0), (((v8 as u32) << 8) | 160) as u16);
+  break 'after_16;
   }
-  20 => {
-    break 'after_17;
+  let t1 = sec1_der_back_writer_prepend_long_header(load64(p1), p0, 160, v8);
+  p0 = t1;
   }
-  21 => {
-    break 'after_18;
+  store64(p1.wrapping_add(16), p0);
   }
-  22 => {
-    break 'after_19;
+  return;
+}
+
+// sec1_der::required::RequiredEncodePart::prepend_part::<#cd705672d5d1d156>
+unsafe fn sec1_der_required_RequiredEncodePart_prepend_part(mut p0: u64, p1: u64, p2: u64) {
+  let mut v4 = 0u64;
+  let mut v5 = 0u64;
+  let mut v6 = 0u64;
+  let mut v7 = 0u64;
+  let mut v8 = 0u64;
+  let mut v9 = 0u64;
+  let mut v10 = 0u64;
+  let mut v11 = 0u64;
+  let mut v12 = 0u64;
+  let mut v13 = 0u64;
+  let mut v14 = 0u64;
+  let mut v15 = 0u64;
+  v4 = load64(p2);
+  v5 = load64(p2.wrapping_add(16));
+  v6 = v5.wrapping_sub(p1);
+  v7 = v4.wrapping_add(v6);
+  'after_13: {
+  'after_12: {
+  'after_3: {
+  'after_5: {
+  'after_4: {
+  'after_1: {
+  if p1 < 33 {
+    break 'after_1;
   }
-  23 => {
-    break 'after_20;
+  v8 = p0.wrapping_add(p1);
+  'after_2: {
+  if p1 > 64 {
+    break 'after_2;
   }
-  24 => {
-    break 'after_21;
+  v9 = load64(p0);
+  v10 = load64(p0.wrapping_add(8));
+  v11 = load64(p0.wrapping_add(16));
+  store64(v7.wrapping_add(24), load64(p0.wrapping_add(24)));
+  store64(v7.wrapping_add(16), v11);
+  store64(v7.wrapping_add(8), v10);
+  store64(v7, v9);
+  p0 = v8.wrapping_add(0xffffffffffffffe0);
+  v9 = load64(p0);
+  v10 = load64(p0.wrapping_add(8));
+  v7 = load64(p0.wrapping_add(16));
+  v8 = (v4.wrapping_add(v5)).wrapping_add(0xffffffffffffffe0);
+  store64(v8.wrapping_add(24), load64(p0.wrapping_add(24)));
+  store64(v8.wrapping_add(16), v7);
+  store64(v8.wrapping_add(8), v10);
+  store64(v8, v9);
+  break 'after_3;
   }
-  25 => {
-    break 'after_22;
+  if p1 > 128 {
+    break 'after_4;
   }
-  26 => {
-    break 'after_23;
+  v9 = load64(p0);
+  v10 = load64(p0.wrapping_add(8));
+  v11 = load64(p0.wrapping_add(16));
+  v12 = load64(p0.wrapping_add(24));
+  v13 = load64(p0.wrapping_add(32));
+  v14 = load64(p0.wrapping_add(40));
+  v15 = load64(p0.wrapping_add(48));
+  store64(v7.wrapping_add(56), load64(p0.wrapping_add(56)));
+  store64(v7.wrapping_add(48), v15);
+  store64(v7.wrapping_add(40), v14);
+  store64(v7.wrapping_add(32), v13);
+  store64(v7.wrapping_add(24), v12);
+  store64(v7.wrapping_add(16), v11);
+  store64(v7.wrapping_add(8), v10);
+  store64(v7, v9);
+  p0 = v8.wrapping_add(0xffffffffffffffc0);
+  v9 = load64(p0);
+  v10 = load64(p0.wrapping_add(8));
+  v7 = load64(p0.wrapping_add(16));
+  v11 = load64(p0.wrapping_add(24));
+  v12 = load64(p0.wrapping_add(32));
+  v13 = load64(p0.wrapping_add(40));
+  v14 = load64(p0.wrapping_add(48));
+  v8 = (v4.wrapping_add(v5)).wrapping_add(0xffffffffffffffc0);
+  store64(v8.wrapping_add(56), load64(p0.wrapping_add(56)));
+  store64(v8.wrapping_add(48), v14);
+  store64(v8.wrapping_add(40), v13);
+  store64(v8.wrapping_add(32), v12);
+  store64(v8.wrapping_add(24), v11);
+  store64(v8.wrapping_add(16), v7);
+  store64(v8.wrapping_add(8), v10);
+  store64(v8, v9);
+  break 'after_5;
   }
-  27 => {
-    break 'after_24;
+  v8 = p0.wrapping_add(p1);
+  'after_6: {
+  if p1 < 16 {
+    break 'after_6;
   }
-  28 => {
-    break 'after_25;
+  v9 = load64(p0);
+  store64(v7.wrapping_add(8), load64(p0.wrapping_add(8)));
+  store64(v7, v9);
+  p0 = v8.wrapping_add(0xfffffffffffffff0);
+  v8 = load64(p0);
+  v9 = (v4.wrapping_add(v5)).wrapping_add(0xfffffffffffffff0);
+  store64(v9.wrapping_add(8), load64(p0.wrapping_add(8)));
+  store64(v9, v8);
+  break 'after_3;
   }
-  29 => {
-    break 'after_26;
+  'after_7: {
+  if p1 < 8 {
+    break 'after_7;
   }
-  30 => {
-    break 'after_27;
+  store64(v7, load64(p0));
+  store64((v4.wrapping_add(v5)).wrapping_add(0xfffffffffffffff8),
+      load64(v8.wrapping_add(0xfffffffffffffff8)));
+  break 'after_3;
   }
-  31 => {
-    break 'after_28;
+  if p1 < 4 {
+    break 'after_4;
   }
-  32 => {
-    break 'after_29;
+  store32(v7, load32(p0));
+  store32((v4.wrapping_add(v5)).wrapping_add(0xfffffffffffffffc),
+      load32(v8.wrapping_add(0xfffffffffffffffc)));
+  break 'after_3;
   }
-  33 => {
-    break 'after_30;
+  'after_8: {
+  if (v7.wrapping_sub(p0)) >= p1 {
+    break 'after_8;
   }
-  12 => {
-    break 'after_31;
+  v11 = p1 & 3;
+  v8 = 0;
+  'after_9: {
+  if p1 < 4 {
+    break 'after_9;
   }
-  8 => {
-    break 'after_32;
+  v12 = p1 & 0xfffffffffffffffc;
+  v8 = 0;
+  'again_10: loop {
+  v9 = v7.wrapping_add(v8);
+  v10 = p0.wrapping_add(v8);
+  store8(v9, (load8(v10) as u32) as u8);
+  store8(v9.wrapping_add(1), (load8(v10.wrapping_add(1)) as u32) as u8);
+  store8(v9.wrapping_add(2), (load8(v10.wrapping_add(2)) as u32) as u8);
+  store8(v9.wrapping_add(3), (load8(v10.wrapping_add(3)) as u32) as u8);
+  v8 = v8.wrapping_add(4);
+  if v12 != v8 {
+    continue 'again_10;
   }
-  1 => {
-    break 'after_33;
+  break;
   }
-  _ => {
-    break 'after_34;
-  }
-  }
-  }
-  v4 = constant(44);
-  break 'after_34;
-  }
-  v4 = constant(49);
-  break 'after_34;
-  }
-  v4 = constant(54);
-  break 'after_34;
-  }
-  v4 = constant(59);
-  break 'after_34;
-  }
-  v4 = constant(64);
-  break 'after_34;
-  }
-  v4 = constant(69);
-  break 'after_34;
-  }
-  v4 = constant(82);
-  break 'after_34;
-  }
-  v4 = constant(87);
-  break 'after_34;
-  }
-  v4 = constant(92);
-  break 'after_34;
-  }
-  v4 = constant(105);
-  break 'after_34;
-  }
-  v4 = constant(110);
-  break 'after_34;
-  }
-  v2 = constant(115);
-  break 'after_32;
-  }
-  v2 = constant(123);
-  break 'after_32;
-  }
-  v2 = constant(131);
-  break 'after_32;
-  }
-  v2 = constant(139);
-  break 'after_32;
-  }
-  v2 = constant(147);
-  break 'after_32;
-  }
-  v4 = constant(155);
-  v5 = 9;
-  break 'after_34;
-  }
-  v4 = constant(164);
-  v5 = 9;
-  break 'after_34;
-  }
-  v4 = constant(173);
-  v5 = 9;
-  break 'after_34;
-  }
-  v4 = constant(182);
-  v5 = 9;
-  break 'after_34;
-  }
-  v4 = constant(191);
-  v5 = 9;
-  break 'after_34;
-  }
-  v4 = constant(200);
-  v5 = 9;
-  break 'after_34;
-  }
-  v4 = constant(209);
-  v5 = 9;
-  break 'after_34;
-  }
-  v4 = constant(218);
-  v5 = 9;
-  break 'after_34;
-  }
-  v4 = constant(227);
-  v5 = 9;
-  break 'after_34;
-  }
-  v4 = constant(236);
-  v5 = 9;
-  break 'after_34;
-  }
-  v4 = constant(245);
-  v5 = 9;
-  break 'after_34;
-  }
-  v4 = constant(254);
-  v5 = 9;
-  break 'after_34;
-  }
-  v4 = constant(263);
-  v5 = 9;
-  break 'after_34;
-  }
-  v4 = constant(272);
-  v5 = 9;
-  break 'after_34;
-  }
-  v2 = constant(97);
-  }
-  v5 = 8;
-  p0 = (load8(v2) as u32) as i8 as i32 as u32;
-  v6 = (load8(v2.wrapping_add(1)) as u32) as i8 as i32 as u32;
-  let t0 = (u32::from((p0 & 255) == 128)) | ((u32::from((v6 & 255) == 128)) << 1);
-  v7 = (load8(v2.wrapping_add(3)) as u32) as i8 as i32 as u32;
-  v8 = (load8(v2.wrapping_add(2)) as u32) as i8 as i32 as u32;
-  let t1 = ((u32::from((v7 & 255) == 128)) << 3) | ((u32::from((v8 & 255) == 128)) << 2);
-  v9 = (load8(v2.wrapping_add(4)) as u32) as i8 as i32 as u32;
-  v10 = (load8(v2.wrapping_add(5)) as u32) as i8 as i32 as u32;
-  let t2 = (u32::from((v9 & 255) == 128)) | ((u32::from((v10 & 255) == 128)) << 1);
-  v11 = (load8(v2.wrapping_add(7)) as u32) as i8 as i32 as u32;
-  v12 = (load8(v2.wrapping_add(6)) as u32) as i8 as i32 as u32;
-  let t3 = ((u32::from((v11 & 255) == 128)) << 3) | ((u32::from((v12 & 255) == 128)) << 2);
-  if ((t0 | t1) | ((t2 | t3) << 4)) == 0 {
-    break 'after_35;
-  }
-  v4 = v2;
-  break 'after_34;
-  }
-  v4 = constant(39);
-  break 'after_34;
-  }
-  v4 = v2;
-  let t4 = ((u32::from((p0 as i32) > (0xffffffffu32 as i32))) | ((u32::from((v6 as i32) >
-      (0xffffffffu32 as i32))) << 1)) | (((u32::from((v7 as i32) > (0xffffffffu32 as i32))) << 3) |
-      ((u32::from((v8 as i32) > (0xffffffffu32 as i32))) << 2));
-  let t5 = ((u32::from((v9 as i32) > (0xffffffffu32 as i32))) | ((u32::from((v10 as i32) >
-      (0xffffffffu32 as i32))) << 1)) | (((u32::from((v11 as i32) > (0xffffffffu32 as i32))) << 3) |
-      ((u32::from((v12 as i32) > (0xffffffffu32 as i32))) << 2));
-  v13 = (t4 | (t5 << 4)) as u64;
-  if ((v13 >> 1) | v13) == 255 {
-    break 'after_36;
+  if v11 == 0 {
+    break 'after_5;
   }
   }
-  v13 = v5.wrapping_add(0xffffffffffffffff);
-  p0 = 0;
-  v2 = 0;
-  'again_42: loop {
-  'after_41: {
-  'after_37: {
-  v6 = (load8(v4.wrapping_add(v2)) as u32) as i8 as i32 as u32;
-  if (v6 as i32) > (0xffffffffu32 as i32) {
-    break 'after_37;
-  }
-  'after_40: {
-  'after_38: {
-  v7 = p0 & 255;
-  if v7 != 0 {
-    break 'after_38;
-  }
-  if v6 == 0xffffff80 {
-    break 'after_39;
-  }
-  p0 = if v6 < 0xffffff90 { 1u32 } else { 2u32 };
-  break 'after_40;
-  }
-  if v7 > 3 {
-    break 'after_39;
-  }
+  p0 = p0.wrapping_add(v8);
+  v8 = v4.wrapping_add((v8.wrapping_add(v5)).wrapping_sub(p1));
+  'again_11: loop {
+  store8(v8, (load8(p0) as u32) as u8);
+  v8 = v8.wrapping_add(1);
   p0 = p0.wrapping_add(1);
+  v11 = v11.wrapping_add(0xffffffffffffffff);
+  if v11 != 0 {
+    continue 'again_11;
   }
-  if v13 == v2 {
-    break 'after_39;
-  }
-  break 'after_41;
-  }
-  p0 = 0;
-  if v13 != v2 {
-    break 'after_41;
-  }
-  v2 = v4;
-  break 'after_36;
-  }
-  v2 = v2.wrapping_add(1);
-  continue 'again_42;
+  break 'after_5;
   }
   }
-  trap();
+  if p1 == 0 {
+    break 'after_5;
   }
-  store64(frame.wrapping_add(183), 0);
-  store64(frame.wrapping_add(176), 0);
-  store64(frame.wrapping_add(168), 0);
-  store64(frame.wrapping_add(160), 0);
-  store64(frame.wrapping_add(152), 0);
-  'after_43: {
-  p0 = u32::from(v5 == 0);
-  if p0 != 0 {
-    break 'after_43;
+  move_(v7, p0, p1);
   }
-  move_(frame.wrapping_add(152), v2, v5);
+  if p1 > 127 {
+    break 'after_12;
   }
-  v4 = load64(frame.wrapping_add(176));
-  store64(frame.wrapping_add(144), v4);
-  v2 = load64(frame.wrapping_add(152));
-  store64(frame.wrapping_add(120), v2);
-  store64(frame.wrapping_add(86), v2);
-  store64(frame.wrapping_add(56), load64(frame.wrapping_add(160)));
-  store64(frame.wrapping_add(72), v4);
-  store64(frame.wrapping_add(64), load64(frame.wrapping_add(168)));
-  store64(frame.wrapping_add(48), v2);
-  v2 = load8(frame.wrapping_add(190)) as u64;
-  v4 = load16(frame.wrapping_add(188)) as u64;
-  v13 = load32(frame.wrapping_add(184)) as u64;
-  store64(frame.wrapping_add(24), load64(frame.wrapping_add(72)));
-  store64(frame.wrapping_add(16), load64(frame.wrapping_add(64)));
-  store64(frame.wrapping_add(8), load64(frame.wrapping_add(56)));
-  store64(frame, load64(frame.wrapping_add(48)));
-  store64(frame.wrapping_add(40), v5);
-  store64(frame.wrapping_add(32), v13 | ((v2 << 48) | (v4 << 32)));
-  v4 = p1.wrapping_add(2);
-  v2 = v5.wrapping_add(2);
-  'after_45: {
-  'after_44: {
-  if v5 == 9 {
-    break 'after_44;
   }
-  store32(v4, load32(frame));
-  store32((p1.wrapping_add(v2)).wrapping_add(0xfffffffffffffffc),
-      load32((frame.wrapping_add(v5)).wrapping_add(0xfffffffffffffffc)));
-  break 'after_45;
+  p0 = v6.wrapping_add(0xfffffffffffffffe);
+  store16(load64(p2).wrapping_add(p0), (((p1 as u32) << 8) | 4) as u16);
+  break 'after_13;
   }
-  if p0 != 0 {
-    break 'after_45;
+  let t0 = sec1_der_back_writer_prepend_long_header(load64(p2), v6, 4, p1);
+  p0 = t0;
   }
-  move_(v4, frame, v5);
+  store64(p2.wrapping_add(16), p0);
+  return;
+}
+
+// sec1_der::required::RequiredEncodePart::prepend_part::<#6053cb6a5d4ca589>
+unsafe fn sec1_der_required_RequiredEncodePart_prepend_part_2(mut p0: u64, mut p1: u64, p2: u64) {
+  let mut v4 = 0u64;
+  let mut v5 = 0u64;
+  let mut v6 = 0u64;
+  let mut v7 = 0u64;
+  let mut v8 = 0u64;
+  let mut v9 = 0u64;
+  let mut v10 = 0u64;
+  let mut v11 = 0u64;
+  let mut v12 = 0u64;
+  let mut v13 = 0u64;
+  let mut v14 = 0u64;
+  'after_14: {
+  'after_12: {
+  'after_13: {
+  'after_3: {
+  v4 = load64(p2);
+  v5 = load64(p2.wrapping_add(16));
+  v6 = v5.wrapping_sub(p1);
+  v7 = v4.wrapping_add(v6);
+  'after_4: {
+  'after_1: {
+  if p1 < 33 {
+    break 'after_1;
   }
-  store16(p1, (((v5 as u32) << 8) | 6) as u16);
-  return v2;
+  v8 = p0.wrapping_add(p1);
+  'after_2: {
+  if p1 > 64 {
+    break 'after_2;
+  }
+  v9 = load64(p0);
+  p1 = load64(p0.wrapping_add(8));
+  v10 = load64(p0.wrapping_add(16));
+  store64(v7.wrapping_add(24), load64(p0.wrapping_add(24)));
+  store64(v7.wrapping_add(16), v10);
+  store64(v7.wrapping_add(8), p1);
+  store64(v7, v9);
+  v8 = v8.wrapping_add(0xffffffffffffffe0);
+  p1 = load64(v8);
+  v10 = load64(v8.wrapping_add(8));
+  v7 = load64(v8.wrapping_add(16));
+  v9 = (v4.wrapping_add(v5)).wrapping_add(0xffffffffffffffe0);
+  store64(v9.wrapping_add(24), load64(v8.wrapping_add(24)));
+  store64(v9.wrapping_add(16), v7);
+  store64(v9.wrapping_add(8), v10);
+  store64(v9, p1);
+  break 'after_3;
+  }
+  if p1 > 128 {
+    break 'after_4;
+  }
+  v9 = load64(p0);
+  p1 = load64(p0.wrapping_add(8));
+  v10 = load64(p0.wrapping_add(16));
+  v11 = load64(p0.wrapping_add(24));
+  v12 = load64(p0.wrapping_add(32));
+  v13 = load64(p0.wrapping_add(40));
+  v14 = load64(p0.wrapping_add(48));
+  store64(v7.wrapping_add(56), load64(p0.wrapping_add(56)));
+  store64(v7.wrapping_add(48), v14);
+  store64(v7.wrapping_add(40), v13);
+  store64(v7.wrapping_add(32), v12);
+  store64(v7.wrapping_add(24), v11);
+  store64(v7.wrapping_add(16), v10);
+  store64(v7.wrapping_add(8), p1);
+  store64(v7, v9);
+  v8 = v8.wrapping_add(0xffffffffffffffc0);
+  p1 = load64(v8);
+  v10 = load64(v8.wrapping_add(8));
+  v7 = load64(v8.wrapping_add(16));
+  v11 = load64(v8.wrapping_add(24));
+  v12 = load64(v8.wrapping_add(32));
+  v13 = load64(v8.wrapping_add(40));
+  v14 = load64(v8.wrapping_add(48));
+  v9 = (v4.wrapping_add(v5)).wrapping_add(0xffffffffffffffc0);
+  store64(v9.wrapping_add(56), load64(v8.wrapping_add(56)));
+  store64(v9.wrapping_add(48), v14);
+  store64(v9.wrapping_add(40), v13);
+  store64(v9.wrapping_add(32), v12);
+  store64(v9.wrapping_add(24), v11);
+  store64(v9.wrapping_add(16), v7);
+  store64(v9.wrapping_add(8), v10);
+  store64(v9, p1);
+  break 'after_3;
+  }
+  v8 = p0.wrapping_add(p1);
+  'after_5: {
+  if p1 < 16 {
+    break 'after_5;
+  }
+  v9 = load64(p0);
+  store64(v7.wrapping_add(8), load64(p0.wrapping_add(8)));
+  store64(v7, v9);
+  v8 = v8.wrapping_add(0xfffffffffffffff0);
+  v9 = load64(v8);
+  p1 = (v4.wrapping_add(v5)).wrapping_add(0xfffffffffffffff0);
+  store64(p1.wrapping_add(8), load64(v8.wrapping_add(8)));
+  store64(p1, v9);
+  break 'after_3;
+  }
+  'after_6: {
+  if p1 < 8 {
+    break 'after_6;
+  }
+  store64(v7, load64(p0));
+  store64((v4.wrapping_add(v5)).wrapping_add(0xfffffffffffffff8),
+      load64(v8.wrapping_add(0xfffffffffffffff8)));
+  break 'after_3;
+  }
+  if p1 < 4 {
+    break 'after_4;
+  }
+  store32(v7, load32(p0));
+  store32((v4.wrapping_add(v5)).wrapping_add(0xfffffffffffffffc),
+      load32(v8.wrapping_add(0xfffffffffffffffc)));
+  break 'after_3;
+  }
+  'after_10: {
+  'after_7: {
+  if (v7.wrapping_sub(p0)) >= p1 {
+    break 'after_7;
+  }
+  v11 = p1 & 3;
+  v9 = 0;
+  'after_8: {
+  if p1 < 4 {
+    break 'after_8;
+  }
+  v12 = p1 & 0xfffffffffffffffc;
+  v9 = 0;
+  'again_9: loop {
+  v8 = v7.wrapping_add(v9);
+  v10 = p0.wrapping_add(v9);
+  store8(v8, (load8(v10) as u32) as u8);
+  store8(v8.wrapping_add(1), (load8(v10.wrapping_add(1)) as u32) as u8);
+  store8(v8.wrapping_add(2), (load8(v10.wrapping_add(2)) as u32) as u8);
+  store8(v8.wrapping_add(3), (load8(v10.wrapping_add(3)) as u32) as u8);
+  v9 = v9.wrapping_add(4);
+  if v12 != v9 {
+    continue 'again_9;
+  }
+  break;
+  }
+  if v11 == 0 {
+    break 'after_10;
+  }
+  }
+  v8 = p0.wrapping_add(v9);
+  v9 = v4.wrapping_add((v9.wrapping_add(v5)).wrapping_sub(p1));
+  'again_11: loop {
+  store8(v9, (load8(v8) as u32) as u8);
+  v9 = v9.wrapping_add(1);
+  v8 = v8.wrapping_add(1);
+  v11 = v11.wrapping_add(0xffffffffffffffff);
+  if v11 != 0 {
+    continue 'again_11;
+  }
+  break 'after_10;
+  }
+  }
+  if p1 == 0 {
+    break 'after_10;
+  }
+  move_(v7, p0, p1);
+  }
+  store64(p2.wrapping_add(16), v6);
+  if p1 == 0 {
+    break 'after_12;
+  }
+  break 'after_13;
+  }
+  store64(p2.wrapping_add(16), v6);
+  }
+  if (((load8(p0) as u32) as i8 as i32 as u32) as i32) > (0xffffffffu32 as i32) {
+    break 'after_14;
+  }
+  }
+  v6 = v6.wrapping_add(0xffffffffffffffff);
+  store8(load64(p2).wrapping_add(v6), 0);
+  }
+  'after_16: {
+  'after_15: {
+  p0 = v5.wrapping_sub(v6);
+  if p0 > 127 {
+    break 'after_15;
+  }
+  v8 = v6.wrapping_add(0xfffffffffffffffe);
+  store16(load64(p2).wrapping_add(v8), (((p0 as u32) << 8) | 2) as u16);
+  break 'after_16;
+  }
+  let t0 = sec1_der_back_writer_prepend_long_header(load64(p2), v6, 2, p0);
+  v8 = t0;
+  }
+  store64(p2.wrapping_add(16), v8);
 }
 
 // pkix::algorithm::AlgorithmIdentifierEncodePart::prepend_part
@@ -32152,6 +32148,8 @@ unsafe fn pkix_algorithm_AlgorithmIdentifierEncodePart_prepend_part(mut p0: u64,
   let mut v12 = 0u64;
   let mut v13 = 0u64;
   let mut v14 = 0u64;
+  let mut v15 = 0u64;
+  let mut v16 = 0u64;
   v3 = load64(p1.wrapping_add(16));
   'after_2: {
   'after_1: {
@@ -32159,67 +32157,137 @@ unsafe fn pkix_algorithm_AlgorithmIdentifierEncodePart_prepend_part(mut p0: u64,
     break 'after_1;
   }
   v4 = load64(p0.wrapping_add(8));
-  v5 = load64(p0);
-  v6 = v3;
+  p0 = load64(p0);
+  v5 = v3;
   break 'after_2;
   }
-  v7 = load64(p1);
-  v8 = load64(p0.wrapping_add(32));
-  v6 = v3.wrapping_sub(v8);
-  v9 = v7.wrapping_add(v6);
-  v10 = load64(p0.wrapping_add(24));
+  v6 = load64(p1);
+  v7 = load64(p0.wrapping_add(32));
+  v5 = v3.wrapping_sub(v7);
+  v8 = v6.wrapping_add(v5);
+  v9 = load64(p0.wrapping_add(24));
   v4 = load64(p0.wrapping_add(8));
-  v5 = load64(p0);
+  p0 = load64(p0);
   'after_5: {
+  'after_6: {
   'after_3: {
-  if v8 > 32 {
+  if v7 < 33 {
     break 'after_3;
   }
-  p0 = v10.wrapping_add(v8);
+  v10 = v9.wrapping_add(v7);
   'after_4: {
-  if v8 < 16 {
+  if v7 > 64 {
     break 'after_4;
   }
-  v11 = load64(v10);
-  store64(v9.wrapping_add(8), load64(v10.wrapping_add(8)));
-  store64(v9, v11);
-  p0 = p0.wrapping_add(0xfffffffffffffff0);
-  v11 = load64(p0);
-  v12 = (v7.wrapping_add(v3)).wrapping_add(0xfffffffffffffff0);
-  store64(v12.wrapping_add(8), load64(p0.wrapping_add(8)));
-  store64(v12, v11);
+  v11 = load64(v9);
+  v12 = load64(v9.wrapping_add(8));
+  v7 = load64(v9.wrapping_add(16));
+  store64(v8.wrapping_add(24), load64(v9.wrapping_add(24)));
+  store64(v8.wrapping_add(16), v7);
+  store64(v8.wrapping_add(8), v12);
+  store64(v8, v11);
+  v9 = v10.wrapping_add(0xffffffffffffffe0);
+  v11 = load64(v9);
+  v12 = load64(v9.wrapping_add(8));
+  v8 = load64(v9.wrapping_add(16));
+  v10 = (v6.wrapping_add(v3)).wrapping_add(0xffffffffffffffe0);
+  store64(v10.wrapping_add(24), load64(v9.wrapping_add(24)));
+  store64(v10.wrapping_add(16), v8);
+  store64(v10.wrapping_add(8), v12);
+  store64(v10, v11);
   break 'after_5;
   }
-  if (v8.wrapping_add(0xfffffffffffffff7)) < 0xfffffffffffffffb {
-    break 'after_3;
-  }
-  store32(v9, load32(v10));
-  store32((v7.wrapping_add(v3)).wrapping_add(0xfffffffffffffffc),
-      load32(p0.wrapping_add(0xfffffffffffffffc)));
-  break 'after_5;
-  }
-  'after_6: {
-  if (v9.wrapping_sub(v10)) >= v8 {
+  if v7 > 128 {
     break 'after_6;
   }
-  v13 = v8 & 3;
-  v11 = 0;
+  v11 = load64(v9);
+  v12 = load64(v9.wrapping_add(8));
+  v7 = load64(v9.wrapping_add(16));
+  v13 = load64(v9.wrapping_add(24));
+  v14 = load64(v9.wrapping_add(32));
+  v15 = load64(v9.wrapping_add(40));
+  v16 = load64(v9.wrapping_add(48));
+  store64(v8.wrapping_add(56), load64(v9.wrapping_add(56)));
+  store64(v8.wrapping_add(48), v16);
+  store64(v8.wrapping_add(40), v15);
+  store64(v8.wrapping_add(32), v14);
+  store64(v8.wrapping_add(24), v13);
+  store64(v8.wrapping_add(16), v7);
+  store64(v8.wrapping_add(8), v12);
+  store64(v8, v11);
+  v9 = v10.wrapping_add(0xffffffffffffffc0);
+  v11 = load64(v9);
+  v12 = load64(v9.wrapping_add(8));
+  v8 = load64(v9.wrapping_add(16));
+  v7 = load64(v9.wrapping_add(24));
+  v13 = load64(v9.wrapping_add(32));
+  v14 = load64(v9.wrapping_add(40));
+  v15 = load64(v9.wrapping_add(48));
+  v10 = (v6.wrapping_add(v3)).wrapping_add(0xffffffffffffffc0);
+  store64(v10.wrapping_add(56), load64(v9.wrapping_add(56)));
+  store64(v10.wrapping_add(48), v15);
+  store64(v10.wrapping_add(40), v14);
+  store64(v10.wrapping_add(32), v13);
+  store64(v10.wrapping_add(24), v7);
+  store64(v10.wrapping_add(16), v8);
+  store64(v10.wrapping_add(8), v12);
+  store64(v10, v11);
+  break 'after_5;
+  }
+  v10 = v9.wrapping_add(v7);
   'after_7: {
-  if v8 < 4 {
+  if v7 < 16 {
     break 'after_7;
   }
-  v14 = v8 & 0xfffffffffffffffc;
-  v11 = 0;
-  'again_8: loop {
-  p0 = v9.wrapping_add(v11);
-  v12 = v10.wrapping_add(v11);
-  store8(p0, (load8(v12) as u32) as u8);
-  store8(p0.wrapping_add(1), (load8(v12.wrapping_add(1)) as u32) as u8);
-  store8(p0.wrapping_add(2), (load8(v12.wrapping_add(2)) as u32) as u8);
-  store8(p0.wrapping_add(3), (load8(v12.wrapping_add(3)) as u32) as u8);
-  v11 = v11.wrapping_add(4);
-  if v14 != v11 {
-    continue 'again_8;
+  v11 = load64(v9);
+  store64(v8.wrapping_add(8), load64(v9.wrapping_add(8)));
+  store64(v8, v11);
+  v9 = v10.wrapping_add(0xfffffffffffffff0);
+  v10 = load64(v9);
+  v11 = (v6.wrapping_add(v3)).wrapping_add(0xfffffffffffffff0);
+  store64(v11.wrapping_add(8), load64(v9.wrapping_add(8)));
+  store64(v11, v10);
+  break 'after_5;
+  }
+  'after_8: {
+  if v7 < 8 {
+    break 'after_8;
+  }
+  store64(v8, load64(v9));
+  store64((v6.wrapping_add(v3)).wrapping_add(0xfffffffffffffff8),
+      load64(v10.wrapping_add(0xfffffffffffffff8)));
+  break 'after_5;
+  }
+  if v7 < 4 {
+    break 'after_6;
+  }
+  store32(v8, load32(v9));
+  store32((v6.wrapping_add(v3)).wrapping_add(0xfffffffffffffffc),
+      load32(v10.wrapping_add(0xfffffffffffffffc)));
+  break 'after_5;
+  }
+  'after_9: {
+  if (v8.wrapping_sub(v9)) >= v7 {
+    break 'after_9;
+  }
+  v13 = v7 & 3;
+  v10 = 0;
+  'after_10: {
+  if v7 < 4 {
+    break 'after_10;
+  }
+  v14 = v7 & 0xfffffffffffffffc;
+  v10 = 0;
+  'again_11: loop {
+  v11 = v8.wrapping_add(v10);
+  v12 = v9.wrapping_add(v10);
+  store8(v11, (load8(v12) as u32) as u8);
+  store8(v11.wrapping_add(1), (load8(v12.wrapping_add(1)) as u32) as u8);
+  store8(v11.wrapping_add(2), (load8(v12.wrapping_add(2)) as u32) as u8);
+  store8(v11.wrapping_add(3), (load8(v12.wrapping_add(3)) as u32) as u8);
+  v10 = v10.wrapping_add(4);
+  if v14 != v10 {
+    continue 'again_11;
   }
   break;
   }
@@ -32227,142 +32295,211 @@ unsafe fn pkix_algorithm_AlgorithmIdentifierEncodePart_prepend_part(mut p0: u64,
     break 'after_5;
   }
   }
-  p0 = v10.wrapping_add(v11);
-  v11 = v7.wrapping_add((v11.wrapping_add(v3)).wrapping_sub(v8));
-  'again_9: loop {
-  store8(v11, (load8(p0) as u32) as u8);
-  v11 = v11.wrapping_add(1);
-  p0 = p0.wrapping_add(1);
+  v9 = v9.wrapping_add(v10);
+  v10 = v6.wrapping_add((v10.wrapping_add(v3)).wrapping_sub(v7));
+  'again_12: loop {
+  store8(v10, (load8(v9) as u32) as u8);
+  v10 = v10.wrapping_add(1);
+  v9 = v9.wrapping_add(1);
   v13 = v13.wrapping_add(0xffffffffffffffff);
   if v13 != 0 {
-    continue 'again_9;
+    continue 'again_12;
   }
   break 'after_5;
   }
   }
-  if v8 == 0 {
+  if v7 == 0 {
     break 'after_5;
   }
-  move_(v9, v10, v8);
+  move_(v8, v9, v7);
   }
-  store64(p1.wrapping_add(16), v6);
+  store64(p1.wrapping_add(16), v5);
   }
-  v14 = load64(p1);
-  v8 = v6.wrapping_sub(v4);
-  v10 = v14.wrapping_add(v8);
-  'after_19: {
-  'after_18: {
-  'after_12: {
-  'after_10: {
-  if v4 > 32 {
-    break 'after_10;
-  }
-  p0 = v5.wrapping_add(v4);
-  'after_11: {
-  if v4 < 16 {
-    break 'after_11;
-  }
-  v11 = load64(v5);
-  store64(v10.wrapping_add(8), load64(v5.wrapping_add(8)));
-  store64(v10, v11);
-  p0 = p0.wrapping_add(0xfffffffffffffff0);
-  v11 = load64(p0);
-  v12 = (v14.wrapping_add(v6)).wrapping_add(0xfffffffffffffff0);
-  store64(v12.wrapping_add(8), load64(p0.wrapping_add(8)));
-  store64(v12, v11);
-  break 'after_12;
-  }
-  if (v4.wrapping_add(0xfffffffffffffff7)) < 0xfffffffffffffffb {
-    break 'after_10;
-  }
-  store32(v10, load32(v5));
-  store32((v14.wrapping_add(v6)).wrapping_add(0xfffffffffffffffc),
-      load32(p0.wrapping_add(0xfffffffffffffffc)));
-  break 'after_12;
-  }
+  v13 = load64(p1);
+  v7 = v5.wrapping_sub(v4);
+  v12 = v13.wrapping_add(v7);
+  'after_25: {
+  'after_24: {
+  'after_15: {
+  'after_17: {
   'after_16: {
   'after_13: {
-  if (v10.wrapping_sub(v5)) >= v4 {
+  if v4 < 33 {
     break 'after_13;
   }
-  v13 = v4 & 3;
-  v11 = 0;
+  v9 = p0.wrapping_add(v4);
   'after_14: {
-  if v4 < 4 {
+  if v4 > 64 {
     break 'after_14;
   }
-  v9 = v4 & 0xfffffffffffffffc;
-  v11 = 0;
-  'again_15: loop {
-  p0 = v10.wrapping_add(v11);
-  v12 = v5.wrapping_add(v11);
-  store8(p0, (load8(v12) as u32) as u8);
-  store8(p0.wrapping_add(1), (load8(v12.wrapping_add(1)) as u32) as u8);
-  store8(p0.wrapping_add(2), (load8(v12.wrapping_add(2)) as u32) as u8);
-  store8(p0.wrapping_add(3), (load8(v12.wrapping_add(3)) as u32) as u8);
-  v11 = v11.wrapping_add(4);
-  if v9 != v11 {
-    continue 'again_15;
+  v10 = load64(p0);
+  v11 = load64(p0.wrapping_add(8));
+  v8 = load64(p0.wrapping_add(16));
+  store64(v12.wrapping_add(24), load64(p0.wrapping_add(24)));
+  store64(v12.wrapping_add(16), v8);
+  store64(v12.wrapping_add(8), v11);
+  store64(v12, v10);
+  p0 = v9.wrapping_add(0xffffffffffffffe0);
+  v10 = load64(p0);
+  v11 = load64(p0.wrapping_add(8));
+  v12 = load64(p0.wrapping_add(16));
+  v9 = (v13.wrapping_add(v5)).wrapping_add(0xffffffffffffffe0);
+  store64(v9.wrapping_add(24), load64(p0.wrapping_add(24)));
+  store64(v9.wrapping_add(16), v12);
+  store64(v9.wrapping_add(8), v11);
+  store64(v9, v10);
+  break 'after_15;
+  }
+  if v4 > 128 {
+    break 'after_16;
+  }
+  v10 = load64(p0);
+  v11 = load64(p0.wrapping_add(8));
+  v8 = load64(p0.wrapping_add(16));
+  v6 = load64(p0.wrapping_add(24));
+  v14 = load64(p0.wrapping_add(32));
+  v15 = load64(p0.wrapping_add(40));
+  v16 = load64(p0.wrapping_add(48));
+  store64(v12.wrapping_add(56), load64(p0.wrapping_add(56)));
+  store64(v12.wrapping_add(48), v16);
+  store64(v12.wrapping_add(40), v15);
+  store64(v12.wrapping_add(32), v14);
+  store64(v12.wrapping_add(24), v6);
+  store64(v12.wrapping_add(16), v8);
+  store64(v12.wrapping_add(8), v11);
+  store64(v12, v10);
+  p0 = v9.wrapping_add(0xffffffffffffffc0);
+  v10 = load64(p0);
+  v11 = load64(p0.wrapping_add(8));
+  v12 = load64(p0.wrapping_add(16));
+  v8 = load64(p0.wrapping_add(24));
+  v6 = load64(p0.wrapping_add(32));
+  v14 = load64(p0.wrapping_add(40));
+  v15 = load64(p0.wrapping_add(48));
+  v9 = (v13.wrapping_add(v5)).wrapping_add(0xffffffffffffffc0);
+  store64(v9.wrapping_add(56), load64(p0.wrapping_add(56)));
+  store64(v9.wrapping_add(48), v15);
+  store64(v9.wrapping_add(40), v14);
+  store64(v9.wrapping_add(32), v6);
+  store64(v9.wrapping_add(24), v8);
+  store64(v9.wrapping_add(16), v12);
+  store64(v9.wrapping_add(8), v11);
+  store64(v9, v10);
+  break 'after_17;
+  }
+  v9 = p0.wrapping_add(v4);
+  'after_18: {
+  if v4 < 16 {
+    break 'after_18;
+  }
+  v10 = load64(p0);
+  store64(v12.wrapping_add(8), load64(p0.wrapping_add(8)));
+  store64(v12, v10);
+  p0 = v9.wrapping_add(0xfffffffffffffff0);
+  v9 = load64(p0);
+  v10 = (v13.wrapping_add(v5)).wrapping_add(0xfffffffffffffff0);
+  store64(v10.wrapping_add(8), load64(p0.wrapping_add(8)));
+  store64(v10, v9);
+  break 'after_15;
+  }
+  'after_19: {
+  if v4 < 8 {
+    break 'after_19;
+  }
+  store64(v12, load64(p0));
+  store64((v13.wrapping_add(v5)).wrapping_add(0xfffffffffffffff8),
+      load64(v9.wrapping_add(0xfffffffffffffff8)));
+  break 'after_15;
+  }
+  if v4 < 4 {
+    break 'after_16;
+  }
+  store32(v12, load32(p0));
+  store32((v13.wrapping_add(v5)).wrapping_add(0xfffffffffffffffc),
+      load32(v9.wrapping_add(0xfffffffffffffffc)));
+  break 'after_15;
+  }
+  'after_20: {
+  if (v12.wrapping_sub(p0)) >= v4 {
+    break 'after_20;
+  }
+  v8 = v4 & 3;
+  v9 = 0;
+  'after_21: {
+  if v4 < 4 {
+    break 'after_21;
+  }
+  v6 = v4 & 0xfffffffffffffffc;
+  v9 = 0;
+  'again_22: loop {
+  v10 = v12.wrapping_add(v9);
+  v11 = p0.wrapping_add(v9);
+  store8(v10, (load8(v11) as u32) as u8);
+  store8(v10.wrapping_add(1), (load8(v11.wrapping_add(1)) as u32) as u8);
+  store8(v10.wrapping_add(2), (load8(v11.wrapping_add(2)) as u32) as u8);
+  store8(v10.wrapping_add(3), (load8(v11.wrapping_add(3)) as u32) as u8);
+  v9 = v9.wrapping_add(4);
+  if v6 != v9 {
+    continue 'again_22;
   }
   break;
   }
-  if v13 == 0 {
-    break 'after_16;
+  if v8 == 0 {
+    break 'after_17;
   }
   }
-  p0 = v5.wrapping_add(v11);
-  v11 = v14.wrapping_add((v6.wrapping_add(v11)).wrapping_sub(v4));
-  'again_17: loop {
-  store8(v11, (load8(p0) as u32) as u8);
-  v11 = v11.wrapping_add(1);
+  p0 = p0.wrapping_add(v9);
+  v9 = v13.wrapping_add((v5.wrapping_add(v9)).wrapping_sub(v4));
+  'again_23: loop {
+  store8(v9, (load8(p0) as u32) as u8);
+  v9 = v9.wrapping_add(1);
   p0 = p0.wrapping_add(1);
-  v13 = v13.wrapping_add(0xffffffffffffffff);
-  if v13 != 0 {
-    continue 'again_17;
+  v8 = v8.wrapping_add(0xffffffffffffffff);
+  if v8 != 0 {
+    continue 'again_23;
   }
-  break 'after_16;
+  break 'after_17;
   }
   }
   if v4 == 0 {
-    break 'after_16;
+    break 'after_17;
   }
-  move_(v10, v5, v4);
+  move_(v12, p0, v4);
   }
-  p0 = p1.wrapping_add(16);
-  store64(p0, v8);
   if v4 > 127 {
-    break 'after_18;
+    break 'after_24;
   }
   }
-  p0 = v8.wrapping_add(0xfffffffffffffffe);
+  p0 = v7.wrapping_add(0xfffffffffffffffe);
   store16(load64(p1).wrapping_add(p0), (((v4 as u32) << 8) | 6) as u16);
-  store64(p1.wrapping_add(16), p0);
-  break 'after_19;
+  break 'after_25;
   }
-  sec1_der_back_writer_BackWriter_prepend_long_header(p1, 6, v4);
-  p0 = load64(p0);
+  let t0 = sec1_der_back_writer_prepend_long_header(load64(p1), v7, 6, v4);
+  p0 = t0;
   }
-  'after_20: {
-  v11 = v3.wrapping_sub(p0);
-  if v11 > 127 {
-    break 'after_20;
+  'after_27: {
+  'after_26: {
+  v4 = v3.wrapping_sub(p0);
+  if v4 > 127 {
+    break 'after_26;
   }
   p0 = p0.wrapping_add(0xfffffffffffffffe);
-  store16(load64(p1).wrapping_add(p0), (((v11 as u32) << 8) | 48) as u16);
-  store64(p1.wrapping_add(16), p0);
-  return;
+  store16(load64(p1).wrapping_add(p0), (((v4 as u32) << 8) | 48) as u16);
+  break 'after_27;
   }
-  sec1_der_back_writer_BackWriter_prepend_long_header(p1, 48, v11);
+  let t1 = sec1_der_back_writer_prepend_long_header(load64(p1), p0, 48, v4);
+  p0 = t1;
+  }
+  store64(p1.wrapping_add(16), p0);
   return;
 }
 
-// sec1_der::codec::element_len::<#7c94a0521e1ad5a5>
-unsafe fn sec1_der_codec_element_len(p0: u64, mut p1: u64) {
-  let mut array = Frame::<288>::new();
-  let frame = address(&raw mut array);
-  let mut v3 = 0u32;
-  let mut v4 = 0u64;
-  let mut v5 = 0u64;
+// sec1_der::codec::element_len::<#1aa56edede66dd4d>
+unsafe fn sec1_der_codec_element_len_3(p0: u64, mut p1: u64) {
+  let mut v2 = 0u64;
+  let mut v3 = 0u64;
+  let mut v4 = 0u32;
+  let mut v5 = 0u32;
   let mut v6 = 0u64;
   let mut v7 = 0u64;
   let mut v8 = 0u64;
@@ -32370,125 +32507,500 @@ unsafe fn sec1_der_codec_element_len(p0: u64, mut p1: u64) {
   let mut v10 = 0u32;
   let mut v11 = 0u64;
   let mut v12 = 0u64;
-  let mut v13 = 0u64;
+  let mut v13 = 0u32;
   let mut v14 = 0u32;
-  let mut v15 = 0u32;
-  'after_26: {
-  'after_2: {
-  store64(frame.wrapping_add(176), 0);
-  store64(frame.wrapping_add(184), 0);
-  store64(frame.wrapping_add(192), 0);
-  store64(frame.wrapping_add(200), 0);
-  store64(frame.wrapping_add(208), 0);
+  v2 = 0;
+  v3 = 0;
   'after_1: {
-  v3 = load8(p1.wrapping_add(16)) as u32;
-  if v3 != 1 {
+  v4 = load8(p1.wrapping_add(16)) as u32;
+  if v4 != 1 {
     break 'after_1;
   }
-  v4 = load64(p1.wrapping_add(32));
-  store64(frame.wrapping_add(224), v4);
-  v5 = load64(p1.wrapping_add(24));
-  store64(frame.wrapping_add(216), v5);
-  v6 = load64(p1.wrapping_add(40));
-  store64(frame.wrapping_add(232), v6);
-  v7 = load64(p1.wrapping_add(48));
-  store64(frame.wrapping_add(240), v7);
-  v8 = load64(p1.wrapping_add(56));
-  store64(frame.wrapping_add(248), v8);
-  store64(frame.wrapping_add(176), v5);
-  store64(frame.wrapping_add(184), v4);
-  store64(frame.wrapping_add(192), v6);
-  store64(frame.wrapping_add(200), v7);
-  store64(frame.wrapping_add(208), v8);
+  v3 = load64(p1.wrapping_add(32));
   }
-  store64(frame.wrapping_add(32), load64(frame.wrapping_add(176)));
-  store64(frame.wrapping_add(40), load64(frame.wrapping_add(184)));
-  store64(frame.wrapping_add(48), load64(frame.wrapping_add(192)));
-  store64(frame.wrapping_add(56), load64(frame.wrapping_add(200)));
-  store64(frame.wrapping_add(64), load64(frame.wrapping_add(208)));
-  v5 = load64(p1);
-  v4 = load64(p1.wrapping_add(8));
-  v9 = load8(p1.wrapping_add(80)) as u32;
-  v10 = load8(p1.wrapping_add(144)) as u32;
-  store64(frame.wrapping_add(104), load64(p1.wrapping_add(96)));
-  store64(frame.wrapping_add(112), load64(p1.wrapping_add(104)));
-  store64(frame.wrapping_add(120), load64(p1.wrapping_add(112)));
-  store64(frame.wrapping_add(128), load64(p1.wrapping_add(120)));
-  store64(frame.wrapping_add(136), load64(p1.wrapping_add(128)));
-  store64(frame.wrapping_add(144), load64(p1.wrapping_add(136)));
-  if v4 == 0 {
+  'after_2: {
+  v5 = load8(p1.wrapping_add(80)) as u32;
+  if v5 != 1 {
     break 'after_2;
   }
-  v11 = p1.wrapping_add(152);
-  v7 = p1.wrapping_add(64);
-  v8 = (v10 as u64) & 255;
-  v12 = (v9 as u64) & 255;
-  v13 = (frame.wrapping_add(8)).wrapping_add(96);
-  v6 = load64(frame.wrapping_add(40));
-  p1 = 0;
-  v14 = 1;
-  'again_4: loop {
-  v15 = (load8(v5.wrapping_add(p1)) as u32) as i8 as i32 as u32;
+  v2 = load64(p1.wrapping_add(96));
+  }
+  v6 = load64(p1.wrapping_add(8));
+  v7 = 0;
+  v8 = 0;
   'after_3: {
-  if (v14 & 1) == 0 {
+  v9 = load8(p1.wrapping_add(104)) as u32;
+  if v9 != 1 {
     break 'after_3;
   }
-  if v15 == 0xffffff80 {
+  v8 = load64(p1.wrapping_add(120));
+  }
+  v10 = 0;
+  'after_4: {
+  if v6 == 0 {
+    break 'after_4;
+  }
+  v11 = load64(p1);
+  v3 = if v4 != 1 { 0u64 } else { v3 };
+  v12 = load64(p1.wrapping_add(72));
+  v7 = 0;
+  v13 = 1;
+  p1 = 0;
+  'again_6: loop {
+  v14 = (load8(v11.wrapping_add(p1)) as u32) as i8 as i32 as u32;
+  'after_5: {
+  if (v13 & 1) == 0 {
+    break 'after_5;
+  }
+  if v14 == 0xffffff80 {
+    break 'after_4;
+  }
+  }
+  v13 = u32::from((v14 as i32) > (0xffffffffu32 as i32));
+  p1 = p1.wrapping_add(1);
+  if v6 != p1 {
+    continue 'again_6;
+  }
+  break;
+  }
+  if v6 > 0xfffffff {
+    break 'after_4;
+  }
+  if (v14 as i32) < (0u32 as i32) {
+    break 'after_4;
+  }
+  'after_8: {
+  'after_7: {
+  if v6 >= 128 {
+    break 'after_7;
+  }
+  p1 = 2;
+  break 'after_8;
+  }
+  'after_9: {
+  if v6 >= 256 {
+    break 'after_9;
+  }
+  p1 = 3;
+  break 'after_8;
+  }
+  'after_10: {
+  if v6 >= 0x10000 {
+    break 'after_10;
+  }
+  p1 = 4;
+  break 'after_8;
+  }
+  p1 = if v6 < 0x1000000 { 5u64 } else { 6u64 };
+  }
+  v10 = 0;
+  p1 = p1.wrapping_add(v6);
+  if p1 > 0xfffffff {
+    break 'after_4;
+  }
+  'after_11: {
+  v14 = u32::from(v4 != 1);
+  if v14 != 0 {
+    break 'after_11;
+  }
+  if v3 > 0xfffffff {
+    break 'after_4;
+  }
+  }
+  v7 = 0;
+  let t0 = p1.wrapping_add(if v14 != 0 { 0u64 } else { if v3 < 0x10000000 { v3 & 0xffffffff }
+      else { 0u64 } });
+  p1 = t0;
+  if p1 > 0xfffffff {
+    break 'after_4;
+  }
+  'after_13: {
+  'after_12: {
+  if p1 >= 128 {
+    break 'after_12;
+  }
+  v6 = 2;
+  break 'after_13;
+  }
+  'after_14: {
+  if p1 >= 256 {
+    break 'after_14;
+  }
+  v6 = 3;
+  break 'after_13;
+  }
+  'after_15: {
+  if p1 >= 0x10000 {
+    break 'after_15;
+  }
+  v6 = 4;
+  break 'after_13;
+  }
+  v6 = if p1 < 0x1000000 { 5u64 } else { 6u64 };
+  }
+  p1 = v6.wrapping_add(p1);
+  if p1 > 0xfffffff {
+    break 'after_4;
+  }
+  if v12 > 0xfffffff {
+    break 'after_4;
+  }
+  'after_17: {
+  'after_16: {
+  if v12 >= 128 {
+    break 'after_16;
+  }
+  v6 = 2;
+  break 'after_17;
+  }
+  'after_18: {
+  if v12 >= 256 {
+    break 'after_18;
+  }
+  v6 = 3;
+  break 'after_17;
+  }
+  'after_19: {
+  if v12 >= 0x10000 {
+    break 'after_19;
+  }
+  v6 = 4;
+  break 'after_17;
+  }
+  v6 = if v12 < 0x1000000 { 5u64 } else { 6u64 };
+  }
+  v6 = v6.wrapping_add(v12);
+  if v6 > 0xfffffff {
+    break 'after_4;
+  }
+  v3 = 0;
+  v11 = 0;
+  'after_20: {
+  if v5 != 1 {
+    break 'after_20;
+  }
+  v7 = 0;
+  if v2 > 0xfffffff {
+    break 'after_4;
+  }
+  'after_22: {
+  'after_21: {
+  if v2 >= 128 {
+    break 'after_21;
+  }
+  v11 = 2;
+  break 'after_22;
+  }
+  'after_23: {
+  if v2 >= 256 {
+    break 'after_23;
+  }
+  v11 = 3;
+  break 'after_22;
+  }
+  'after_24: {
+  if v2 >= 0x10000 {
+    break 'after_24;
+  }
+  v11 = 4;
+  break 'after_22;
+  }
+  v11 = if v2 < 0x1000000 { 5u64 } else { 6u64 };
+  }
+  v11 = v11.wrapping_add(v2);
+  if v11 > 0xfffffff {
+    break 'after_4;
+  }
+  'after_26: {
+  'after_25: {
+  if v11 >= 128 {
+    break 'after_25;
+  }
+  v2 = 2;
+  break 'after_26;
+  }
+  'after_27: {
+  if v11 >= 256 {
+    break 'after_27;
+  }
+  v2 = 3;
+  break 'after_26;
+  }
+  'after_28: {
+  if v11 >= 0x10000 {
+    break 'after_28;
+  }
+  v2 = 4;
+  break 'after_26;
+  }
+  v2 = if v11 < 0x1000000 { 5u64 } else { 6u64 };
+  }
+  v11 = v2.wrapping_add(v11);
+  if v11 > 0xfffffff {
+    break 'after_4;
+  }
+  }
+  'after_29: {
+  if v9 != 1 {
+    break 'after_29;
+  }
+  v7 = 0;
+  if v8 > 0xffffffe {
+    break 'after_4;
+  }
+  v3 = v8.wrapping_add(1);
+  'after_31: {
+  'after_30: {
+  if v8 >= 127 {
+    break 'after_30;
+  }
+  v2 = 2;
+  break 'after_31;
+  }
+  'after_32: {
+  if v8 >= 255 {
+    break 'after_32;
+  }
+  v2 = 3;
+  break 'after_31;
+  }
+  'after_33: {
+  if v8 >= 65535 {
+    break 'after_33;
+  }
+  v2 = 4;
+  break 'after_31;
+  }
+  v2 = if v8 < 0xffffff { 5u64 } else { 6u64 };
+  }
+  v3 = v3.wrapping_add(v2);
+  if v3 > 0xfffffff {
+    break 'after_4;
+  }
+  'after_35: {
+  'after_34: {
+  if v3 >= 128 {
+    break 'after_34;
+  }
+  v2 = 2;
+  break 'after_35;
+  }
+  'after_36: {
+  if v3 >= 256 {
+    break 'after_36;
+  }
+  v2 = 3;
+  break 'after_35;
+  }
+  'after_37: {
+  if v3 >= 0x10000 {
+    break 'after_37;
+  }
+  v2 = 4;
+  break 'after_35;
+  }
+  v2 = if v3 < 0x1000000 { 5u64 } else { 6u64 };
+  }
+  v3 = v2.wrapping_add(v3);
+  if v3 > 0xfffffff {
+    break 'after_4;
+  }
+  }
+  v7 = 0;
+  v11 = v3.wrapping_add(v11);
+  if v11 > 0xfffffff {
+    break 'after_4;
+  }
+  v6 = v11.wrapping_add(v6);
+  if v6 > 0xffffffc {
+    break 'after_4;
+  }
+  v11 = 3;
+  v3 = v6.wrapping_add(3);
+  'after_39: {
+  'after_38: {
+  if v6 >= 125 {
+    break 'after_38;
+  }
+  v11 = 2;
+  break 'after_39;
+  }
+  if v6 < 253 {
+    break 'after_39;
+  }
+  'after_40: {
+  if v6 >= 65533 {
+    break 'after_40;
+  }
+  v11 = 4;
+  break 'after_39;
+  }
+  v11 = if v6 < 0xfffffd { 5u64 } else { 6u64 };
+  }
+  v6 = v3.wrapping_add(v11);
+  if v6 > 0xfffffff {
+    break 'after_4;
+  }
+  'after_42: {
+  'after_41: {
+  if v6 >= 128 {
+    break 'after_41;
+  }
+  v11 = 2;
+  break 'after_42;
+  }
+  'after_43: {
+  if v6 >= 256 {
+    break 'after_43;
+  }
+  v11 = 3;
+  break 'after_42;
+  }
+  'after_44: {
+  if v6 >= 0x10000 {
+    break 'after_44;
+  }
+  v11 = 4;
+  break 'after_42;
+  }
+  v11 = if v6 < 0x1000000 { 5u64 } else { 6u64 };
+  }
+  v6 = v11.wrapping_add(v6);
+  if v6 > 0xfffffff {
+    break 'after_4;
+  }
+  p1 = v6.wrapping_add(p1);
+  if p1 > 0xffffffc {
+    break 'after_4;
+  }
+  v6 = 3;
+  v11 = p1.wrapping_add(3);
+  'after_46: {
+  'after_45: {
+  if p1 >= 125 {
+    break 'after_45;
+  }
+  v6 = 2;
+  break 'after_46;
+  }
+  if p1 < 253 {
+    break 'after_46;
+  }
+  'after_47: {
+  if p1 >= 65533 {
+    break 'after_47;
+  }
+  v6 = 4;
+  break 'after_46;
+  }
+  v6 = if p1 < 0xfffffd { 5u64 } else { 6u64 };
+  }
+  v7 = v11.wrapping_add(v6);
+  v10 = 1;
+  }
+  store64(p0.wrapping_add(8), v7);
+  store8(p0, v10 as u8);
+  return;
+}
+
+// sec1_der::codec::element_len::<#1deaba2dde898d37>
+unsafe fn sec1_der_codec_element_len_2(p0: u64, mut p1: u64) {
+  let mut v2 = 0u64;
+  let mut v3 = 0u64;
+  let mut v4 = 0u32;
+  let mut v5 = 0u32;
+  let mut v6 = 0u32;
+  let mut v7 = 0u64;
+  let mut v8 = 0u64;
+  let mut v9 = 0u64;
+  let mut v10 = 0u32;
+  v2 = 0;
+  v3 = 0;
+  'after_1: {
+  v4 = load8(p1.wrapping_add(16)) as u32;
+  v5 = u32::from(v4 != 1);
+  if v5 != 0 {
+    break 'after_1;
+  }
+  v3 = load64(p1.wrapping_add(32));
+  }
+  v6 = 0;
+  'after_2: {
+  v7 = load64(p1.wrapping_add(8));
+  if v7 == 0 {
+    break 'after_2;
+  }
+  v8 = if v5 != 0 { 0u64 } else { v3 };
+  v9 = load64(p1.wrapping_add(80));
+  v3 = load64(p1);
+  v2 = 0;
+  v10 = 1;
+  p1 = 0;
+  'again_4: loop {
+  v5 = (load8(v3.wrapping_add(p1)) as u32) as i8 as i32 as u32;
+  'after_3: {
+  if (v10 & 1) == 0 {
+    break 'after_3;
+  }
+  if v5 == 0xffffff80 {
     break 'after_2;
   }
   }
-  v14 = u32::from((v15 as i32) > (0xffffffffu32 as i32));
+  v10 = u32::from((v5 as i32) > (0xffffffffu32 as i32));
   p1 = p1.wrapping_add(1);
-  if v4 != p1 {
+  if v7 != p1 {
     continue 'again_4;
   }
   break;
   }
-  if v4 > 0xfffffff {
+  if v7 > 0xfffffff {
     break 'after_2;
   }
-  if (v15 as i32) < (0u32 as i32) {
+  if (v5 as i32) < (0u32 as i32) {
     break 'after_2;
   }
   'after_6: {
   'after_5: {
-  if v4 >= 128 {
+  if v7 >= 128 {
     break 'after_5;
   }
   p1 = 2;
   break 'after_6;
   }
   'after_7: {
-  if v4 >= 256 {
+  if v7 >= 256 {
     break 'after_7;
   }
   p1 = 3;
   break 'after_6;
   }
   'after_8: {
-  if v4 >= 0x10000 {
+  if v7 >= 0x10000 {
     break 'after_8;
   }
   p1 = 4;
   break 'after_6;
   }
-  p1 = if v4 < 0x1000000 { 5u64 } else { 6u64 };
+  p1 = if v7 < 0x1000000 { 5u64 } else { 6u64 };
   }
-  p1 = p1.wrapping_add(v4);
+  v6 = 0;
+  p1 = p1.wrapping_add(v7);
   if p1 > 0xfffffff {
     break 'after_2;
   }
-  v4 = 0;
   'after_9: {
-  if v3 != 1 {
+  v5 = u32::from(v4 != 1);
+  if v5 != 0 {
     break 'after_9;
   }
-  v4 = v6;
-  if v6 > 0xfffffff {
+  if v8 > 0xfffffff {
     break 'after_2;
   }
   }
-  p1 = v4.wrapping_add(p1);
+  v2 = 0;
+  let t0 = p1.wrapping_add(if v5 != 0 { 0u64 } else { if v8 < 0x10000000 { v8 & 0xffffffff }
+      else { 0u64 } });
+  p1 = t0;
   if p1 > 0xfffffff {
     break 'after_2;
   }
@@ -32497,156 +33009,101 @@ unsafe fn sec1_der_codec_element_len(p0: u64, mut p1: u64) {
   if p1 >= 128 {
     break 'after_10;
   }
-  v4 = 2;
+  v7 = 2;
   break 'after_11;
   }
   'after_12: {
   if p1 >= 256 {
     break 'after_12;
   }
-  v4 = 3;
+  v7 = 3;
   break 'after_11;
   }
   'after_13: {
   if p1 >= 0x10000 {
     break 'after_13;
   }
-  v4 = 4;
+  v7 = 4;
   break 'after_11;
   }
-  v4 = if p1 < 0x1000000 { 5u64 } else { 6u64 };
+  v7 = if p1 < 0x1000000 { 5u64 } else { 6u64 };
   }
-  p1 = v4.wrapping_add(p1);
+  v7 = v7.wrapping_add(p1);
+  if v7 > 0xfffffff {
+    break 'after_2;
+  }
+  p1 = v9.wrapping_add(1);
   if p1 > 0xfffffff {
     break 'after_2;
   }
-  store64(frame.wrapping_add(176), 0);
-  store64(frame.wrapping_add(184), 0);
-  v4 = load64(frame.wrapping_add(144));
-  store64(frame.wrapping_add(280), 0);
-  v15 = u32::from((v9 & 255) == 1);
-  v5 = if v15 != 0 { v13 } else { 0u64 };
-  v4 = if v15 != 0 { v4 } else { 0u64 };
+  'after_15: {
   'after_14: {
-  if (v10 & 255) != 1 {
+  if p1 >= 128 {
     break 'after_14;
   }
-  store64(frame.wrapping_add(184), load64(v11.wrapping_add(8)));
-  store64(frame.wrapping_add(176), load64(v11));
-  }
-  store64(frame.wrapping_add(256), v8);
-  store64(frame.wrapping_add(248), v4);
-  store64(frame.wrapping_add(240), v5);
-  store64(frame.wrapping_add(232), v12);
-  store64(frame.wrapping_add(264), load64(frame.wrapping_add(176)));
-  store64(frame.wrapping_add(272), load64(frame.wrapping_add(184)));
-  store64(frame.wrapping_add(224), load64(v7.wrapping_add(8)));
-  store64(frame.wrapping_add(216), load64(v7));
-  sec1_der_part_Tuple2EncodePart_part_len(frame.wrapping_add(280), frame.wrapping_add(216));
-  if (load8(frame.wrapping_add(280)) as u32) != 0 {
-    break 'after_2;
+  v3 = 2;
+  break 'after_15;
   }
   'after_16: {
-  'after_15: {
-  v15 = load32(frame.wrapping_add(284));
-  if v15 >= 128 {
-    break 'after_15;
+  if p1 >= 256 {
+    break 'after_16;
   }
-  v4 = 2;
-  break 'after_16;
+  v3 = 3;
+  break 'after_15;
   }
   'after_17: {
-  if v15 >= 256 {
+  if p1 >= 0x10000 {
     break 'after_17;
   }
-  v4 = 3;
-  break 'after_16;
+  v3 = 4;
+  break 'after_15;
   }
+  v3 = if p1 < 0x1000000 { 5u64 } else { 6u64 };
+  }
+  p1 = v3.wrapping_add(p1);
+  if p1 > 0xfffffff {
+    break 'after_2;
+  }
+  p1 = p1.wrapping_add(v7);
+  if p1 > 0xfffffff {
+    break 'after_2;
+  }
+  'after_19: {
   'after_18: {
-  if v15 >= 0x10000 {
+  if p1 >= 128 {
     break 'after_18;
   }
-  v4 = 4;
-  break 'after_16;
-  }
-  v4 = if v15 < 0x1000000 { 5u64 } else { 6u64 };
-  }
-  v4 = v4.wrapping_add(v15 as u64);
-  if v4 > 0xfffffff {
-    break 'after_2;
+  v7 = 2;
+  break 'after_19;
   }
   'after_20: {
-  'after_19: {
-  if v4 >= 128 {
-    break 'after_19;
+  if p1 >= 256 {
+    break 'after_20;
   }
-  v5 = 2;
-  break 'after_20;
+  v7 = 3;
+  break 'after_19;
   }
   'after_21: {
-  if v4 >= 256 {
+  if p1 >= 0x10000 {
     break 'after_21;
   }
-  v5 = 3;
-  break 'after_20;
+  v7 = 4;
+  break 'after_19;
   }
-  'after_22: {
-  if v4 >= 0x10000 {
-    break 'after_22;
+  v7 = if p1 < 0x1000000 { 5u64 } else { 6u64 };
   }
-  v5 = 4;
-  break 'after_20;
+  v2 = v7.wrapping_add(p1);
+  v6 = 1;
   }
-  v5 = if v4 < 0x1000000 { 5u64 } else { 6u64 };
-  }
-  v4 = v5.wrapping_add(v4);
-  if v4 > 0xfffffff {
-    break 'after_2;
-  }
-  p1 = v4.wrapping_add(p1);
-  if p1 >= 0x10000000 {
-    break 'after_2;
-  }
-  if p1 > 0xffffffc {
-    break 'after_2;
-  }
-  v4 = 3;
-  v5 = p1.wrapping_add(3);
-  'after_24: {
-  'after_23: {
-  if p1 >= 125 {
-    break 'after_23;
-  }
-  v4 = 2;
-  break 'after_24;
-  }
-  if p1 < 253 {
-    break 'after_24;
-  }
-  'after_25: {
-  if p1 >= 65533 {
-    break 'after_25;
-  }
-  v4 = 4;
-  break 'after_24;
-  }
-  v4 = if p1 < 0xfffffd { 5u64 } else { 6u64 };
-  }
-  p1 = v5.wrapping_add(v4);
-  v15 = 1;
-  break 'after_26;
-  }
-  v15 = 0;
-  p1 = 0;
-  }
-  store64(p0.wrapping_add(8), p1);
-  store8(p0, v15 as u8);
+  store64(p0.wrapping_add(8), v2);
+  store8(p0, v6 as u8);
+  return;
 }
 
 // rattle::export sec1_certificate_read_public_key
 unsafe fn export_sec1_certificate_read_public_key(mut bytes: u64, bytes_len: u64,
     part: u64) -> u32 {
-  let mut array = Frame::<1152>::new();
+  let mut array = Frame::<1024>::new();
   let frame = address(&raw mut array);
   let mut v4 = 0u32;
   let mut v5 = 0u64;
@@ -32668,64 +33125,51 @@ unsafe fn export_sec1_certificate_read_public_key(mut bytes: u64, bytes_len: u64
   let mut v21 = 0u64;
   let mut v22 = 0u64;
   let mut v23 = 0u64;
-  let mut v24 = 0u64;
-  let mut v25 = 0u64;
-  let mut v26 = 0u64;
-  'after_109: {
-  store64(frame.wrapping_add(151), 0);
-  store64(frame.wrapping_add(144), 0);
-  store64(frame.wrapping_add(136), 0);
+  let mut v24 = 0u32;
+  'after_112: {
+  store64(frame.wrapping_add(96), 0);
+  store64(frame.wrapping_add(88), constant(0));
+  store64(frame.wrapping_add(80), 0);
+  store64(frame.wrapping_add(72), constant(0));
+  store64(frame.wrapping_add(64), 0);
+  store64(frame.wrapping_add(104), 0);
   store64(frame.wrapping_add(112), 0);
   store64(frame.wrapping_add(120), 0);
   store64(frame.wrapping_add(128), 0);
-  store64(frame.wrapping_add(72), 0);
-  store64(frame.wrapping_add(80), 0);
-  store64(frame.wrapping_add(88), 0);
-  store64(frame.wrapping_add(96), 0);
-  store64(frame.wrapping_add(104), 0);
-  store64(frame.wrapping_add(192), 0);
-  store64(frame.wrapping_add(184), constant(0));
-  store64(frame.wrapping_add(176), 0);
-  store64(frame.wrapping_add(168), constant(0));
+  store64(frame.wrapping_add(136), 0);
+  store64(frame.wrapping_add(144), 0);
   store64(frame.wrapping_add(160), 0);
-  store64(frame.wrapping_add(200), 0);
-  store64(frame.wrapping_add(208), 0);
-  store64(frame.wrapping_add(216), 0);
+  store64(frame.wrapping_add(152), constant(0));
+  store64(frame.wrapping_add(168), 0);
+  store64(frame.wrapping_add(184), 0);
+  store64(frame.wrapping_add(176), constant(0));
+  store64(frame.wrapping_add(192), 0);
+  store64(frame.wrapping_add(232), constant(0));
   store64(frame.wrapping_add(224), 0);
-  store64(frame.wrapping_add(232), 0);
-  store64(frame.wrapping_add(240), 0);
-  store64(frame.wrapping_add(256), 0);
-  store64(frame.wrapping_add(248), constant(0));
-  store64(frame.wrapping_add(264), 0);
-  store64(frame.wrapping_add(280), 0);
-  store64(frame.wrapping_add(272), constant(0));
+  store64(frame.wrapping_add(216), constant(0));
+  store64(frame.wrapping_add(208), 0);
+  store64(frame.wrapping_add(200), constant(0));
+  store64(frame.wrapping_add(296), 0);
   store64(frame.wrapping_add(288), 0);
-  store64(frame.wrapping_add(328), constant(0));
-  store64(frame.wrapping_add(320), 0);
-  store64(frame.wrapping_add(312), constant(0));
-  store64(frame.wrapping_add(304), 0);
-  store64(frame.wrapping_add(296), constant(0));
-  store64(frame.wrapping_add(392), 0);
-  store64(frame.wrapping_add(384), 0);
-  store64(frame.wrapping_add(376), 0);
-  store64(frame.wrapping_add(368), 0);
-  store64(frame.wrapping_add(360), 0);
-  store64(frame.wrapping_add(352), 0);
-  store64(frame.wrapping_add(344), 0);
-  store64(frame.wrapping_add(336), 0);
-  store64(frame.wrapping_add(400), constant(0));
-  fill(frame.wrapping_add(408), 0, 96);
-  store64(frame.wrapping_add(512), 0);
-  store64(frame.wrapping_add(504), constant(0));
-  store64(frame.wrapping_add(520), 0);
-  store64(frame.wrapping_add(528), 0);
-  store64(frame.wrapping_add(536), 0);
-  store64(frame.wrapping_add(544), 0);
-  store64(frame.wrapping_add(552), 0);
-  store64(frame.wrapping_add(560), 0);
-  store64(frame.wrapping_add(568), 0);
-  store64(frame.wrapping_add(584), 0);
-  store64(frame.wrapping_add(576), constant(0));
+  store64(frame.wrapping_add(280), 0);
+  store64(frame.wrapping_add(272), 0);
+  store64(frame.wrapping_add(264), 0);
+  store64(frame.wrapping_add(256), 0);
+  store64(frame.wrapping_add(248), 0);
+  store64(frame.wrapping_add(240), 0);
+  store64(frame.wrapping_add(304), constant(0));
+  fill(frame.wrapping_add(312), 0, 96);
+  store64(frame.wrapping_add(416), 0);
+  store64(frame.wrapping_add(408), constant(0));
+  store64(frame.wrapping_add(424), 0);
+  store64(frame.wrapping_add(432), 0);
+  store64(frame.wrapping_add(440), 0);
+  store64(frame.wrapping_add(448), 0);
+  store64(frame.wrapping_add(456), 0);
+  store64(frame.wrapping_add(464), 0);
+  store64(frame.wrapping_add(472), 0);
+  store64(frame.wrapping_add(488), 0);
+  store64(frame.wrapping_add(480), constant(0));
   'after_3: {
   'after_1: {
   if bytes_len == 0 {
@@ -32792,10 +33236,10 @@ unsafe fn export_sec1_certificate_read_public_key(mut bytes: u64, bytes_len: u64
   if v6 < bytes {
     break 'after_1;
   }
-  store64(frame.wrapping_add(608), 0);
-  store64(frame.wrapping_add(630), 0);
-  store64(frame.wrapping_add(624), 0);
-  store64(frame.wrapping_add(616), 0);
+  store64(frame.wrapping_add(512), 0);
+  store64(frame.wrapping_add(534), 0);
+  store64(frame.wrapping_add(528), 0);
+  store64(frame.wrapping_add(520), 0);
   v8 = 0;
   'after_103: {
   'after_7: {
@@ -32867,43 +33311,43 @@ unsafe fn export_sec1_certificate_read_public_key(mut bytes: u64, bytes_len: u64
   if v9 < v5 {
     break 'after_7;
   }
-  store64(frame.wrapping_add(1088), 0);
-  store64(frame.wrapping_add(672), 0);
-  store64(frame.wrapping_add(664), constant(0));
-  store64(frame.wrapping_add(656), 0);
-  store64(frame.wrapping_add(648), constant(0));
+  store64(frame.wrapping_add(904), 0);
+  store64(frame.wrapping_add(576), 0);
+  store64(frame.wrapping_add(568), constant(0));
+  store64(frame.wrapping_add(560), 0);
+  store64(frame.wrapping_add(552), constant(0));
+  store64(frame.wrapping_add(544), 0);
+  store64(frame.wrapping_add(584), 0);
+  store64(frame.wrapping_add(592), 0);
+  store64(frame.wrapping_add(600), 0);
+  store64(frame.wrapping_add(608), 0);
+  store64(frame.wrapping_add(616), 0);
+  store64(frame.wrapping_add(624), 0);
   store64(frame.wrapping_add(640), 0);
-  store64(frame.wrapping_add(680), 0);
+  store64(frame.wrapping_add(632), constant(0));
+  store64(frame.wrapping_add(648), 0);
+  store64(frame.wrapping_add(896), v5);
+  store64(frame.wrapping_add(504), v9.wrapping_sub(v5));
+  store64(frame.wrapping_add(888), v7);
+  store64(frame.wrapping_add(496), v7.wrapping_add(v5));
+  store64(frame.wrapping_add(664), 0);
+  store64(frame.wrapping_add(656), constant(0));
+  store64(frame.wrapping_add(672), 0);
+  store64(frame.wrapping_add(680), constant(0));
   store64(frame.wrapping_add(688), 0);
-  store64(frame.wrapping_add(696), 0);
+  store64(frame.wrapping_add(696), constant(0));
   store64(frame.wrapping_add(704), 0);
-  store64(frame.wrapping_add(712), 0);
+  store64(frame.wrapping_add(712), constant(0));
   store64(frame.wrapping_add(720), 0);
+  store64(frame.wrapping_add(728), 0);
   store64(frame.wrapping_add(736), 0);
-  store64(frame.wrapping_add(728), constant(0));
   store64(frame.wrapping_add(744), 0);
-  store64(frame.wrapping_add(1080), v5);
-  store64(frame.wrapping_add(600), v9.wrapping_sub(v5));
-  store64(frame.wrapping_add(1072), v7);
-  store64(frame.wrapping_add(592), v7.wrapping_add(v5));
+  store64(frame.wrapping_add(752), 0);
   store64(frame.wrapping_add(760), 0);
-  store64(frame.wrapping_add(752), constant(0));
   store64(frame.wrapping_add(768), 0);
-  store64(frame.wrapping_add(776), constant(0));
-  store64(frame.wrapping_add(784), 0);
-  store64(frame.wrapping_add(792), constant(0));
-  store64(frame.wrapping_add(800), 0);
-  store64(frame.wrapping_add(808), constant(0));
-  store64(frame.wrapping_add(816), 0);
-  store64(frame.wrapping_add(824), 0);
-  store64(frame.wrapping_add(832), 0);
-  store64(frame.wrapping_add(840), 0);
-  store64(frame.wrapping_add(848), 0);
-  store64(frame.wrapping_add(856), 0);
-  store64(frame.wrapping_add(864), 0);
-  store64(frame.wrapping_add(872), 0);
-  store64(frame.wrapping_add(880), constant(0));
-  fill(frame.wrapping_add(888), 0, 96);
+  store64(frame.wrapping_add(776), 0);
+  store64(frame.wrapping_add(784), constant(0));
+  fill(frame.wrapping_add(792), 0, 96);
   'after_102: {
   'after_25: {
   'after_26: {
@@ -32980,9 +33424,9 @@ unsafe fn export_sec1_certificate_read_public_key(mut bytes: u64, bytes_len: u64
   break 'after_7;
   }
   v5 = v5.wrapping_sub(v10);
-  store64(frame.wrapping_add(1080), v5);
+  store64(frame.wrapping_add(896), v5);
   v7 = v9.wrapping_add(v10);
-  store64(frame.wrapping_add(1072), v7);
+  store64(frame.wrapping_add(888), v7);
   'after_18: {
   if v4 != 0 {
     break 'after_18;
@@ -33080,11 +33524,11 @@ unsafe fn export_sec1_certificate_read_public_key(mut bytes: u64, bytes_len: u64
   if v10 != v9 {
     break 'after_25;
   }
-  store8(frame.wrapping_add(641), v4 as u8);
-  store8(frame.wrapping_add(640), 1);
+  store8(frame.wrapping_add(545), v4 as u8);
+  store8(frame.wrapping_add(544), 1);
   break 'after_26;
   }
-  store16(frame.wrapping_add(640), 0);
+  store16(frame.wrapping_add(544), 0);
   }
   v8 = 0;
   if v5 == 0 {
@@ -33155,8 +33599,8 @@ unsafe fn export_sec1_certificate_read_public_key(mut bytes: u64, bytes_len: u64
   if v5 < v7 {
     break 'after_7;
   }
-  store64(frame.wrapping_add(1080), v5.wrapping_sub(v7));
-  store64(frame.wrapping_add(1072), v9.wrapping_add(v7));
+  store64(frame.wrapping_add(896), v5.wrapping_sub(v7));
+  store64(frame.wrapping_add(888), v9.wrapping_add(v7));
   v8 = 4;
   'after_31: {
   'after_32: {
@@ -33193,39 +33637,39 @@ unsafe fn export_sec1_certificate_read_public_key(mut bytes: u64, bytes_len: u64
   v8 = 4;
   break 'after_7;
   }
-  store64(frame.wrapping_add(656), v7);
-  store64(frame.wrapping_add(648), v9);
-  v5 = frame.wrapping_add(664);
-  pkix_algorithm_AlgorithmIdentifierReadInPlace_read_in_place(frame.wrapping_add(64), v5,
-      frame.wrapping_add(1072));
+  store64(frame.wrapping_add(560), v7);
+  store64(frame.wrapping_add(552), v9);
+  v5 = frame.wrapping_add(568);
+  pkix_algorithm_AlgorithmIdentifierReadInPlace_read_in_place(frame.wrapping_add(56), v5,
+      frame.wrapping_add(888));
   'after_34: {
-  if ((load8(frame.wrapping_add(64)) as u32) & 255) == 0 {
+  if ((load8(frame.wrapping_add(56)) as u32) & 255) == 0 {
     break 'after_34;
-  }
-  v8 = load8(frame.wrapping_add(65)) as u32;
-  break 'after_7;
-  }
-  v7 = frame.wrapping_add(728);
-  pkix_in_place_RequiredReadInPlace_read_in_place(frame.wrapping_add(56), v7,
-      frame.wrapping_add(1072));
-  'after_35: {
-  if (load8(frame.wrapping_add(56)) as u32) == 0 {
-    break 'after_35;
   }
   v8 = load8(frame.wrapping_add(57)) as u32;
   break 'after_7;
   }
+  v7 = frame.wrapping_add(632);
+  pkix_in_place_RequiredReadInPlace_read_in_place(frame.wrapping_add(48), v7,
+      frame.wrapping_add(888));
+  'after_35: {
+  if (load8(frame.wrapping_add(48)) as u32) == 0 {
+    break 'after_35;
+  }
+  v8 = load8(frame.wrapping_add(49)) as u32;
+  break 'after_7;
+  }
   v8 = 7;
-  if (load8(frame.wrapping_add(1088)) as u32) != 0 {
+  if (load8(frame.wrapping_add(904)) as u32) != 0 {
     break 'after_7;
   }
   v8 = 0;
-  v9 = load64(frame.wrapping_add(1080));
+  v9 = load64(frame.wrapping_add(896));
   if v9 == 0 {
     break 'after_7;
   }
   'after_36: {
-  v10 = load64(frame.wrapping_add(1072));
+  v10 = load64(frame.wrapping_add(888));
   if (load8(v10) as u32) == 48 {
     break 'after_36;
   }
@@ -33290,77 +33734,77 @@ unsafe fn export_sec1_certificate_read_public_key(mut bytes: u64, bytes_len: u64
   if v9 < v10 {
     break 'after_7;
   }
-  store64(frame.wrapping_add(1128), 0);
-  store64(frame.wrapping_add(1000), 0);
-  store64(frame.wrapping_add(992), constant(0));
-  store64(frame.wrapping_add(984), 0);
-  store64(frame.wrapping_add(1008), 0);
-  store64(frame.wrapping_add(1024), 0);
-  store64(frame.wrapping_add(1016), constant(0));
-  store64(frame.wrapping_add(1120), v10);
-  store64(frame.wrapping_add(1080), v9.wrapping_sub(v10));
-  store64(frame.wrapping_add(1112), v12);
-  store64(frame.wrapping_add(1072), v12.wrapping_add(v10));
-  pkix_in_place_ChoiceReadInPlace_read_in_place(frame.wrapping_add(48), frame.wrapping_add(984),
-      frame.wrapping_add(1112));
+  store64(frame.wrapping_add(1016), 0);
+  store64(frame.wrapping_add(928), 0);
+  store64(frame.wrapping_add(920), constant(0));
+  store64(frame.wrapping_add(912), 0);
+  store64(frame.wrapping_add(936), 0);
+  store64(frame.wrapping_add(952), 0);
+  store64(frame.wrapping_add(944), constant(0));
+  store64(frame.wrapping_add(1008), v10);
+  store64(frame.wrapping_add(896), v9.wrapping_sub(v10));
+  store64(frame.wrapping_add(1000), v12);
+  store64(frame.wrapping_add(888), v12.wrapping_add(v10));
+  pkix_in_place_ChoiceReadInPlace_read_in_place(frame.wrapping_add(40), frame.wrapping_add(912),
+      frame.wrapping_add(1000));
   'after_40: {
-  if (load8(frame.wrapping_add(48)) as u32) == 0 {
-    break 'after_40;
-  }
-  v8 = load8(frame.wrapping_add(49)) as u32;
-  break 'after_7;
-  }
-  pkix_in_place_ChoiceReadInPlace_read_in_place(frame.wrapping_add(40),
-      frame.wrapping_add(1008), frame.wrapping_add(1112));
-  'after_41: {
   if (load8(frame.wrapping_add(40)) as u32) == 0 {
-    break 'after_41;
+    break 'after_40;
   }
   v8 = load8(frame.wrapping_add(41)) as u32;
   break 'after_7;
   }
-  v8 = 7;
-  if (load8(frame.wrapping_add(1128)) as u32) != 0 {
-    break 'after_7;
-  }
-  'after_42: {
-  if (load64(frame.wrapping_add(1120))) == 0 {
-    break 'after_42;
-  }
-  v8 = 3;
-  break 'after_7;
-  }
-  v9 = frame.wrapping_add(752);
-  v10 = frame.wrapping_add(992);
-  store64(v9, load64(v10));
-  store64(v9.wrapping_add(8), load64(v10.wrapping_add(8)));
-  v10 = frame.wrapping_add(776);
-  v12 = frame.wrapping_add(1016);
-  store64(v10, load64(v12));
-  store64(v10.wrapping_add(8), load64(v12.wrapping_add(8)));
-  store64(frame.wrapping_add(744), load8(frame.wrapping_add(984)) as u64);
-  store64(frame.wrapping_add(768), load8(frame.wrapping_add(1008)) as u64);
-  v12 = frame.wrapping_add(792);
-  pkix_in_place_RequiredReadInPlace_read_in_place(frame.wrapping_add(32), v12,
-      frame.wrapping_add(1072));
-  'after_43: {
-  if ((load8(frame.wrapping_add(32)) as u32) & 255) == 0 {
-    break 'after_43;
+  pkix_in_place_ChoiceReadInPlace_read_in_place(frame.wrapping_add(32), frame.wrapping_add(936),
+      frame.wrapping_add(1000));
+  'after_41: {
+  if (load8(frame.wrapping_add(32)) as u32) == 0 {
+    break 'after_41;
   }
   v8 = load8(frame.wrapping_add(33)) as u32;
   break 'after_7;
   }
   v8 = 7;
-  if (load8(frame.wrapping_add(1088)) as u32) != 0 {
+  if (load8(frame.wrapping_add(1016)) as u32) != 0 {
+    break 'after_7;
+  }
+  'after_42: {
+  if (load64(frame.wrapping_add(1008))) == 0 {
+    break 'after_42;
+  }
+  v8 = 3;
+  break 'after_7;
+  }
+  v9 = frame.wrapping_add(656);
+  v10 = frame.wrapping_add(920);
+  store64(v9, load64(v10));
+  store64(v9.wrapping_add(8), load64(v10.wrapping_add(8)));
+  v10 = frame.wrapping_add(680);
+  v12 = frame.wrapping_add(944);
+  store64(v10, load64(v12));
+  store64(v10.wrapping_add(8), load64(v12.wrapping_add(8)));
+  store64(frame.wrapping_add(648), load8(frame.wrapping_add(912)) as u64);
+  store64(frame.wrapping_add(672), load8(frame.wrapping_add(936)) as u64);
+  v12 = frame.wrapping_add(696);
+  pkix_in_place_RequiredReadInPlace_read_in_place(frame.wrapping_add(24), v12,
+      frame.wrapping_add(888));
+  'after_43: {
+  if ((load8(frame.wrapping_add(24)) as u32) & 255) == 0 {
+    break 'after_43;
+  }
+  v8 = load8(frame.wrapping_add(25)) as u32;
+  break 'after_7;
+  }
+  v8 = 7;
+  if (load8(frame.wrapping_add(904)) as u32) != 0 {
     break 'after_7;
   }
   v8 = 0;
-  v13 = load64(frame.wrapping_add(1080));
+  v13 = load64(frame.wrapping_add(896));
   if v13 == 0 {
     break 'after_7;
   }
   'after_44: {
-  v14 = load64(frame.wrapping_add(1072));
+  v14 = load64(frame.wrapping_add(888));
   if (load8(v14) as u32) == 48 {
     break 'after_44;
   }
@@ -33425,82 +33869,82 @@ unsafe fn export_sec1_certificate_read_public_key(mut bytes: u64, bytes_len: u64
   if v13 < v14 {
     break 'after_7;
   }
-  store64(frame.wrapping_add(1128), 0);
+  store64(frame.wrapping_add(1016), 0);
+  store64(frame.wrapping_add(920), 0);
+  store64(frame.wrapping_add(912), constant(0));
+  store64(frame.wrapping_add(928), 0);
+  store64(frame.wrapping_add(936), 0);
+  store64(frame.wrapping_add(944), 0);
+  store64(frame.wrapping_add(952), 0);
+  store64(frame.wrapping_add(960), 0);
+  store64(frame.wrapping_add(968), 0);
+  store64(frame.wrapping_add(976), 0);
   store64(frame.wrapping_add(992), 0);
   store64(frame.wrapping_add(984), constant(0));
-  store64(frame.wrapping_add(1000), 0);
-  store64(frame.wrapping_add(1008), 0);
-  store64(frame.wrapping_add(1016), 0);
-  store64(frame.wrapping_add(1024), 0);
-  store64(frame.wrapping_add(1032), 0);
-  store64(frame.wrapping_add(1040), 0);
-  store64(frame.wrapping_add(1048), 0);
-  store64(frame.wrapping_add(1064), 0);
-  store64(frame.wrapping_add(1056), constant(0));
-  store64(frame.wrapping_add(1120), v14);
-  store64(frame.wrapping_add(1080), v13.wrapping_sub(v14));
-  store64(frame.wrapping_add(1112), v15);
-  store64(frame.wrapping_add(1072), v15.wrapping_add(v14));
-  pkix_in_place_Tuple2ReadInPlace_read_in_place(frame.wrapping_add(24), frame.wrapping_add(984),
-      frame.wrapping_add(1112));
+  store64(frame.wrapping_add(1008), v14);
+  store64(frame.wrapping_add(896), v13.wrapping_sub(v14));
+  store64(frame.wrapping_add(1000), v15);
+  store64(frame.wrapping_add(888), v15.wrapping_add(v14));
+  pkix_in_place_Tuple2ReadInPlace_read_in_place(frame.wrapping_add(16), frame.wrapping_add(912),
+      frame.wrapping_add(1000));
   'after_48: {
-  if (load8(frame.wrapping_add(24)) as u32) == 0 {
+  if (load8(frame.wrapping_add(16)) as u32) == 0 {
     break 'after_48;
   }
-  v8 = load8(frame.wrapping_add(25)) as u32;
+  v8 = load8(frame.wrapping_add(17)) as u32;
   break 'after_7;
   }
   v8 = 7;
-  if (load8(frame.wrapping_add(1128)) as u32) != 0 {
+  if (load8(frame.wrapping_add(1016)) as u32) != 0 {
     break 'after_7;
   }
   'after_49: {
-  if (load64(frame.wrapping_add(1120))) == 0 {
+  if (load64(frame.wrapping_add(1008))) == 0 {
     break 'after_49;
   }
   v8 = 3;
   break 'after_7;
   }
-  v14 = frame.wrapping_add(808);
-  store64(v14, load64(frame.wrapping_add(984)));
-  store64(v14.wrapping_add(8), load64(frame.wrapping_add(992)));
-  store64(frame.wrapping_add(824), load8(frame.wrapping_add(1000)) as u64);
-  v13 = frame.wrapping_add(1008);
-  store64(frame.wrapping_add(832), load64(v13));
-  store64(frame.wrapping_add(840), load64(v13.wrapping_add(8)));
-  store64(frame.wrapping_add(848), load64(v13.wrapping_add(16)));
-  store64(frame.wrapping_add(856), load64(v13.wrapping_add(24)));
-  store64(frame.wrapping_add(864), load64(v13.wrapping_add(32)));
-  v13 = frame.wrapping_add(1048);
-  store64(frame.wrapping_add(872), load64(v13));
-  store64(frame.wrapping_add(880), load64(v13.wrapping_add(8)));
-  store64(frame.wrapping_add(888), load64(v13.wrapping_add(16)));
-  pkix_in_place_OptionalReadInPlace_read_in_place(frame.wrapping_add(16),
-      frame.wrapping_add(896), frame.wrapping_add(1072));
+  v14 = frame.wrapping_add(712);
+  store64(v14, load64(frame.wrapping_add(912)));
+  store64(v14.wrapping_add(8), load64(frame.wrapping_add(920)));
+  store64(frame.wrapping_add(728), load8(frame.wrapping_add(928)) as u64);
+  v13 = frame.wrapping_add(936);
+  store64(frame.wrapping_add(736), load64(v13));
+  store64(frame.wrapping_add(744), load64(v13.wrapping_add(8)));
+  store64(frame.wrapping_add(752), load64(v13.wrapping_add(16)));
+  store64(frame.wrapping_add(760), load64(v13.wrapping_add(24)));
+  store64(frame.wrapping_add(768), load64(v13.wrapping_add(32)));
+  v13 = frame.wrapping_add(976);
+  store64(frame.wrapping_add(776), load64(v13));
+  store64(frame.wrapping_add(784), load64(v13.wrapping_add(8)));
+  store64(frame.wrapping_add(792), load64(v13.wrapping_add(16)));
+  pkix_in_place_OptionalReadInPlace_read_in_place(frame.wrapping_add(8),
+      frame.wrapping_add(800), frame.wrapping_add(888));
   'after_50: {
-  if (load8(frame.wrapping_add(16)) as u32) == 0 {
+  if (load8(frame.wrapping_add(8)) as u32) == 0 {
     break 'after_50;
   }
-  v8 = load8(frame.wrapping_add(17)) as u32;
+  v8 = load8(frame.wrapping_add(9)) as u32;
   break 'after_7;
   }
-  v13 = frame.wrapping_add(928);
+  v13 = frame.wrapping_add(832);
   'after_64: {
   'after_63: {
   'after_62: {
   'after_61: {
   'after_59: {
   'after_51: {
-  v4 = load8(frame.wrapping_add(1088)) as u32;
+  v4 = load8(frame.wrapping_add(904)) as u32;
   if v4 != 0 {
     break 'after_51;
   }
   'after_52: {
-  v15 = load64(frame.wrapping_add(1080));
+  v15 = load64(frame.wrapping_add(896));
   if v15 == 0 {
     break 'after_52;
   }
-  v16 = load64(frame.wrapping_add(1072));
+  v16 = load64(frame.wrapping_add(888));
   if (load8(v16) as u32) != 130 {
     break 'after_52;
   }
@@ -33567,9 +34011,9 @@ unsafe fn export_sec1_certificate_read_public_key(mut bytes: u64, bytes_len: u64
     break 'after_7;
   }
   v15 = v13.wrapping_sub(v16);
-  store64(frame.wrapping_add(1080), v15);
+  store64(frame.wrapping_add(896), v15);
   v13 = v17.wrapping_add(v16);
-  store64(frame.wrapping_add(1072), v13);
+  store64(frame.wrapping_add(888), v13);
   'after_57: {
   if v11 != 0 {
     break 'after_57;
@@ -33609,28 +34053,28 @@ unsafe fn export_sec1_certificate_read_public_key(mut bytes: u64, bytes_len: u64
   store64(v13.wrapping_add(16), 0);
   store64(v13.wrapping_add(8), 0);
   store64(v13, 0);
-  v13 = frame.wrapping_add(960);
+  v13 = frame.wrapping_add(864);
   break 'after_61;
   }
   store64(v13.wrapping_add(24), 0);
   store64(v13.wrapping_add(16), 0);
   store64(v13.wrapping_add(8), 0);
   store64(v13, 0);
-  v13 = frame.wrapping_add(960);
+  v13 = frame.wrapping_add(864);
   break 'after_62;
   }
-  store32(frame.wrapping_add(937), 0);
-  store8(frame.wrapping_add(936), v8 as u8);
-  store64(frame.wrapping_add(928), 1);
-  store32(frame.wrapping_add(940), 0);
-  store64(frame.wrapping_add(952), v16);
-  store64(frame.wrapping_add(944), v17.wrapping_add(1));
-  v13 = frame.wrapping_add(960);
+  store32(frame.wrapping_add(841), 0);
+  store8(frame.wrapping_add(840), v8 as u8);
+  store64(frame.wrapping_add(832), 1);
+  store32(frame.wrapping_add(844), 0);
+  store64(frame.wrapping_add(856), v16);
+  store64(frame.wrapping_add(848), v17.wrapping_add(1));
+  v13 = frame.wrapping_add(864);
   }
   if v15 == 0 {
     break 'after_62;
   }
-  v16 = load64(frame.wrapping_add(1072));
+  v16 = load64(frame.wrapping_add(888));
   if (load8(v16) as u32) == 163 {
     break 'after_63;
   }
@@ -33705,8 +34149,8 @@ unsafe fn export_sec1_certificate_read_public_key(mut bytes: u64, bytes_len: u64
   v8 = 0;
   break 'after_7;
   }
-  store64(frame.wrapping_add(1080), v13.wrapping_sub(v15));
-  store64(frame.wrapping_add(1072), v17.wrapping_add(v15));
+  store64(frame.wrapping_add(896), v13.wrapping_sub(v15));
+  store64(frame.wrapping_add(888), v17.wrapping_add(v15));
   'after_70: {
   if v11 != 0 {
     break 'after_70;
@@ -34132,9 +34576,9 @@ unsafe fn export_sec1_certificate_read_public_key(mut bytes: u64, bytes_len: u64
   if v20 != v21 {
     break 'after_25;
   }
-  store64(frame.wrapping_add(976), v20);
-  store64(frame.wrapping_add(968), v19);
-  store64(frame.wrapping_add(960), 1);
+  store64(frame.wrapping_add(880), v20);
+  store64(frame.wrapping_add(872), v19);
+  store64(frame.wrapping_add(864), 1);
   }
   'after_101: {
   if v4 == 0 {
@@ -34143,101 +34587,101 @@ unsafe fn export_sec1_certificate_read_public_key(mut bytes: u64, bytes_len: u64
   v8 = 7;
   break 'after_7;
   }
-  if (load64(frame.wrapping_add(1080))) == 0 {
+  if (load64(frame.wrapping_add(896))) == 0 {
     break 'after_102;
   }
   }
   v8 = 3;
   break 'after_7;
   }
-  v13 = load8(frame.wrapping_add(960)) as u64;
-  v15 = load8(frame.wrapping_add(928)) as u64;
-  v16 = load8(frame.wrapping_add(896)) as u64;
-  v17 = load8(frame.wrapping_add(824)) as u64;
-  v20 = load8(frame.wrapping_add(768)) as u64;
-  v22 = load8(frame.wrapping_add(744)) as u64;
-  v19 = load8(frame.wrapping_add(680)) as u64;
-  v4 = load16(frame.wrapping_add(640)) as u32;
-  store16(frame.wrapping_add(988), 0);
-  store32(frame.wrapping_add(984), 0);
-  v23 = frame.wrapping_add(648);
-  store64(frame.wrapping_add(990), load64(v23));
+  v13 = load8(frame.wrapping_add(864)) as u64;
+  v15 = load8(frame.wrapping_add(832)) as u64;
+  v16 = load8(frame.wrapping_add(800)) as u64;
+  v17 = load8(frame.wrapping_add(728)) as u64;
+  v20 = load8(frame.wrapping_add(672)) as u64;
+  v22 = load8(frame.wrapping_add(648)) as u64;
+  v19 = load8(frame.wrapping_add(584)) as u64;
+  v4 = load16(frame.wrapping_add(544)) as u32;
+  store16(frame.wrapping_add(916), 0);
+  store32(frame.wrapping_add(912), 0);
+  v23 = frame.wrapping_add(552);
+  store64(frame.wrapping_add(918), load64(v23));
   v23 = load64(v23.wrapping_add(8));
-  store64(frame.wrapping_add(998), v23);
-  store64(frame.wrapping_add(630), v23);
-  store64(frame.wrapping_add(616), load64(frame.wrapping_add(984)));
-  store64(frame.wrapping_add(624), load64(frame.wrapping_add(992)));
-  v23 = frame.wrapping_add(184);
+  store64(frame.wrapping_add(926), v23);
+  store64(frame.wrapping_add(534), v23);
+  store64(frame.wrapping_add(520), load64(frame.wrapping_add(912)));
+  store64(frame.wrapping_add(528), load64(frame.wrapping_add(920)));
+  v23 = frame.wrapping_add(88);
   store64(v23, load64(v5));
   store64(v23.wrapping_add(8), load64(v5.wrapping_add(8)));
-  store16(frame.wrapping_add(160), v4 as u16);
-  store64(frame.wrapping_add(176), load64(frame.wrapping_add(630)));
-  store64(frame.wrapping_add(170), load64(frame.wrapping_add(624)));
-  store64(frame.wrapping_add(162), load64(frame.wrapping_add(616)));
-  store64(frame.wrapping_add(200), v19);
-  store64(frame.wrapping_add(240), load64(frame.wrapping_add(720)));
-  store64(frame.wrapping_add(232), load64(frame.wrapping_add(712)));
-  store64(frame.wrapping_add(224), load64(frame.wrapping_add(704)));
-  store64(frame.wrapping_add(216), load64(frame.wrapping_add(696)));
-  store64(frame.wrapping_add(208), load64(frame.wrapping_add(688)));
-  v5 = frame.wrapping_add(248);
+  store16(frame.wrapping_add(64), v4 as u16);
+  store64(frame.wrapping_add(80), load64(frame.wrapping_add(534)));
+  store64(frame.wrapping_add(74), load64(frame.wrapping_add(528)));
+  store64(frame.wrapping_add(66), load64(frame.wrapping_add(520)));
+  store64(frame.wrapping_add(104), v19);
+  store64(frame.wrapping_add(144), load64(frame.wrapping_add(624)));
+  store64(frame.wrapping_add(136), load64(frame.wrapping_add(616)));
+  store64(frame.wrapping_add(128), load64(frame.wrapping_add(608)));
+  store64(frame.wrapping_add(120), load64(frame.wrapping_add(600)));
+  store64(frame.wrapping_add(112), load64(frame.wrapping_add(592)));
+  v5 = frame.wrapping_add(152);
   store64(v5.wrapping_add(8), load64(v7.wrapping_add(8)));
   store64(v5, load64(v7));
-  store64(frame.wrapping_add(264), v22);
-  v5 = frame.wrapping_add(272);
+  store64(frame.wrapping_add(168), v22);
+  v5 = frame.wrapping_add(176);
   store64(v5.wrapping_add(8), load64(v9.wrapping_add(8)));
   store64(v5, load64(v9));
-  store64(frame.wrapping_add(288), v20);
-  v5 = frame.wrapping_add(296);
+  store64(frame.wrapping_add(192), v20);
+  v5 = frame.wrapping_add(200);
   store64(v5.wrapping_add(8), load64(v10.wrapping_add(8)));
   store64(v5, load64(v10));
-  v5 = frame.wrapping_add(312);
+  v5 = frame.wrapping_add(216);
   store64(v5.wrapping_add(8), load64(v12.wrapping_add(8)));
   store64(v5, load64(v12));
-  v5 = frame.wrapping_add(328);
+  v5 = frame.wrapping_add(232);
   store64(v5.wrapping_add(8), load64(v14.wrapping_add(8)));
   store64(v5, load64(v14));
-  store64(frame.wrapping_add(344), v17);
-  v5 = frame.wrapping_add(832);
-  store64(frame.wrapping_add(384), load64(v5.wrapping_add(32)));
-  store64(frame.wrapping_add(376), load64(v5.wrapping_add(24)));
-  store64(frame.wrapping_add(368), load64(v5.wrapping_add(16)));
-  store64(frame.wrapping_add(360), load64(v5.wrapping_add(8)));
-  store64(frame.wrapping_add(352), load64(v5));
-  v5 = frame.wrapping_add(872);
-  store64(frame.wrapping_add(408), load64(v5.wrapping_add(16)));
-  store64(frame.wrapping_add(400), load64(v5.wrapping_add(8)));
-  store64(frame.wrapping_add(392), load64(v5));
-  store64(frame.wrapping_add(416), v16);
-  store64(frame.wrapping_add(440), load64(frame.wrapping_add(920)));
-  store64(frame.wrapping_add(432), load64(frame.wrapping_add(912)));
-  store64(frame.wrapping_add(424), load64(frame.wrapping_add(904)));
-  store64(frame.wrapping_add(448), v15);
-  store64(frame.wrapping_add(472), load64(frame.wrapping_add(952)));
-  store64(frame.wrapping_add(464), load64(frame.wrapping_add(944)));
-  store64(frame.wrapping_add(456), load64(frame.wrapping_add(936)));
-  store64(frame.wrapping_add(480), v13);
-  store64(frame.wrapping_add(496), load64(frame.wrapping_add(976)));
-  store64(frame.wrapping_add(488), load64(frame.wrapping_add(968)));
-  pkix_in_place_Tuple2ReadInPlace_read_in_place(frame.wrapping_add(8), frame.wrapping_add(504),
-      frame.wrapping_add(592));
-  if (load8(frame.wrapping_add(8)) as u32) == 0 {
+  store64(frame.wrapping_add(248), v17);
+  v5 = frame.wrapping_add(736);
+  store64(frame.wrapping_add(288), load64(v5.wrapping_add(32)));
+  store64(frame.wrapping_add(280), load64(v5.wrapping_add(24)));
+  store64(frame.wrapping_add(272), load64(v5.wrapping_add(16)));
+  store64(frame.wrapping_add(264), load64(v5.wrapping_add(8)));
+  store64(frame.wrapping_add(256), load64(v5));
+  v5 = frame.wrapping_add(776);
+  store64(frame.wrapping_add(312), load64(v5.wrapping_add(16)));
+  store64(frame.wrapping_add(304), load64(v5.wrapping_add(8)));
+  store64(frame.wrapping_add(296), load64(v5));
+  store64(frame.wrapping_add(320), v16);
+  store64(frame.wrapping_add(344), load64(frame.wrapping_add(824)));
+  store64(frame.wrapping_add(336), load64(frame.wrapping_add(816)));
+  store64(frame.wrapping_add(328), load64(frame.wrapping_add(808)));
+  store64(frame.wrapping_add(352), v15);
+  store64(frame.wrapping_add(376), load64(frame.wrapping_add(856)));
+  store64(frame.wrapping_add(368), load64(frame.wrapping_add(848)));
+  store64(frame.wrapping_add(360), load64(frame.wrapping_add(840)));
+  store64(frame.wrapping_add(384), v13);
+  store64(frame.wrapping_add(400), load64(frame.wrapping_add(880)));
+  store64(frame.wrapping_add(392), load64(frame.wrapping_add(872)));
+  pkix_in_place_Tuple2ReadInPlace_read_in_place(frame, frame.wrapping_add(408),
+      frame.wrapping_add(496));
+  if (load8(frame) as u32) == 0 {
     break 'after_103;
   }
-  v8 = load8(frame.wrapping_add(9)) as u32;
+  v8 = load8(frame.wrapping_add(1)) as u32;
   }
   v4 = load32(constant(10928).wrapping_add(((v8 as u64) & 255) << 2));
   break 'after_3;
   }
   'after_104: {
-  if (load8(frame.wrapping_add(608)) as u32) == 0 {
+  if (load8(frame.wrapping_add(512)) as u32) == 0 {
     break 'after_104;
   }
   v4 = 13;
   break 'after_3;
   }
   'after_105: {
-  if (load64(frame.wrapping_add(600))) == 0 {
+  if (load64(frame.wrapping_add(504))) == 0 {
     break 'after_105;
   }
   v4 = 4;
@@ -34250,613 +34694,353 @@ unsafe fn export_sec1_certificate_read_public_key(mut bytes: u64, bytes_len: u64
   v4 = 4;
   break 'after_3;
   }
-  store64(frame.wrapping_add(136), load64(frame.wrapping_add(345)));
-  store64(frame.wrapping_add(144), load64(frame.wrapping_add(353)));
-  store64(frame.wrapping_add(151), load64(frame.wrapping_add(360)));
-  store64(frame.wrapping_add(112), load64(frame.wrapping_add(368)));
-  store64(frame.wrapping_add(120), load64(frame.wrapping_add(376)));
-  store64(frame.wrapping_add(128), load64(frame.wrapping_add(384)));
-  v14 = load64(frame.wrapping_add(336));
-  v6 = load64(frame.wrapping_add(584));
-  v5 = load64(frame.wrapping_add(576));
-  v7 = load64(frame.wrapping_add(568));
-  v12 = load64(frame.wrapping_add(512));
-  v13 = load64(frame.wrapping_add(504));
-  v15 = load64(frame.wrapping_add(400));
-  v16 = load64(frame.wrapping_add(328));
-  bytes = load8(frame.wrapping_add(520)) as u64;
-  v11 = load8(frame.wrapping_add(344)) as u32;
-  store64(frame.wrapping_add(72), load64(frame.wrapping_add(528)));
-  store64(frame.wrapping_add(80), load64(frame.wrapping_add(536)));
-  store64(frame.wrapping_add(88), load64(frame.wrapping_add(544)));
-  store64(frame.wrapping_add(96), load64(frame.wrapping_add(552)));
-  store64(frame.wrapping_add(104), load64(frame.wrapping_add(560)));
-  v10 = load64(frame.wrapping_add(496));
-  v9 = load64(frame.wrapping_add(488));
-  v4 = load8(frame.wrapping_add(480)) as u32;
-  v19 = load64(frame.wrapping_add(472));
-  v8 = load8(frame.wrapping_add(448)) as u32;
-  v23 = load64(frame.wrapping_add(440));
-  v18 = load8(frame.wrapping_add(416)) as u32;
-  v17 = load64(frame.wrapping_add(408));
-  v20 = load64(frame.wrapping_add(392));
-  store64(frame.wrapping_add(1104), 0);
-  store64(frame.wrapping_add(1096), 0);
-  store64(frame.wrapping_add(1088), 0);
-  store64(frame.wrapping_add(1080), 0);
-  store64(frame.wrapping_add(1072), 0);
-  store64(frame.wrapping_add(984), 0);
-  store64(frame.wrapping_add(992), 0);
-  store64(frame.wrapping_add(1000), 0);
-  store64(frame.wrapping_add(1008), 0);
-  store64(frame.wrapping_add(1016), 0);
+  v4 = load8(frame.wrapping_add(424)) as u32;
+  'after_108: {
   'after_107: {
-  if bytes != 1 {
+  v7 = load64(frame.wrapping_add(416));
+  v8 = v7 as u32;
+  if v8 >= 128 {
     break 'after_107;
   }
-  v22 = load64(frame.wrapping_add(80));
-  store64(frame.wrapping_add(168), v22);
-  v21 = load64(frame.wrapping_add(72));
-  store64(frame.wrapping_add(160), v21);
-  v24 = load64(frame.wrapping_add(88));
-  store64(frame.wrapping_add(176), v24);
-  v25 = load64(frame.wrapping_add(96));
-  store64(frame.wrapping_add(184), v25);
-  v26 = load64(frame.wrapping_add(104));
-  store64(frame.wrapping_add(192), v26);
-  store64(frame.wrapping_add(984), v21);
-  store64(frame.wrapping_add(992), v22);
-  store64(frame.wrapping_add(1000), v24);
-  store64(frame.wrapping_add(1008), v25);
-  store64(frame.wrapping_add(1016), v26);
+  v9 = 2;
+  break 'after_108;
   }
-  store64(frame.wrapping_add(664), load64(frame.wrapping_add(984)));
-  store64(frame.wrapping_add(672), load64(frame.wrapping_add(992)));
-  store64(frame.wrapping_add(680), load64(frame.wrapping_add(1000)));
-  store64(frame.wrapping_add(688), load64(frame.wrapping_add(1008)));
-  store64(frame.wrapping_add(696), load64(frame.wrapping_add(1016)));
-  store64(frame.wrapping_add(720), v6);
-  store64(frame.wrapping_add(712), v5);
-  store64(frame.wrapping_add(704), v7);
-  store64(frame.wrapping_add(656), bytes);
-  store64(frame.wrapping_add(648), v12);
-  store64(frame.wrapping_add(640), v13);
-  store64(frame.wrapping_add(984), 0);
-  store64(frame.wrapping_add(992), 0);
-  store64(frame.wrapping_add(1000), 0);
-  store64(frame.wrapping_add(1008), 0);
-  store64(frame.wrapping_add(1016), 0);
-  'after_108: {
-  if (v11 & 255) != 1 {
-    break 'after_108;
-  }
-  bytes = load64(frame.wrapping_add(151));
-  store64(frame.wrapping_add(168), bytes);
-  v6 = load64(frame.wrapping_add(143));
-  store64(frame.wrapping_add(160), v6);
-  v5 = load64(frame.wrapping_add(112));
-  store64(frame.wrapping_add(176), v5);
-  v7 = load64(frame.wrapping_add(120));
-  store64(frame.wrapping_add(184), v7);
-  v12 = load64(frame.wrapping_add(128));
-  store64(frame.wrapping_add(192), v12);
-  store64(frame.wrapping_add(984), v6);
-  store64(frame.wrapping_add(992), bytes);
-  store64(frame.wrapping_add(1000), v5);
-  store64(frame.wrapping_add(1008), v7);
-  store64(frame.wrapping_add(1016), v12);
-  }
-  store64(frame.wrapping_add(1072), load64(frame.wrapping_add(984)));
-  store64(frame.wrapping_add(1080), load64(frame.wrapping_add(992)));
-  store64(frame.wrapping_add(1088), load64(frame.wrapping_add(1000)));
-  store64(frame.wrapping_add(1096), load64(frame.wrapping_add(1008)));
-  store64(frame.wrapping_add(1104), load64(frame.wrapping_add(1016)));
-  bytes = 0;
-  store64(frame.wrapping_add(160), 0);
-  sec1_der_part_Tuple2EncodePart_part_len_2(frame.wrapping_add(160), frame.wrapping_add(640));
-  if (load8(frame.wrapping_add(160)) as u32) != 0 {
+  'after_109: {
+  if v8 >= 256 {
     break 'after_109;
   }
-  v22 = load32(frame.wrapping_add(164)) as u64;
+  v9 = 3;
+  break 'after_108;
+  }
   'after_110: {
-  if (v18 & 255) != 1 {
+  if v8 >= 0x10000 {
     break 'after_110;
   }
-  bytes = v23.wrapping_add(1);
-  if bytes > 0xfffffff {
-    break 'after_109;
+  v9 = 4;
+  break 'after_108;
   }
-  'after_112: {
+  v9 = if v8 < 0x1000000 { 5u64 } else { 6u64 };
+  }
+  v10 = load64(frame.wrapping_add(400));
+  v8 = load8(frame.wrapping_add(384)) as u32;
+  v14 = load64(frame.wrapping_add(376));
+  v11 = load8(frame.wrapping_add(352)) as u32;
+  v15 = load64(frame.wrapping_add(344));
+  v18 = load8(frame.wrapping_add(320)) as u32;
+  v12 = load64(frame.wrapping_add(312));
+  v16 = load64(frame.wrapping_add(264));
+  v24 = load8(frame.wrapping_add(248)) as u32;
+  bytes = load64(frame.wrapping_add(240));
+  v6 = load64(frame.wrapping_add(488));
+  v5 = 0;
   'after_111: {
-  if bytes >= 128 {
+  if (v4 & 255) != 1 {
     break 'after_111;
   }
-  v6 = 2;
-  break 'after_112;
+  v5 = load64(frame.wrapping_add(440));
+  if v5 >= 0x10000000 {
+    break 'after_112;
   }
-  'after_113: {
-  if bytes >= 256 {
-    break 'after_113;
-  }
-  v6 = 3;
-  break 'after_112;
   }
   'after_114: {
-  if bytes >= 0x10000 {
-    break 'after_114;
+  'after_113: {
+  v13 = (v9.wrapping_add(v7)).wrapping_add(v5);
+  v4 = v13 as u32;
+  if v4 >= 128 {
+    break 'after_113;
   }
-  v6 = 4;
-  break 'after_112;
+  v17 = 0xfffffffffffffffe;
+  break 'after_114;
   }
-  v6 = if bytes < 0x1000000 { 5u64 } else { 6u64 };
-  }
-  bytes = v6.wrapping_add(bytes);
-  if bytes > 0xfffffff {
-    break 'after_109;
-  }
-  }
-  v6 = 0;
   'after_115: {
-  if (v8 & 255) != 1 {
+  if v4 >= 256 {
     break 'after_115;
   }
-  v6 = v19.wrapping_add(1);
-  if v6 > 0xfffffff {
-    break 'after_109;
+  v17 = 0xfffffffffffffffd;
+  break 'after_114;
   }
-  'after_117: {
   'after_116: {
-  if v6 >= 128 {
+  if v4 >= 0x10000 {
     break 'after_116;
   }
-  v5 = 2;
-  break 'after_117;
+  v17 = 0xfffffffffffffffc;
+  break 'after_114;
+  }
+  v17 = if v4 < 0x1000000 { 0xfffffffffffffffbu64 } else { 0xfffffffffffffffau64 };
+  }
+  v5 = v6.wrapping_add(1);
+  if v5 >= 0x10000000 {
+    break 'after_112;
   }
   'after_118: {
-  if v6 >= 256 {
-    break 'after_118;
+  'after_117: {
+  if v5 >= 128 {
+    break 'after_117;
   }
-  v5 = 3;
-  break 'after_117;
+  v20 = 0xfffffffffffffffe;
+  break 'after_118;
   }
   'after_119: {
-  if v6 >= 0x10000 {
+  if v5 >= 256 {
     break 'after_119;
   }
-  v5 = 4;
-  break 'after_117;
+  v20 = 0xfffffffffffffffd;
+  break 'after_118;
   }
-  v5 = if v6 < 0x1000000 { 5u64 } else { 6u64 };
-  }
-  v6 = v5.wrapping_add(v6);
-  if v6 > 0xfffffff {
-    break 'after_109;
-  }
-  }
-  v19 = v6.wrapping_add(bytes);
-  if v19 > 0xfffffff {
-    break 'after_109;
-  }
-  bytes = 0;
   'after_120: {
-  if (v4 & 255) != 1 {
+  if v5 >= 0x10000 {
     break 'after_120;
   }
-  v13 = if (v4 & 255) == 1 { v10 } else { 0u64 };
+  v20 = 0xfffffffffffffffc;
+  break 'after_118;
+  }
+  v20 = if v5 < 0x1000000 { 0xfffffffffffffffbu64 } else { 0xfffffffffffffffau64 };
+  }
+  v5 = 0;
+  v7 = 0;
   'after_121: {
-  'again_133: loop {
-  if v10 == 0 {
+  if (v18 & 255) != 1 {
     break 'after_121;
   }
-  if v10 == 1 {
-    break 'after_109;
+  v7 = v15.wrapping_add(1);
+  if v7 >= 0x10000000 {
+    break 'after_112;
   }
-  if ((load8(v9) as u32) & 255) != 48 {
-    break 'after_109;
-  }
-  v5 = v9.wrapping_add(2);
-  v7 = v10.wrapping_add(0xfffffffffffffffe);
+  v9 = v15 ^ 0xffffffffffffffff;
+  'after_123: {
   'after_122: {
-  v4 = (load8(v9.wrapping_add(1)) as u32) as i8 as i32 as u32;
-  if (v4 as i32) >= (0u32 as i32) {
+  if v7 >= 128 {
     break 'after_122;
   }
-  if ((v4.wrapping_add(123)) & 255) < 252 {
-    break 'after_109;
+  v7 = 0xfffffffffffffffe;
+  break 'after_123;
   }
-  bytes = (v4 as i32 as i64 as u64).wrapping_add(128);
-  if v7 < bytes {
-    break 'after_109;
-  }
-  v4 = load8(v5) as u32;
-  v8 = 0;
-  'after_123: {
-  if bytes == 1 {
-    break 'after_123;
-  }
-  v8 = v4 << 8;
-  v4 = v8 | (load8(v9.wrapping_add(3)) as u32);
-  if bytes == 2 {
-    break 'after_123;
-  }
-  v8 = v4 << 8;
-  v4 = v8 | (load8(v9.wrapping_add(4)) as u32);
-  if bytes == 3 {
-    break 'after_123;
-  }
-  v8 = v4 << 8;
-  v4 = v8 | (load8(v9.wrapping_add(5)) as u32);
-  }
-  if v4 < 128 {
-    break 'after_109;
-  }
-  if ((load8(v5) as u32) & 255) == 0 {
-    break 'after_109;
-  }
-  if v8 > 0xfffffff {
-    break 'after_109;
-  }
-  v5 = v5.wrapping_add(bytes);
-  v7 = v7.wrapping_sub(bytes);
-  }
-  v9 = v4 as u64;
-  if v7 < v9 {
-    break 'after_109;
-  }
-  if v4 == 0 {
-    break 'after_109;
-  }
-  if v4 == 1 {
-    break 'after_109;
-  }
-  if ((load8(v5) as u32) & 255) != 6 {
-    break 'after_109;
-  }
-  bytes = v5.wrapping_add(2);
-  v12 = v9.wrapping_add(0xfffffffffffffffe);
   'after_124: {
-  v4 = (load8(v5.wrapping_add(1)) as u32) as i8 as i32 as u32;
-  if (v4 as i32) >= (0u32 as i32) {
+  if v7 >= 256 {
     break 'after_124;
   }
-  if ((v4.wrapping_add(123)) & 255) < 252 {
-    break 'after_109;
+  v7 = 0xfffffffffffffffd;
+  break 'after_123;
   }
-  v6 = (v4 as i32 as i64 as u64).wrapping_add(128);
-  if v12 < v6 {
-    break 'after_109;
-  }
-  v4 = load8(bytes) as u32;
-  v8 = 0;
   'after_125: {
-  if v6 == 1 {
+  if v7 >= 0x10000 {
     break 'after_125;
   }
-  v8 = v4 << 8;
-  v4 = v8 | (load8(v5.wrapping_add(3)) as u32);
-  if v6 == 2 {
-    break 'after_125;
+  v7 = 0xfffffffffffffffc;
+  break 'after_123;
   }
-  v8 = v4 << 8;
-  v4 = v8 | (load8(v5.wrapping_add(4)) as u32);
-  if v6 == 3 {
-    break 'after_125;
+  v7 = if v7 < 0x1000000 { 0xfffffffffffffffbu64 } else { 0xfffffffffffffffau64 };
   }
-  v8 = v4 << 8;
-  v4 = v8 | (load8(v5.wrapping_add(5)) as u32);
+  v7 = v7.wrapping_add(v9);
   }
-  if v4 < 128 {
-    break 'after_109;
-  }
-  if ((load8(bytes) as u32) & 255) == 0 {
-    break 'after_109;
-  }
-  if v8 > 0xfffffff {
-    break 'after_109;
-  }
-  bytes = bytes.wrapping_add(v6);
-  v12 = v12.wrapping_sub(v6);
-  }
-  v6 = v4 as u64;
-  if v12 < v6 {
-    break 'after_109;
-  }
-  if v4 == 0 {
-    break 'after_109;
-  }
-  v10 = v7.wrapping_sub(v9);
-  v9 = v5.wrapping_add(v9);
-  v5 = v12.wrapping_sub(v6);
-  v7 = bytes.wrapping_add(v6);
-  v8 = 1;
-  'again_127: loop {
-  v4 = (load8(bytes) as u32) as i8 as i32 as u32;
   'after_126: {
-  if (v8 & 1) == 0 {
+  if (v11 & 255) != 1 {
     break 'after_126;
   }
-  if v4 == 0xffffff80 {
-    break 'after_109;
+  v5 = v14.wrapping_add(1);
+  if v5 >= 0x10000000 {
+    break 'after_112;
   }
-  }
-  bytes = bytes.wrapping_add(1);
-  v8 = u32::from((v4 as i32) > (0xffffffffu32 as i32));
-  v6 = v6.wrapping_add(0xffffffffffffffff);
-  if v6 != 0 {
-    continue 'again_127;
-  }
-  break;
-  }
-  if (v4 as i32) < (0u32 as i32) {
-    break 'after_109;
-  }
-  if v5 == 0 {
-    break 'after_109;
-  }
+  v9 = v14 ^ 0xffffffffffffffff;
   'after_128: {
-  v4 = load8(v7) as u32;
-  if v4 != 1 {
-    break 'after_128;
+  'after_127: {
+  if v5 >= 128 {
+    break 'after_127;
   }
-  if v5 == 1 {
-    break 'after_109;
+  v5 = 0xfffffffffffffffe;
+  break 'after_128;
   }
-  bytes = v7.wrapping_add(2);
-  v6 = v5.wrapping_add(0xfffffffffffffffe);
   'after_129: {
-  v4 = (load8(v7.wrapping_add(1)) as u32) as i8 as i32 as u32;
-  if (v4 as i32) >= (0u32 as i32) {
+  if v5 >= 256 {
     break 'after_129;
   }
-  if ((v4.wrapping_add(123)) & 255) < 252 {
-    break 'after_109;
+  v5 = 0xfffffffffffffffd;
+  break 'after_128;
   }
-  v5 = (v4 as i32 as i64 as u64).wrapping_add(128);
-  if v6 < v5 {
-    break 'after_109;
-  }
-  v4 = load8(bytes) as u32;
-  v8 = 0;
   'after_130: {
-  if v5 == 1 {
+  if v5 >= 0x10000 {
     break 'after_130;
   }
-  v8 = v4 << 8;
-  v4 = v8 | (load8(v7.wrapping_add(3)) as u32);
-  if v5 == 2 {
-    break 'after_130;
+  v5 = 0xfffffffffffffffc;
+  break 'after_128;
   }
-  v8 = v4 << 8;
-  v4 = v8 | (load8(v7.wrapping_add(4)) as u32);
-  if v5 == 3 {
-    break 'after_130;
+  v5 = if v5 < 0x1000000 { 0xfffffffffffffffbu64 } else { 0xfffffffffffffffau64 };
   }
-  v8 = v4 << 8;
-  v4 = v8 | (load8(v7.wrapping_add(5)) as u32);
+  v5 = v5.wrapping_add(v9);
   }
-  if v4 < 128 {
-    break 'after_109;
-  }
-  if ((load8(bytes) as u32) & 255) == 0 {
-    break 'after_109;
-  }
-  if v8 > 0xfffffff {
-    break 'after_109;
-  }
-  bytes = bytes.wrapping_add(v5);
-  v6 = v6.wrapping_sub(v5);
-  }
-  v7 = v4 as u64;
-  if v6 < v7 {
-    break 'after_109;
-  }
-  if v4 != 1 {
-    break 'after_109;
-  }
-  if (load8(bytes) as u32) != 255 {
-    break 'after_109;
-  }
-  v5 = v6.wrapping_sub(v7);
-  if v5 == 0 {
-    break 'after_109;
-  }
-  v7 = bytes.wrapping_add(v7);
-  v4 = load8(v7) as u32;
-  }
-  if (v4 & 255) != 4 {
-    break 'after_109;
-  }
-  if v5 == 1 {
-    break 'after_109;
-  }
-  bytes = v5.wrapping_add(0xfffffffffffffffe);
+  v9 = 0;
   'after_131: {
-  v4 = (load8(v7.wrapping_add(1)) as u32) as i8 as i32 as u32;
-  if (v4 as i32) >= (0u32 as i32) {
+  if (v8 & 255) != 1 {
     break 'after_131;
   }
-  if ((v4.wrapping_add(123)) & 255) < 252 {
-    break 'after_109;
-  }
-  v6 = (v4 as i32 as i64 as u64).wrapping_add(128);
-  if bytes < v6 {
-    break 'after_109;
-  }
-  v5 = v7.wrapping_add(2);
-  v4 = load8(v5) as u32;
-  v8 = 0;
+  'after_133: {
   'after_132: {
-  if v6 == 1 {
+  v4 = v10 as u32;
+  if v4 >= 128 {
     break 'after_132;
   }
-  v8 = v4 << 8;
-  v4 = v8 | (load8(v7.wrapping_add(3)) as u32);
-  if v6 == 2 {
-    break 'after_132;
+  v9 = 2;
+  break 'after_133;
   }
-  v8 = v4 << 8;
-  v4 = v8 | (load8(v7.wrapping_add(4)) as u32);
-  if v6 == 3 {
-    break 'after_132;
-  }
-  v8 = v4 << 8;
-  v4 = v8 | (load8(v7.wrapping_add(5)) as u32);
-  }
-  if v4 < 128 {
-    break 'after_109;
-  }
-  if ((load8(v5) as u32) & 255) == 0 {
-    break 'after_109;
-  }
-  if v8 > 0xfffffff {
-    break 'after_109;
-  }
-  bytes = bytes.wrapping_sub(v6);
-  }
-  if bytes == (v4 as u64) {
-    continue 'again_133;
-  }
-  break 'after_109;
-  }
-  }
-  if v13 > 0xfffffff {
-    break 'after_109;
-  }
-  'after_135: {
   'after_134: {
-  if v13 >= 128 {
+  if v4 >= 256 {
     break 'after_134;
   }
-  bytes = 2;
-  break 'after_135;
+  v9 = 3;
+  break 'after_133;
   }
-  'after_136: {
-  if v13 >= 256 {
-    break 'after_136;
+  'after_135: {
+  if v4 >= 0x10000 {
+    break 'after_135;
   }
-  bytes = 3;
-  break 'after_135;
+  v9 = 4;
+  break 'after_133;
+  }
+  v9 = if v4 < 0x1000000 { 5u64 } else { 6u64 };
   }
   'after_137: {
-  if v13 >= 0x10000 {
-    break 'after_137;
+  'after_136: {
+  v9 = v9.wrapping_add(v10);
+  v4 = v9 as u32;
+  if v4 >= 128 {
+    break 'after_136;
   }
-  bytes = 4;
-  break 'after_135;
+  v10 = 0xfffffffffffffffe;
+  break 'after_137;
   }
-  bytes = if v13 < 0x1000000 { 5u64 } else { 6u64 };
-  }
-  bytes = bytes.wrapping_add(v13);
-  if bytes > 0xfffffff {
-    break 'after_109;
-  }
-  'after_139: {
   'after_138: {
-  if bytes >= 128 {
+  if v4 >= 256 {
     break 'after_138;
   }
-  v6 = 2;
-  break 'after_139;
+  v10 = 0xfffffffffffffffd;
+  break 'after_137;
   }
-  'after_140: {
-  if bytes >= 256 {
-    break 'after_140;
+  'after_139: {
+  if v4 >= 0x10000 {
+    break 'after_139;
   }
-  v6 = 3;
-  break 'after_139;
+  v10 = 0xfffffffffffffffc;
+  break 'after_137;
+  }
+  v10 = if v4 < 0x1000000 { 0xfffffffffffffffbu64 } else { 0xfffffffffffffffau64 };
+  }
+  v9 = v10.wrapping_sub(v9 & 0xffffffff);
   }
   'after_141: {
-  if bytes >= 0x10000 {
-    break 'after_141;
+  'after_140: {
+  v4 = bytes as u32;
+  if v4 >= 128 {
+    break 'after_140;
   }
-  v6 = 4;
-  break 'after_139;
+  v14 = 2;
+  break 'after_141;
   }
-  v6 = if bytes < 0x1000000 { 5u64 } else { 6u64 };
-  }
-  bytes = v6.wrapping_add(bytes);
-  if bytes > 0xfffffff {
-    break 'after_109;
-  }
-  }
-  v6 = bytes.wrapping_add(v19);
-  if v6 >= 0x10000000 {
-    break 'after_109;
-  }
-  bytes = (v11 as u64) & 255;
-  store64(frame.wrapping_add(592), 0);
-  store64(frame.wrapping_add(1112), 0);
-  store64(frame.wrapping_add(1120), 0);
-  store64(frame.wrapping_add(1128), 0);
-  store64(frame.wrapping_add(1136), 0);
-  store64(frame.wrapping_add(1144), 0);
   'after_142: {
-  if (v11 & 255) != 1 {
+  if v4 >= 256 {
     break 'after_142;
   }
-  v5 = load64(frame.wrapping_add(1080));
-  store64(frame.wrapping_add(992), v5);
-  v7 = load64(frame.wrapping_add(1072));
-  store64(frame.wrapping_add(984), v7);
-  v9 = load64(frame.wrapping_add(1088));
-  store64(frame.wrapping_add(1000), v9);
-  v10 = load64(frame.wrapping_add(1096));
-  store64(frame.wrapping_add(1008), v10);
-  v12 = load64(frame.wrapping_add(1104));
-  store64(frame.wrapping_add(1016), v12);
-  store64(frame.wrapping_add(1112), v7);
-  store64(frame.wrapping_add(1120), v5);
-  store64(frame.wrapping_add(1128), v9);
-  store64(frame.wrapping_add(1136), v10);
-  store64(frame.wrapping_add(1144), v12);
+  v14 = 3;
+  break 'after_141;
   }
-  store64(frame.wrapping_add(176), bytes);
-  store64(frame.wrapping_add(168), v14);
-  store64(frame.wrapping_add(160), v16);
-  store64(frame.wrapping_add(184), load64(frame.wrapping_add(1112)));
-  store64(frame.wrapping_add(192), load64(frame.wrapping_add(1120)));
-  store64(frame.wrapping_add(200), load64(frame.wrapping_add(1128)));
-  store64(frame.wrapping_add(208), load64(frame.wrapping_add(1136)));
-  store64(frame.wrapping_add(216), load64(frame.wrapping_add(1144)));
-  store64(frame.wrapping_add(240), v17);
-  store64(frame.wrapping_add(232), v15);
-  store64(frame.wrapping_add(224), v20);
-  sec1_der_part_Tuple2EncodePart_part_len_2(frame.wrapping_add(592), frame.wrapping_add(160));
-  if (load8(frame.wrapping_add(592)) as u32) != 0 {
-    break 'after_109;
-  }
-  'after_144: {
   'after_143: {
-  v4 = load32(frame.wrapping_add(596));
-  if v4 >= 128 {
+  if v4 >= 0x10000 {
     break 'after_143;
   }
-  bytes = 2;
-  break 'after_144;
+  v14 = 4;
+  break 'after_141;
   }
-  'after_145: {
-  if v4 >= 256 {
-    break 'after_145;
+  v14 = if v4 < 0x1000000 { 5u64 } else { 6u64 };
   }
-  bytes = 3;
-  break 'after_144;
+  v10 = 0;
+  'after_144: {
+  if (v24 & 255) != 1 {
+    break 'after_144;
+  }
+  v10 = v16;
+  if v16 >= 0x10000000 {
+    break 'after_112;
+  }
   }
   'after_146: {
+  'after_145: {
+  v14 = (v14.wrapping_add(bytes)).wrapping_add(v10);
+  v4 = v14 as u32;
+  if v4 >= 128 {
+    break 'after_145;
+  }
+  v15 = 2;
+  break 'after_146;
+  }
+  'after_147: {
+  if v4 >= 256 {
+    break 'after_147;
+  }
+  v15 = 3;
+  break 'after_146;
+  }
+  'after_148: {
   if v4 >= 0x10000 {
-    break 'after_146;
+    break 'after_148;
   }
-  bytes = 4;
-  break 'after_144;
+  v15 = 4;
+  break 'after_146;
   }
-  bytes = if v4 < 0x1000000 { 5u64 } else { 6u64 };
+  v15 = if v4 < 0x1000000 { 5u64 } else { 6u64 };
   }
-  bytes = bytes.wrapping_add(v4 as u64);
+  bytes = v12.wrapping_add(1);
   if bytes >= 0x10000000 {
-    break 'after_109;
+    break 'after_112;
+  }
+  v10 = 2;
+  v12 = 2;
+  'after_149: {
+  if bytes < 128 {
+    break 'after_149;
+  }
+  'after_150: {
+  if bytes >= 256 {
+    break 'after_150;
+  }
+  v12 = 3;
+  break 'after_149;
+  }
+  'after_151: {
+  if bytes >= 0x10000 {
+    break 'after_151;
+  }
+  v12 = 4;
+  break 'after_149;
+  }
+  v12 = if bytes < 0x1000000 { 5u64 } else { 6u64 };
+  }
+  'after_152: {
+  bytes = ((v14.wrapping_add(bytes)).wrapping_add(v15)).wrapping_add(v12);
+  v4 = bytes as u32;
+  if v4 < 128 {
+    break 'after_152;
+  }
+  'after_153: {
+  if v4 >= 256 {
+    break 'after_153;
+  }
+  v10 = 3;
+  break 'after_152;
+  }
+  'after_154: {
+  if v4 >= 0x10000 {
+    break 'after_154;
+  }
+  v10 = 4;
+  break 'after_152;
+  }
+  v10 = if v4 < 0x1000000 { 5u64 } else { 6u64 };
   }
   store64(part.wrapping_add(16), 1);
+  bytes = v10.wrapping_add(bytes & 0xffffffff);
   store64(part.wrapping_add(8), bytes);
-  store64(part, bytes_len.wrapping_sub((v6.wrapping_add(v22)).wrapping_add(bytes)));
+  let t1 = (((bytes_len.wrapping_add(v6 ^ 0xffffffffffffffff)).wrapping_sub(v13 &
+      0xffffffff)).wrapping_add(v17)).wrapping_add(v20);
+  store64(part, (((t1.wrapping_add(v7)).wrapping_add(v5)).wrapping_add(v9)).wrapping_sub(bytes));
   v4 = 0;
   break 'after_3;
   }
@@ -35219,73 +35403,67 @@ unsafe fn export_sec1_point_len(tag: u64, field_len: u64, len: u64) -> u32 {
 
 // rattle::export sec1_private_key_info_read
 unsafe fn export_sec1_private_key_info_read(mut bytes: u64, mut bytes_len: u64, parts: u64) -> u32 {
-  let mut array = Frame::<320>::new();
+  let mut array = Frame::<272>::new();
   let frame = address(&raw mut array);
   let mut v4 = 0u32;
   let mut v5 = 0u64;
-  let mut v6 = 0u64;
-  let mut v7 = 0u32;
+  let mut v6 = 0u32;
+  let mut v7 = 0u64;
   let mut v8 = 0u64;
   let mut v9 = 0u64;
-  let mut v10 = 0u64;
+  let mut v10 = 0u32;
   let mut v11 = 0u32;
-  let mut v12 = 0u32;
+  let mut v12 = 0u64;
   let mut v13 = 0u64;
   let mut v14 = 0u32;
-  'after_7: {
+  'after_12: {
   v4 = 0;
-  fill(frame.wrapping_add(184), 0, 112);
-  fill(frame.wrapping_add(40), 0, 144);
+  fill(frame.wrapping_add(160), 0, 112);
+  fill(frame.wrapping_add(16), 0, 144);
   bytes = bytes.wrapping_add(if bytes == 0 { 4096u64 } else { 0u64 });
-  pkix_private_key_PrivateKeyInfo_from_der(frame.wrapping_add(184), bytes, bytes_len);
+  pkix_private_key_PrivateKeyInfo_from_der(frame.wrapping_add(160), bytes, bytes_len);
   'after_5: {
   'after_3: {
   'after_4: {
   'after_2: {
   'after_1: {
-  if (load8(frame.wrapping_add(184)) as u32) != 0 {
+  if (load8(frame.wrapping_add(160)) as u32) != 0 {
     break 'after_1;
   }
-  store64(frame.wrapping_add(16), 0);
-  store64(frame.wrapping_add(24), 0);
-  store64(frame.wrapping_add(32), 0);
-  v5 = load64(frame.wrapping_add(288));
-  v6 = load64(frame.wrapping_add(280));
-  v7 = load8(frame.wrapping_add(272)) as u32;
-  v8 = load64(frame.wrapping_add(264));
-  v9 = load64(frame.wrapping_add(248));
-  v10 = load64(frame.wrapping_add(240));
-  v11 = load8(frame.wrapping_add(232)) as u32;
-  v12 = load8(frame.wrapping_add(208)) as u32;
-  v13 = load64(frame.wrapping_add(200));
-  bytes = load64(frame.wrapping_add(192));
+  v5 = load32(frame.wrapping_add(264)) as u64;
+  v6 = load8(frame.wrapping_add(248)) as u32;
+  v7 = load64(frame.wrapping_add(240));
+  v8 = load64(frame.wrapping_add(224));
+  v9 = load64(frame.wrapping_add(216));
+  v10 = load8(frame.wrapping_add(208)) as u32;
+  v11 = load8(frame.wrapping_add(184)) as u32;
+  v12 = load64(frame.wrapping_add(176));
+  bytes = load64(frame.wrapping_add(168));
+  v13 = 1;
   break 'after_2;
   }
-  v14 = load8(frame.wrapping_add(185)) as u32;
+  v14 = load8(frame.wrapping_add(161)) as u32;
   if v14 != 4 {
     break 'after_3;
   }
-  pkix_private_key_OneAsymmetricKey_from_der(frame.wrapping_add(40), bytes, bytes_len);
-  store64(frame.wrapping_add(16), load64(frame.wrapping_add(160)));
-  store64(frame.wrapping_add(24), load64(frame.wrapping_add(168)));
-  store64(frame.wrapping_add(32), load64(frame.wrapping_add(176)));
-  if (load8(frame.wrapping_add(40)) as u32) != 0 {
+  pkix_private_key_OneAsymmetricKey_from_der(frame.wrapping_add(16), bytes, bytes_len);
+  if (load8(frame.wrapping_add(16)) as u32) != 0 {
     break 'after_4;
   }
-  v4 = load8(frame.wrapping_add(152)) as u32;
-  v5 = load64(frame.wrapping_add(144));
-  v6 = load64(frame.wrapping_add(136));
-  v7 = load8(frame.wrapping_add(128)) as u32;
-  v8 = load64(frame.wrapping_add(120));
-  v9 = load64(frame.wrapping_add(104));
-  v10 = load64(frame.wrapping_add(96));
-  v11 = load8(frame.wrapping_add(88)) as u32;
-  v12 = load8(frame.wrapping_add(64)) as u32;
-  v13 = load64(frame.wrapping_add(56));
-  bytes = load64(frame.wrapping_add(48));
+  v13 = (load64(frame.wrapping_add(152))).wrapping_add(1);
+  v4 = u32::from((load8(frame.wrapping_add(128)) as u64) == 1);
+  v5 = load32(frame.wrapping_add(120)) as u64;
+  v6 = load8(frame.wrapping_add(104)) as u32;
+  v7 = load64(frame.wrapping_add(96));
+  v8 = load64(frame.wrapping_add(80));
+  v9 = load64(frame.wrapping_add(72));
+  v10 = load8(frame.wrapping_add(64)) as u32;
+  v11 = load8(frame.wrapping_add(40)) as u32;
+  v12 = load64(frame.wrapping_add(32));
+  bytes = load64(frame.wrapping_add(24));
   }
   v14 = 11;
-  if v13 != 7 {
+  if v12 != 7 {
     break 'after_5;
   }
   if (load8(bytes) as u32) != 42 {
@@ -35304,83 +35482,122 @@ unsafe fn export_sec1_private_key_info_read(mut bytes: u64, mut bytes_len: u64, 
   if t0 == 0 {
     break 'after_5;
   }
-  if (v12 & 255) != 1 {
+  if (v11 & 255) != 1 {
     break 'after_5;
   }
-  if (v11 & 255) != 6 {
+  if (v10 & 255) != 6 {
     break 'after_5;
   }
-  curves_curve_Curve_from_content(frame.wrapping_add(8), v10, v9);
+  curves_curve_Curve_from_content(frame.wrapping_add(8), v9, v8);
   if (load8(frame.wrapping_add(8)) as u32) != 1 {
     break 'after_5;
   }
-  v12 = load8(frame.wrapping_add(9)) as u32;
-  store64(frame.wrapping_add(296), 0);
-  store64(frame.wrapping_add(304), 0);
-  store64(frame.wrapping_add(312), 0);
-  v14 = u32::from((v7 & 255) == 1);
-  bytes = if v14 != 0 { v5 } else { 0u64 };
-  v13 = if v14 != 0 { v6 } else { 0u64 };
+  v12 = 0;
+  bytes = 0;
   'after_6: {
-  if (v4 & 255) != 1 {
+  if (v6 & 255) != 1 {
     break 'after_6;
   }
-  store64(frame.wrapping_add(312), load64(frame.wrapping_add(32)));
-  store64(frame.wrapping_add(304), load64(frame.wrapping_add(24)));
-  store64(frame.wrapping_add(296), load64(frame.wrapping_add(16)));
-  }
-  store64(frame.wrapping_add(56), bytes);
-  store64(frame.wrapping_add(48), v13);
-  store64(frame.wrapping_add(72), load64(frame.wrapping_add(296)));
-  store64(frame.wrapping_add(80), load64(frame.wrapping_add(304)));
-  store64(frame.wrapping_add(88), load64(frame.wrapping_add(312)));
-  store64(frame.wrapping_add(64), (v4 as u64) & 255);
-  store64(frame.wrapping_add(40), (v7 as u64) & 255);
-  let t1 = sec1_c_fields_fields_len(frame.wrapping_add(40));
-  bytes = t1;
-  if v8 > 0xfffffff {
+  'after_8: {
+  'after_7: {
+  v14 = v5 as u32;
+  if v14 >= 128 {
     break 'after_7;
+  }
+  bytes = 0xfffffffffffffffe;
+  break 'after_8;
   }
   'after_9: {
-  'after_8: {
-  if v8 >= 128 {
-    break 'after_8;
+  if v14 >= 256 {
+    break 'after_9;
   }
-  v13 = 2;
-  break 'after_9;
+  bytes = 0xfffffffffffffffd;
+  break 'after_8;
   }
   'after_10: {
-  if v8 >= 256 {
+  if v14 >= 0x10000 {
     break 'after_10;
   }
-  v13 = 3;
-  break 'after_9;
+  bytes = 0xfffffffffffffffc;
+  break 'after_8;
   }
+  bytes = if v14 < 0x1000000 { 0xfffffffffffffffbu64 } else { 0xfffffffffffffffau64 };
+  }
+  bytes = bytes.wrapping_sub(v5);
+  }
+  v14 = load8(frame.wrapping_add(9)) as u32;
   'after_11: {
-  if v8 >= 0x10000 {
+  if v4 == 0 {
     break 'after_11;
   }
-  v13 = 4;
-  break 'after_9;
-  }
-  v13 = if v8 < 0x1000000 { 5u64 } else { 6u64 };
-  }
-  v13 = v13.wrapping_add(v8);
   if v13 >= 0x10000000 {
-    break 'after_7;
+    break 'after_12;
+  }
+  'after_14: {
+  'after_13: {
+  if v13 >= 128 {
+    break 'after_13;
+  }
+  v12 = 0xfffffffffffffffe;
+  break 'after_14;
+  }
+  'after_15: {
+  if v13 >= 256 {
+    break 'after_15;
+  }
+  v12 = 0xfffffffffffffffd;
+  break 'after_14;
+  }
+  'after_16: {
+  if v13 >= 0x10000 {
+    break 'after_16;
+  }
+  v12 = 0xfffffffffffffffc;
+  break 'after_14;
+  }
+  v12 = if v13 < 0x1000000 { 0xfffffffffffffffbu64 } else { 0xfffffffffffffffau64 };
+  }
+  v12 = v12.wrapping_sub(v13);
+  }
+  if v7 >= 0x10000000 {
+    break 'after_12;
+  }
+  bytes = (bytes.wrapping_add(bytes_len)).wrapping_add(v12);
+  'after_18: {
+  'after_17: {
+  if v7 >= 128 {
+    break 'after_17;
+  }
+  bytes_len = 0xfffffffffffffffe;
+  break 'after_18;
+  }
+  'after_19: {
+  if v7 >= 256 {
+    break 'after_19;
+  }
+  bytes_len = 0xfffffffffffffffd;
+  break 'after_18;
+  }
+  'after_20: {
+  if v7 >= 0x10000 {
+    break 'after_20;
+  }
+  bytes_len = 0xfffffffffffffffc;
+  break 'after_18;
+  }
+  bytes_len = if v7 < 0x1000000 { 0xfffffffffffffffbu64 } else { 0xfffffffffffffffau64 };
   }
   store64(parts.wrapping_add(40), 1);
-  store64(parts.wrapping_add(32), v8);
+  store64(parts.wrapping_add(32), v7);
   store64(parts.wrapping_add(16), 1);
-  bytes = bytes_len.wrapping_sub(bytes);
-  store64(parts.wrapping_add(24), bytes.wrapping_sub(v8));
-  bytes_len = load64(constant(10384).wrapping_add(((v12 as u64) & 255) << 3));
-  store64(parts.wrapping_add(8), bytes_len);
-  store64(parts, bytes.wrapping_sub(v13.wrapping_add(bytes_len)));
+  store64(parts.wrapping_add(24), bytes.wrapping_sub(v7));
+  v12 = load64(constant(10384).wrapping_add(((v14 as u64) & 255) << 3));
+  store64(parts.wrapping_add(8), v12);
+  store64(parts, (bytes.wrapping_add(bytes_len)).wrapping_sub(v7.wrapping_add(v12)));
   v14 = 0;
   break 'after_5;
   }
-  v14 = load8(frame.wrapping_add(41)) as u32;
+  v14 = load8(frame.wrapping_add(17)) as u32;
   }
   v14 = load32(constant(10928).wrapping_add(((v14 as u64) & 255) << 2));
   }
@@ -35517,7 +35734,7 @@ unsafe fn export_sec1_signature_read(mut bytes: u64, bytes_len: u64, parts: u64)
     break 'after_10;
   }
   bytes = load64(frame.wrapping_add(48));
-  if bytes > 0xfffffff {
+  if bytes >= 0x10000000 {
     break 'after_11;
   }
   'after_13: {
@@ -35525,35 +35742,31 @@ unsafe fn export_sec1_signature_read(mut bytes: u64, bytes_len: u64, parts: u64)
   if bytes >= 128 {
     break 'after_12;
   }
-  v6 = 2;
+  v6 = 0xfffffffffffffffe;
   break 'after_13;
   }
   'after_14: {
   if bytes >= 256 {
     break 'after_14;
   }
-  v6 = 3;
+  v6 = 0xfffffffffffffffd;
   break 'after_13;
   }
   'after_15: {
   if bytes >= 0x10000 {
     break 'after_15;
   }
-  v6 = 4;
+  v6 = 0xfffffffffffffffc;
   break 'after_13;
   }
-  v6 = if bytes < 0x1000000 { 5u64 } else { 6u64 };
-  }
-  v6 = v6.wrapping_add(bytes);
-  if v6 >= 0x10000000 {
-    break 'after_11;
+  v6 = if bytes < 0x1000000 { 0xfffffffffffffffbu64 } else { 0xfffffffffffffffau64 };
   }
   store64(parts.wrapping_add(40), 1);
   store64(parts.wrapping_add(32), bytes);
   store64(parts.wrapping_add(16), 1);
   store64(parts.wrapping_add(8), v5);
   store64(parts.wrapping_add(24), bytes_len.wrapping_sub(bytes));
-  store64(parts, bytes_len.wrapping_sub(v5.wrapping_add(v6)));
+  store64(parts, (bytes_len.wrapping_sub(v5.wrapping_add(bytes))).wrapping_add(v6));
   v4 = 0;
   break 'after_10;
   }
@@ -35589,89 +35802,94 @@ unsafe fn export_sec1_tree_check(bytes: u64, bytes_len: u64, elements: u64) -> u
 
 // rattle::export sec1_private_key_read
 unsafe fn export_sec1_private_key_read(mut bytes: u64, mut bytes_len: u64, parts: u64) -> u32 {
-  let mut array = Frame::<528>::new();
+  let mut array = Frame::<400>::new();
   let frame = address(&raw mut array);
   let mut v4 = 0u32;
   let mut v5 = 0u64;
-  let mut v6 = 0u64;
-  let mut v7 = 0u32;
+  let mut v6 = 0u32;
+  let mut v7 = 0u64;
   let mut v8 = 0u64;
   let mut v9 = 0u64;
   let mut v10 = 0u64;
-  let mut v11 = 0u64;
+  let mut v11 = 0u32;
   let mut v12 = 0u32;
-  let mut v13 = 0u32;
+  let mut v13 = 0u64;
   let mut v14 = 0u64;
   let mut v15 = 0u32;
   let mut v16 = 0u32;
-  'after_16: {
+  let mut v17 = 0u64;
+  let mut v18 = 0u64;
   'after_6: {
+  'after_7: {
+  'after_21: {
   'after_1: {
   bytes = bytes.wrapping_add(if bytes == 0 { 4096u64 } else { 0u64 });
   let t0 = sec1_c_private_key_has_algorithm(bytes, bytes_len);
   if t0 == 0 {
     break 'after_1;
   }
+  store64(frame.wrapping_add(80), 0);
+  store64(frame.wrapping_add(88), 0);
+  store64(frame.wrapping_add(96), 0);
+  store64(frame.wrapping_add(104), 0);
+  store64(frame.wrapping_add(112), 0);
+  store64(frame.wrapping_add(120), 0);
+  store64(frame.wrapping_add(128), 0);
+  store64(frame.wrapping_add(136), 0);
+  store64(frame.wrapping_add(24), 0);
+  store64(frame.wrapping_add(32), 0);
+  store64(frame.wrapping_add(40), 0);
+  store64(frame.wrapping_add(48), 0);
+  store64(frame.wrapping_add(56), 0);
+  store64(frame.wrapping_add(64), 0);
+  store64(frame.wrapping_add(72), 0);
   v4 = 0;
-  fill(frame.wrapping_add(144), 0, 104);
-  fill(frame.wrapping_add(24), 0, 96);
-  fill(frame.wrapping_add(416), 0, 112);
-  fill(frame.wrapping_add(272), 0, 144);
-  pkix_private_key_PrivateKeyInfo_from_der(frame.wrapping_add(416), bytes, bytes_len);
-  'after_7: {
-  'after_12: {
+  fill(frame.wrapping_add(288), 0, 112);
+  fill(frame.wrapping_add(144), 0, 144);
+  pkix_private_key_PrivateKeyInfo_from_der(frame.wrapping_add(288), bytes, bytes_len);
   'after_4: {
   'after_5: {
   'after_3: {
   'after_2: {
-  if (load8(frame.wrapping_add(416)) as u32) != 0 {
+  if (load8(frame.wrapping_add(288)) as u32) != 0 {
     break 'after_2;
   }
-  store64(frame.wrapping_add(120), 0);
-  store64(frame.wrapping_add(128), 0);
-  store64(frame.wrapping_add(136), 0);
-  v5 = load64(frame.wrapping_add(520));
-  v6 = load64(frame.wrapping_add(512));
-  v7 = load8(frame.wrapping_add(504)) as u32;
-  v8 = load64(frame.wrapping_add(496));
-  v9 = load64(frame.wrapping_add(488));
-  v10 = load64(frame.wrapping_add(480));
-  v11 = load64(frame.wrapping_add(472));
-  v12 = load8(frame.wrapping_add(464)) as u32;
-  v13 = load8(frame.wrapping_add(440)) as u32;
-  v14 = load64(frame.wrapping_add(432));
-  bytes = load64(frame.wrapping_add(424));
+  v5 = load32(frame.wrapping_add(392)) as u64;
+  v6 = load8(frame.wrapping_add(376)) as u32;
+  v7 = load64(frame.wrapping_add(368));
+  v8 = load64(frame.wrapping_add(360));
+  v9 = load64(frame.wrapping_add(352));
+  v10 = load64(frame.wrapping_add(344));
+  v11 = load8(frame.wrapping_add(336)) as u32;
+  v12 = load8(frame.wrapping_add(312)) as u32;
+  v13 = load64(frame.wrapping_add(304));
+  bytes = load64(frame.wrapping_add(296));
+  v14 = 1;
   break 'after_3;
   }
-  v15 = load8(frame.wrapping_add(417)) as u32;
+  v15 = load8(frame.wrapping_add(289)) as u32;
   if v15 != 4 {
     break 'after_4;
   }
-  pkix_private_key_OneAsymmetricKey_from_der(frame.wrapping_add(272), bytes, bytes_len);
-  store64(frame.wrapping_add(120), load64(frame.wrapping_add(392)));
-  store64(frame.wrapping_add(128), load64(frame.wrapping_add(400)));
-  store64(frame.wrapping_add(136), load64(frame.wrapping_add(408)));
-  if (load8(frame.wrapping_add(272)) as u32) != 0 {
+  pkix_private_key_OneAsymmetricKey_from_der(frame.wrapping_add(144), bytes, bytes_len);
+  if (load8(frame.wrapping_add(144)) as u32) != 0 {
     break 'after_5;
   }
-  v4 = load8(frame.wrapping_add(384)) as u32;
-  v5 = load64(frame.wrapping_add(376));
-  v6 = load64(frame.wrapping_add(368));
-  v7 = load8(frame.wrapping_add(360)) as u32;
-  v8 = load64(frame.wrapping_add(352));
-  v9 = load64(frame.wrapping_add(344));
-  v10 = load64(frame.wrapping_add(336));
-  v11 = load64(frame.wrapping_add(328));
-  v12 = load8(frame.wrapping_add(320)) as u32;
-  v13 = load8(frame.wrapping_add(296)) as u32;
-  v14 = load64(frame.wrapping_add(288));
-  bytes = load64(frame.wrapping_add(280));
+  v14 = (load64(frame.wrapping_add(280))).wrapping_add(1);
+  v4 = u32::from((load8(frame.wrapping_add(256)) as u64) == 1);
+  v5 = load32(frame.wrapping_add(248)) as u64;
+  v6 = load8(frame.wrapping_add(232)) as u32;
+  v7 = load64(frame.wrapping_add(224));
+  v8 = load64(frame.wrapping_add(216));
+  v9 = load64(frame.wrapping_add(208));
+  v10 = load64(frame.wrapping_add(200));
+  v11 = load8(frame.wrapping_add(192)) as u32;
+  v12 = load8(frame.wrapping_add(168)) as u32;
+  v13 = load64(frame.wrapping_add(160));
+  bytes = load64(frame.wrapping_add(152));
   }
-  store64(frame.wrapping_add(264), load64(frame.wrapping_add(136)));
-  store64(frame.wrapping_add(256), load64(frame.wrapping_add(128)));
-  store64(frame.wrapping_add(248), load64(frame.wrapping_add(120)));
   v15 = 11;
-  if v14 != 7 {
+  if v13 != 7 {
     break 'after_6;
   }
   if (load8(bytes) as u32) != 42 {
@@ -35690,346 +35908,339 @@ unsafe fn export_sec1_private_key_read(mut bytes: u64, mut bytes_len: u64, parts
   if t1 == 0 {
     break 'after_6;
   }
-  if (v13 & 255) != 1 {
+  if (v12 & 255) != 1 {
     break 'after_6;
   }
-  if (v12 & 255) != 6 {
+  if (v11 & 255) != 6 {
     break 'after_6;
   }
-  curves_curve_Curve_from_content(frame.wrapping_add(16), v11, v10);
+  curves_curve_Curve_from_content(frame.wrapping_add(16), v10, v9);
   if (load8(frame.wrapping_add(16)) as u32) != 1 {
     break 'after_6;
   }
   v12 = load8(frame.wrapping_add(17)) as u32;
-  store64(frame.wrapping_add(272), constant(0));
-  v13 = 0;
-  bytes = frame.wrapping_add(280);
-  fill(bytes, 0, 96);
-  if v8 == 0 {
+  store64(frame.wrapping_add(152), 0);
+  store64(frame.wrapping_add(144), constant(0));
+  store64(frame.wrapping_add(160), 0);
+  store64(frame.wrapping_add(168), 0);
+  store64(frame.wrapping_add(176), 0);
+  store64(frame.wrapping_add(184), 0);
+  store64(frame.wrapping_add(192), 0);
+  store64(frame.wrapping_add(200), 0);
+  v15 = 0;
+  if v7 == 0 {
     break 'after_7;
   }
   'after_8: {
-  if (load8(v9) as u32) == 48 {
+  if (load8(v8) as u32) == 48 {
     break 'after_8;
   }
-  v13 = 1;
+  v15 = 1;
   break 'after_7;
   }
-  if v8 == 1 {
+  if v7 == 1 {
     break 'after_7;
   }
-  v10 = v9.wrapping_add(2);
-  v14 = v8.wrapping_add(0xfffffffffffffffe);
+  v13 = v8.wrapping_add(2);
+  bytes = v7.wrapping_add(0xfffffffffffffffe);
   'after_9: {
-  v15 = (load8(v9.wrapping_add(1)) as u32) as i8 as i32 as u32;
-  if (v15 as i32) >= (0u32 as i32) {
+  v11 = (load8(v8.wrapping_add(1)) as u32) as i8 as i32 as u32;
+  if (v11 as i32) >= (0u32 as i32) {
     break 'after_9;
   }
-  v13 = 2;
-  if ((v15.wrapping_add(123)) & 255) < 252 {
+  v15 = 2;
+  if ((v11.wrapping_add(123)) & 255) < 252 {
     break 'after_7;
   }
   'after_10: {
-  v11 = (v15 as i32 as i64 as u64).wrapping_add(128);
-  if v14 >= v11 {
+  v9 = (v11 as i32 as i64 as u64).wrapping_add(128);
+  if bytes >= v9 {
     break 'after_10;
   }
-  v13 = 0;
+  v15 = 0;
   break 'after_7;
   }
-  v15 = load8(v10) as u32;
+  v11 = load8(v13) as u32;
   v16 = 0;
   'after_11: {
-  if v11 == 1 {
+  if v9 == 1 {
     break 'after_11;
   }
-  v16 = v15 << 8;
-  v15 = v16 | (load8(v9.wrapping_add(3)) as u32);
-  if v11 == 2 {
+  v16 = v11 << 8;
+  v11 = v16 | (load8(v8.wrapping_add(3)) as u32);
+  if v9 == 2 {
     break 'after_11;
   }
-  v16 = v15 << 8;
-  v15 = v16 | (load8(v9.wrapping_add(4)) as u32);
-  if v11 == 3 {
+  v16 = v11 << 8;
+  v11 = v16 | (load8(v8.wrapping_add(4)) as u32);
+  if v9 == 3 {
     break 'after_11;
   }
-  v16 = v15 << 8;
-  v15 = v16 | (load8(v9.wrapping_add(5)) as u32);
+  v16 = v11 << 8;
+  v11 = v16 | (load8(v8.wrapping_add(5)) as u32);
   }
-  if v15 < 128 {
+  if v11 < 128 {
     break 'after_7;
   }
-  if ((load8(v10) as u32) & 255) == 0 {
+  if ((load8(v13) as u32) & 255) == 0 {
     break 'after_7;
   }
   if v16 > 0xfffffff {
     break 'after_7;
   }
-  v10 = v10.wrapping_add(v11);
-  v14 = v14.wrapping_sub(v11);
+  v13 = v13.wrapping_add(v9);
+  bytes = bytes.wrapping_sub(v9);
   }
-  v13 = 0;
-  v11 = v15 as u64;
-  if v14 < v11 {
+  v15 = 0;
+  v9 = v11 as u64;
+  if bytes < v9 {
     break 'after_7;
   }
-  sec1_private_key_EcPrivateKeyReadInPlace_read_content(frame.wrapping_add(8),
-      frame.wrapping_add(272), v10, v11);
+  sec1_borrowed_key_BorrowedKeyReadInPlace_read_content(frame.wrapping_add(8),
+      frame.wrapping_add(144), v13, v9);
+  'after_14: {
+  'after_12: {
   if (load8(frame.wrapping_add(8)) as u32) != 0 {
     break 'after_12;
   }
   'after_13: {
-  if v14 == v11 {
+  if bytes == v9 {
     break 'after_13;
   }
-  v13 = 3;
+  v15 = 3;
   break 'after_7;
   }
-  v14 = load64(frame.wrapping_add(272));
-  move_(frame.wrapping_add(24), bytes, 96);
-  store64(frame.wrapping_add(144), v14);
-  move_(frame.wrapping_add(152), frame.wrapping_add(24), 96);
-  'after_14: {
-  v13 = load8(frame.wrapping_add(160)) as u32;
-  if v13 != 1 {
+  bytes = frame.wrapping_add(152);
+  v13 = load64(bytes);
+  store64(frame.wrapping_add(24), v13);
+  v9 = load64(bytes.wrapping_add(8));
+  store64(frame.wrapping_add(32), v9);
+  v10 = load64(bytes.wrapping_add(16));
+  store64(frame.wrapping_add(40), v10);
+  v8 = load64(bytes.wrapping_add(24));
+  store64(frame.wrapping_add(48), v8);
+  v17 = load64(bytes.wrapping_add(32));
+  store64(frame.wrapping_add(56), v17);
+  v18 = load64(bytes.wrapping_add(40));
+  store64(frame.wrapping_add(64), v18);
+  bytes = load64(bytes.wrapping_add(48));
+  store64(frame.wrapping_add(72), bytes);
+  store64(frame.wrapping_add(80), load64(frame.wrapping_add(144)));
+  store64(frame.wrapping_add(88), v13);
+  store64(frame.wrapping_add(96), v9);
+  store64(frame.wrapping_add(104), v10);
+  store64(frame.wrapping_add(112), v8);
+  store64(frame.wrapping_add(120), v17);
+  store64(frame.wrapping_add(128), v18);
+  store64(frame.wrapping_add(136), bytes);
+  let t2 = sec1_c_private_key_names_curve(frame.wrapping_add(80), v12);
+  if t2 != 0 {
     break 'after_14;
   }
-  curves_curve_Curve_from_content(frame, frame.wrapping_add(176), load64(frame.wrapping_add(216)));
   v15 = 12;
-  if (load8(frame) as u32) != 1 {
-    break 'after_6;
+  break 'after_6;
   }
-  if ((load8(frame.wrapping_add(1)) as u32) & 255) != (v12 & 255) {
-    break 'after_6;
+  v15 = load8(frame.wrapping_add(9)) as u32;
+  if (v15 & 255) != 10 {
+    break 'after_7;
   }
+  v15 = 15;
+  break 'after_6;
   }
-  store64(frame.wrapping_add(432), 0);
-  store64(frame.wrapping_add(424), 0);
-  store64(frame.wrapping_add(416), 0);
-  v15 = u32::from((v7 & 255) == 1);
-  bytes = if v15 != 0 { v5 } else { 0u64 };
-  v14 = if v15 != 0 { v6 } else { 0u64 };
+  v13 = 0;
+  bytes = 0;
   'after_15: {
-  if (v4 & 255) != 1 {
+  if (v6 & 255) != 1 {
     break 'after_15;
   }
-  store64(frame.wrapping_add(432), load64(frame.wrapping_add(264)));
-  store64(frame.wrapping_add(424), load64(frame.wrapping_add(256)));
-  store64(frame.wrapping_add(416), load64(frame.wrapping_add(248)));
-  }
-  store64(frame.wrapping_add(320), load64(frame.wrapping_add(432)));
-  store64(frame.wrapping_add(312), load64(frame.wrapping_add(424)));
-  store64(frame.wrapping_add(304), load64(frame.wrapping_add(416)));
-  store64(frame.wrapping_add(288), bytes);
-  store64(frame.wrapping_add(280), v14);
-  store64(frame.wrapping_add(296), (v4 as u64) & 255);
-  store64(frame.wrapping_add(272), (v7 as u64) & 255);
-  let t2 = sec1_c_fields_fields_len(frame.wrapping_add(272));
-  v11 = t2;
-  if v8 > 0xfffffff {
+  'after_17: {
+  'after_16: {
+  v15 = v5 as u32;
+  if v15 >= 128 {
     break 'after_16;
+  }
+  bytes = 0xfffffffffffffffe;
+  break 'after_17;
   }
   'after_18: {
-  'after_17: {
-  if v8 >= 128 {
-    break 'after_17;
+  if v15 >= 256 {
+    break 'after_18;
   }
-  bytes = 2;
-  break 'after_18;
+  bytes = 0xfffffffffffffffd;
+  break 'after_17;
   }
   'after_19: {
-  if v8 >= 256 {
+  if v15 >= 0x10000 {
     break 'after_19;
   }
-  bytes = 3;
-  break 'after_18;
+  bytes = 0xfffffffffffffffc;
+  break 'after_17;
+  }
+  bytes = if v15 < 0x1000000 { 0xfffffffffffffffbu64 } else { 0xfffffffffffffffau64 };
+  }
+  bytes = bytes.wrapping_sub(v5);
   }
   'after_20: {
-  if v8 >= 0x10000 {
+  if v4 == 0 {
     break 'after_20;
   }
-  bytes = 4;
-  break 'after_18;
-  }
-  bytes = if v8 < 0x1000000 { 5u64 } else { 6u64 };
-  }
-  v9 = bytes.wrapping_add(v8);
-  if v9 >= 0x10000000 {
-    break 'after_16;
-  }
-  v14 = load64(constant(10384).wrapping_add(((v12 as u64) & 255) << 3));
-  v10 = 0;
-  bytes = load64(frame.wrapping_add(240));
-  'after_21: {
-  v15 = load8(frame.wrapping_add(224)) as u32;
-  if v15 != 1 {
+  if v14 >= 0x10000000 {
     break 'after_21;
   }
-  if bytes > 0xffffffe {
-    break 'after_16;
-  }
-  v10 = bytes.wrapping_add(1);
   'after_23: {
   'after_22: {
-  if bytes >= 127 {
+  if v14 >= 128 {
     break 'after_22;
   }
-  v5 = 2;
+  v13 = 0xfffffffffffffffe;
   break 'after_23;
   }
   'after_24: {
-  if bytes >= 255 {
+  if v14 >= 256 {
     break 'after_24;
   }
-  v5 = 3;
+  v13 = 0xfffffffffffffffd;
   break 'after_23;
   }
   'after_25: {
-  if bytes >= 65535 {
+  if v14 >= 0x10000 {
     break 'after_25;
   }
-  v5 = 4;
+  v13 = 0xfffffffffffffffc;
   break 'after_23;
   }
-  v5 = if bytes < 0xffffff { 5u64 } else { 6u64 };
+  v13 = if v14 < 0x1000000 { 0xfffffffffffffffbu64 } else { 0xfffffffffffffffau64 };
   }
-  v10 = v10.wrapping_add(v5);
-  if v10 > 0xfffffff {
-    break 'after_16;
+  v13 = v13.wrapping_sub(v14);
   }
+  if v7 >= 0x10000000 {
+    break 'after_21;
+  }
+  bytes_len = bytes.wrapping_add(bytes_len);
   'after_27: {
   'after_26: {
-  if v10 >= 128 {
+  if v7 >= 128 {
     break 'after_26;
   }
-  v5 = 2;
+  v14 = 0xfffffffffffffffe;
   break 'after_27;
   }
   'after_28: {
-  if v10 >= 256 {
+  if v7 >= 256 {
     break 'after_28;
   }
-  v5 = 3;
+  v14 = 0xfffffffffffffffd;
   break 'after_27;
   }
   'after_29: {
-  if v10 >= 0x10000 {
+  if v7 >= 0x10000 {
     break 'after_29;
   }
-  v5 = 4;
+  v14 = 0xfffffffffffffffc;
   break 'after_27;
   }
-  v5 = if v10 < 0x1000000 { 5u64 } else { 6u64 };
+  v14 = if v7 < 0x1000000 { 0xfffffffffffffffbu64 } else { 0xfffffffffffffffau64 };
   }
-  v10 = v5.wrapping_add(v10);
-  }
-  v10 = v8.wrapping_sub(v10);
-  'after_39: {
+  bytes = bytes_len.wrapping_add(v13);
+  v13 = load64(constant(10384).wrapping_add(((v12 as u64) & 255) << 3));
+  bytes_len = 0;
+  v9 = 0;
+  v10 = 0;
+  v8 = 0;
   'after_30: {
-  if v13 != 1 {
+  if (load8(frame.wrapping_add(120)) as u32) != 1 {
     break 'after_30;
   }
-  v5 = load64(frame.wrapping_add(216));
-  if v5 > 0xfffffff {
-    break 'after_16;
+  bytes_len = load64(frame.wrapping_add(136));
+  if bytes_len > 0xffffffe {
+    break 'after_21;
   }
+  v9 = bytes_len.wrapping_add(1);
   'after_32: {
   'after_31: {
-  if v5 >= 128 {
+  if bytes_len >= 127 {
     break 'after_31;
   }
-  v6 = 2;
+  v10 = 2;
   break 'after_32;
   }
   'after_33: {
-  if v5 >= 256 {
+  if bytes_len >= 255 {
     break 'after_33;
   }
-  v6 = 3;
+  v10 = 3;
   break 'after_32;
   }
   'after_34: {
-  if v5 >= 0x10000 {
+  if bytes_len >= 65535 {
     break 'after_34;
   }
-  v6 = 4;
+  v10 = 4;
   break 'after_32;
   }
-  v6 = if v5 < 0x1000000 { 5u64 } else { 6u64 };
+  v10 = if bytes_len < 0xffffff { 5u64 } else { 6u64 };
   }
-  v6 = v6.wrapping_add(v5);
-  if v6 > 0xfffffff {
-    break 'after_16;
+  v9 = v9.wrapping_add(v10);
+  if v9 > 0xfffffff {
+    break 'after_21;
   }
   'after_36: {
   'after_35: {
-  if v6 >= 128 {
+  if v9 >= 128 {
     break 'after_35;
   }
-  v5 = 0xfffffffffffffffe;
+  v10 = 0xfffffffffffffffe;
   break 'after_36;
   }
   'after_37: {
-  if v6 >= 256 {
+  if v9 >= 256 {
     break 'after_37;
   }
-  v5 = 0xfffffffffffffffd;
+  v10 = 0xfffffffffffffffd;
   break 'after_36;
   }
   'after_38: {
-  if v6 >= 0x10000 {
+  if v9 >= 0x10000 {
     break 'after_38;
   }
-  v5 = 0xfffffffffffffffc;
+  v10 = 0xfffffffffffffffc;
   break 'after_36;
   }
-  v5 = if v6 < 0x1000000 { 0xfffffffffffffffbu64 } else { 0xfffffffffffffffau64 };
+  v10 = if v9 < 0x1000000 { 0xfffffffffffffffbu64 } else { 0xfffffffffffffffau64 };
   }
-  let t3 = v10.wrapping_add(v5);
-  v5 = load64(frame.wrapping_add(152));
-  v10 = t3.wrapping_sub(v6.wrapping_add(v5));
-  break 'after_39;
+  v8 = bytes.wrapping_sub(bytes_len);
+  v10 = v10.wrapping_sub(v9);
+  v9 = 1;
   }
-  v5 = load64(frame.wrapping_add(152));
-  v10 = v10.wrapping_sub(v5);
-  }
-  store64(parts.wrapping_add(64), v15 as u64);
+  store64(parts.wrapping_add(64), v9);
+  store64(parts.wrapping_add(56), bytes_len);
+  store64(parts.wrapping_add(48), v8);
   store64(parts.wrapping_add(40), 1);
-  store64(parts.wrapping_add(32), v14);
-  bytes_len = bytes_len.wrapping_sub(v11);
-  store64(parts.wrapping_add(24), bytes_len.wrapping_sub(v9.wrapping_add(v14)));
+  store64(parts.wrapping_add(32), v13);
+  store64(parts.wrapping_add(24), (bytes.wrapping_add(v14)).wrapping_sub(v7.wrapping_add(v13)));
   store64(parts.wrapping_add(16), 1);
-  store64(parts.wrapping_add(8), v5);
-  bytes_len = bytes_len.wrapping_sub(v8);
-  store64(parts, v10.wrapping_add(bytes_len));
-  v4 = v15 & 1;
-  store64(parts.wrapping_add(56), if v4 != 0 { bytes } else { 0u64 });
-  let t4 = (if v4 != 0 { v8.wrapping_sub(if v15 != 0 { bytes } else { 0u64 }) } else { 0u64
-      }).wrapping_add(if v15 != 0 { bytes_len } else { 0u64 });
-  store64(parts.wrapping_add(48), t4);
+  bytes_len = load64(frame.wrapping_add(88));
+  store64(parts.wrapping_add(8), bytes_len);
+  let t3 = if (load8(frame.wrapping_add(96)) as u32) == 1 {
+      0xfffffffffffffffcu64.wrapping_sub(load64(frame.wrapping_add(112))) } else { 0u64 };
+  store64(parts, ((v10.wrapping_add(bytes)).wrapping_sub(bytes_len)).wrapping_add(t3));
   v15 = 0;
   break 'after_6;
   }
-  v15 = load8(frame.wrapping_add(273)) as u32;
+  v15 = load8(frame.wrapping_add(145)) as u32;
   }
   v15 = load32(constant(10928).wrapping_add(((v15 as u64) & 255) << 2));
   break 'after_6;
   }
-  v15 = 15;
-  v13 = load8(frame.wrapping_add(9)) as u32;
-  if (v13 & 255) == 10 {
-    break 'after_6;
-  }
-  }
-  v15 = load32(constant(10340).wrapping_add(((v13 as u64) & 255) << 2));
+  let t4 = sec1_c_key_sec1_key_read(bytes, bytes_len, parts);
+  v15 = t4;
   break 'after_6;
   }
-  let t5 = sec1_c_key_sec1_key_read(bytes, bytes_len, parts);
-  v15 = t5;
+  trap();
+  }
+  v15 = load32(constant(10340).wrapping_add(((v15 as u64) & 255) << 2));
   }
   return v15;
-  }
-  trap();
 }
 
 // rattle::export sec1_picture_lines
@@ -36408,6 +36619,225 @@ unsafe fn export_sec1_point_check(mut bytes: u64, bytes_len: u64, field_len: u64
   return 9;
 }
 
+// rattle::export sec1_point_read
+unsafe fn export_sec1_point_read(mut bytes: u64, mut bytes_len: u64, field_len: u64,
+    parts: u64) -> u32 {
+  let mut v4 = 0u32;
+  let mut v5 = 0u32;
+  let mut v6 = 0u64;
+  'after_7: {
+  'after_6: {
+  'after_1: {
+  'after_5: {
+  v4 = 10;
+  if (field_len.wrapping_add(0xffffffffffffffbd)) < 0xffffffffffffffbe {
+    break 'after_1;
+  }
+  v4 = 9;
+  if bytes_len == 0 {
+    break 'after_1;
+  }
+  'after_4: {
+  'after_3: {
+  'after_2: {
+  bytes = bytes.wrapping_add(if bytes == 0 { 4096u64 } else { 0u64 });
+  v5 = load8(bytes) as u32;
+  match v5 {
+  2 | 3 | 5 => {
+    break 'after_2;
+  }
+  0 => {
+    break 'after_3;
+  }
+  6 | 7 => {
+    break 'after_4;
+  }
+  4 => {
+    break 'after_5;
+  }
+  _ => {
+    break 'after_1;
+  }
+  }
+  }
+  if bytes_len == (field_len.wrapping_add(1)) {
+    break 'after_6;
+  }
+  break 'after_1;
+  }
+  if bytes_len != 1 {
+    break 'after_1;
+  }
+  bytes_len = 0;
+  v4 = 0;
+  bytes = 0;
+  v5 = 0;
+  v6 = 0;
+  break 'after_7;
+  }
+  if bytes_len != ((field_len << 1) | 1) {
+    break 'after_1;
+  }
+  if (((load8((bytes.wrapping_add(bytes_len)).wrapping_add(0xffffffffffffffff)) as u32) ^ v5) &
+      1) != 0 {
+    break 'after_1;
+  }
+  break 'after_6;
+  }
+  if bytes_len == ((field_len << 1) | 1) {
+    break 'after_6;
+  }
+  }
+  return v4;
+  }
+  bytes = v5 as u64;
+  v4 = (u32::from(v5 == 4)) | (u32::from(v5 > 5));
+  v6 = if v4 != 0 { field_len } else { 0u64 };
+  v5 = 1;
+  bytes_len = field_len;
+  }
+  store64(parts, bytes);
+  store64(parts.wrapping_add(48), v4 as u64);
+  store64(parts.wrapping_add(40), if v4 != 0 { v6 } else { 0u64 });
+  bytes = v5 as u64;
+  store64(parts.wrapping_add(24), bytes);
+  store64(parts.wrapping_add(16), if v5 != 0 { bytes_len } else { 0u64 });
+  store64(parts.wrapping_add(8), bytes);
+  store64(parts.wrapping_add(32), if v4 != 0 { field_len.wrapping_add(1) } else { 0u64 });
+  return 0;
+}
+
+// rattle::export sec1_public_key_read
+unsafe fn export_sec1_public_key_read(mut bytes: u64, bytes_len: u64, parts: u64) -> u32 {
+  let mut array = Frame::<112>::new();
+  let frame = address(&raw mut array);
+  let mut v4 = 0u32;
+  let mut v5 = 0u64;
+  let mut v6 = 0u64;
+  let mut v7 = 0u32;
+  let mut v8 = 0u64;
+  let mut v9 = 0u64;
+  let mut v10 = 0u32;
+  let mut v11 = 0u32;
+  'after_2: {
+  'after_1: {
+  fill(frame.wrapping_add(16), 0, 96);
+  pkix_public_key_SubjectPublicKeyInfo_from_der(frame.wrapping_add(16),
+      bytes.wrapping_add(if bytes == 0 { 4096u64 } else { 0u64 }), bytes_len);
+  if (load8(frame.wrapping_add(16)) as u32) != 0 {
+    break 'after_1;
+  }
+  v4 = 11;
+  if (load64(frame.wrapping_add(32))) != 7 {
+    break 'after_2;
+  }
+  bytes = load64(frame.wrapping_add(24));
+  if (load8(bytes) as u32) != 42 {
+    break 'after_2;
+  }
+  if ((load8(bytes.wrapping_add(1)) as u32) & 255) != 134 {
+    break 'after_2;
+  }
+  if ((load8(bytes.wrapping_add(2)) as u32) & 255) != 72 {
+    break 'after_2;
+  }
+  if ((load8(bytes.wrapping_add(3)) as u32) & 255) != 206 {
+    break 'after_2;
+  }
+  v5 = load64(frame.wrapping_add(104));
+  v6 = load64(frame.wrapping_add(96));
+  v7 = load8(frame.wrapping_add(88)) as u32;
+  v8 = load64(frame.wrapping_add(80));
+  v9 = load64(frame.wrapping_add(72));
+  v10 = load8(frame.wrapping_add(64)) as u32;
+  v11 = load8(frame.wrapping_add(40)) as u32;
+  let t0 = core_cmp_slices_groups_equal(bytes, 7, constant(281));
+  if t0 == 0 {
+    break 'after_2;
+  }
+  if (v11 & 255) != 1 {
+    break 'after_2;
+  }
+  if (v10 & 255) != 6 {
+    break 'after_2;
+  }
+  curves_curve_Curve_from_content(frame.wrapping_add(8), v9, v8);
+  if (load8(frame.wrapping_add(8)) as u32) != 1 {
+    break 'after_2;
+  }
+  v4 = 9;
+  if (v7 & 255) != 0 {
+    break 'after_2;
+  }
+  if v5 == 0 {
+    break 'after_2;
+  }
+  v9 = load8(frame.wrapping_add(9)) as u64;
+  v8 = load64(constant(11728).wrapping_add((v9 & 255) << 3));
+  bytes = 1;
+  'after_8: {
+  'after_7: {
+  'after_6: {
+  'after_5: {
+  'after_4: {
+  'after_3: {
+  v11 = load8(v6) as u32;
+  match v11 {
+  4 => {
+    break 'after_3;
+  }
+  2 | 3 | 5 => {
+    break 'after_4;
+  }
+  0 => {
+    break 'after_5;
+  }
+  6 | 7 => {
+    break 'after_6;
+  }
+  _ => {
+    break 'after_2;
+  }
+  }
+  }
+  if v5 == ((v8 << 1) | 1) {
+    break 'after_7;
+  }
+  break 'after_2;
+  }
+  bytes = v8 | 1;
+  }
+  v8 = 0xfffffffffffffffe;
+  if v5 == bytes {
+    break 'after_8;
+  }
+  break 'after_2;
+  }
+  if v5 != ((v8 << 1) | 1) {
+    break 'after_2;
+  }
+  if (((load8((v6.wrapping_add(v5)).wrapping_add(0xffffffffffffffff)) as u32) ^ v11) & 1) != 0 {
+    break 'after_2;
+  }
+  }
+  v8 = if v5 < 127 { 0xfffffffffffffffeu64 } else { 0xfffffffffffffffdu64 };
+  }
+  store64(parts.wrapping_add(40), 1);
+  store64(parts.wrapping_add(32), v5);
+  store64(parts.wrapping_add(16), 1);
+  store64(parts.wrapping_add(24), bytes_len.wrapping_sub(v5));
+  bytes = load64(constant(10384).wrapping_add((v9 & 255) << 3));
+  store64(parts.wrapping_add(8), bytes);
+  store64(parts,
+      ((bytes_len.wrapping_add(v5 ^ 0xffffffffffffffff)).wrapping_add(v8)).wrapping_sub(bytes));
+  v4 = 0;
+  break 'after_2;
+  }
+  v4 = load32(constant(10928).wrapping_add((load8(frame.wrapping_add(17)) as u64) << 2));
+  }
+  return v4;
+}
+
 // rattle::export sec1_point_compare
 unsafe fn export_sec1_point_compare(first: u64, first_len: u64, second: u64, second_len: u64,
     mut field_len: u64, order: u64) -> u32 {
@@ -36637,234 +37067,14 @@ unsafe fn export_sec1_point_compare(first: u64, first_len: u64, second: u64, sec
   return 0;
 }
 
-// rattle::export sec1_point_read
-unsafe fn export_sec1_point_read(mut bytes: u64, mut bytes_len: u64, field_len: u64,
-    parts: u64) -> u32 {
-  let mut v4 = 0u32;
-  let mut v5 = 0u32;
-  let mut v6 = 0u64;
-  'after_7: {
-  'after_6: {
-  'after_1: {
-  'after_5: {
-  v4 = 10;
-  if (field_len.wrapping_add(0xffffffffffffffbd)) < 0xffffffffffffffbe {
-    break 'after_1;
-  }
-  v4 = 9;
-  if bytes_len == 0 {
-    break 'after_1;
-  }
-  'after_4: {
-  'after_3: {
-  'after_2: {
-  bytes = bytes.wrapping_add(if bytes == 0 { 4096u64 } else { 0u64 });
-  v5 = load8(bytes) as u32;
-  match v5 {
-  2 | 3 | 5 => {
-    break 'after_2;
-  }
-  0 => {
-    break 'after_3;
-  }
-  6 | 7 => {
-    break 'after_4;
-  }
-  4 => {
-    break 'after_5;
-  }
-  _ => {
-    break 'after_1;
-  }
-  }
-  }
-  if bytes_len == (field_len.wrapping_add(1)) {
-    break 'after_6;
-  }
-  break 'after_1;
-  }
-  if bytes_len != 1 {
-    break 'after_1;
-  }
-  bytes_len = 0;
-  v4 = 0;
-  bytes = 0;
-  v5 = 0;
-  v6 = 0;
-  break 'after_7;
-  }
-  if bytes_len != ((field_len << 1) | 1) {
-    break 'after_1;
-  }
-  if (((load8((bytes.wrapping_add(bytes_len)).wrapping_add(0xffffffffffffffff)) as u32) ^ v5) &
-      1) != 0 {
-    break 'after_1;
-  }
-  break 'after_6;
-  }
-  if bytes_len == ((field_len << 1) | 1) {
-    break 'after_6;
-  }
-  }
-  return v4;
-  }
-  bytes = v5 as u64;
-  v4 = (u32::from(v5 == 4)) | (u32::from(v5 > 5));
-  v6 = if v4 != 0 { field_len } else { 0u64 };
-  v5 = 1;
-  bytes_len = field_len;
-  }
-  store64(parts, bytes);
-  store64(parts.wrapping_add(48), v4 as u64);
-  store64(parts.wrapping_add(40), if v4 != 0 { v6 } else { 0u64 });
-  bytes = v5 as u64;
-  store64(parts.wrapping_add(24), bytes);
-  store64(parts.wrapping_add(16), if v5 != 0 { bytes_len } else { 0u64 });
-  store64(parts.wrapping_add(8), bytes);
-  store64(parts.wrapping_add(32), if v4 != 0 { field_len.wrapping_add(1) } else { 0u64 });
-  return 0;
-}
-
-// rattle::export sec1_public_key_read
-unsafe fn export_sec1_public_key_read(mut bytes: u64, bytes_len: u64, parts: u64) -> u32 {
-  let mut array = Frame::<112>::new();
-  let frame = address(&raw mut array);
-  let mut v4 = 0u32;
-  let mut v5 = 0u64;
-  let mut v6 = 0u64;
-  let mut v7 = 0u32;
-  let mut v8 = 0u64;
-  let mut v9 = 0u64;
-  let mut v10 = 0u32;
-  let mut v11 = 0u32;
-  'after_2: {
-  'after_1: {
-  fill(frame.wrapping_add(16), 0, 96);
-  pkix_public_key_SubjectPublicKeyInfo_from_der(frame.wrapping_add(16),
-      bytes.wrapping_add(if bytes == 0 { 4096u64 } else { 0u64 }), bytes_len);
-  if (load8(frame.wrapping_add(16)) as u32) != 0 {
-    break 'after_1;
-  }
-  v4 = 11;
-  if (load64(frame.wrapping_add(32))) != 7 {
-    break 'after_2;
-  }
-  bytes = load64(frame.wrapping_add(24));
-  if (load8(bytes) as u32) != 42 {
-    break 'after_2;
-  }
-  if ((load8(bytes.wrapping_add(1)) as u32) & 255) != 134 {
-    break 'after_2;
-  }
-  if ((load8(bytes.wrapping_add(2)) as u32) & 255) != 72 {
-    break 'after_2;
-  }
-  if ((load8(bytes.wrapping_add(3)) as u32) & 255) != 206 {
-    break 'after_2;
-  }
-  v5 = load64(frame.wrapping_add(104));
-  v6 = load64(frame.wrapping_add(96));
-  v7 = load8(frame.wrapping_add(88)) as u32;
-  v8 = load64(frame.wrapping_add(80));
-  v9 = load64(frame.wrapping_add(72));
-  v10 = load8(frame.wrapping_add(64)) as u32;
-  v11 = load8(frame.wrapping_add(40)) as u32;
-  let t0 = core_cmp_slices_groups_equal(bytes, 7, constant(281));
-  if t0 == 0 {
-    break 'after_2;
-  }
-  if (v11 & 255) != 1 {
-    break 'after_2;
-  }
-  if (v10 & 255) != 6 {
-    break 'after_2;
-  }
-  curves_curve_Curve_from_content(frame.wrapping_add(8), v9, v8);
-  if (load8(frame.wrapping_add(8)) as u32) != 1 {
-    break 'after_2;
-  }
-  v4 = 9;
-  if (v7 & 255) != 0 {
-    break 'after_2;
-  }
-  if v5 == 0 {
-    break 'after_2;
-  }
-  v9 = load8(frame.wrapping_add(9)) as u64;
-  v8 = load64(constant(11728).wrapping_add((v9 & 255) << 3));
-  bytes = 1;
-  'after_8: {
-  'after_7: {
-  'after_6: {
-  'after_5: {
-  'after_4: {
-  'after_3: {
-  v11 = load8(v6) as u32;
-  match v11 {
-  4 => {
-    break 'after_3;
-  }
-  2 | 3 | 5 => {
-    break 'after_4;
-  }
-  0 => {
-    break 'after_5;
-  }
-  6 | 7 => {
-    break 'after_6;
-  }
-  _ => {
-    break 'after_2;
-  }
-  }
-  }
-  if v5 == ((v8 << 1) | 1) {
-    break 'after_7;
-  }
-  break 'after_2;
-  }
-  bytes = v8 | 1;
-  }
-  v8 = 0xfffffffffffffffe;
-  if v5 == bytes {
-    break 'after_8;
-  }
-  break 'after_2;
-  }
-  if v5 != ((v8 << 1) | 1) {
-    break 'after_2;
-  }
-  if (((load8((v6.wrapping_add(v5)).wrapping_add(0xffffffffffffffff)) as u32) ^ v11) & 1) != 0 {
-    break 'after_2;
-  }
-  }
-  v8 = if v5 < 127 { 0xfffffffffffffffeu64 } else { 0xfffffffffffffffdu64 };
-  }
-  store64(parts.wrapping_add(40), 1);
-  store64(parts.wrapping_add(32), v5);
-  store64(parts.wrapping_add(16), 1);
-  store64(parts.wrapping_add(24), bytes_len.wrapping_sub(v5));
-  bytes = load64(constant(10384).wrapping_add((v9 & 255) << 3));
-  store64(parts.wrapping_add(8), bytes);
-  store64(parts,
-      ((bytes_len.wrapping_add(v5 ^ 0xffffffffffffffff)).wrapping_add(v8)).wrapping_sub(bytes));
-  v4 = 0;
-  break 'after_2;
-  }
-  v4 = load32(constant(10928).wrapping_add((load8(frame.wrapping_add(17)) as u64) << 2));
-  }
-  return v4;
-}
-
 // rattle::export sec1_key_len
 unsafe fn export_sec1_key_len(private_key: u64, private_key_len: u64, mut curve: u64,
-    curve_len: u64, mut public_key: u64, public_key_len: u64, has_public_key: u64,
-    len: u64) -> u32 {
-  let mut array = Frame::<192>::new();
+    curve_len: u64, public_key: u64, public_key_len: u64, has_public_key: u64, len: u64) -> u32 {
+  let mut array = Frame::<80>::new();
   let frame = address(&raw mut array);
   let mut v8 = 0u64;
   let mut v10 = 0u64;
-  let mut v11 = 0u32;
+  let mut v11 = 0u64;
   let mut v12 = 0u32;
   let mut v13 = 0u32;
   let mut v14 = 0u32;
@@ -36874,166 +37084,139 @@ unsafe fn export_sec1_key_len(private_key: u64, private_key_len: u64, mut curve:
   let mut v18 = 0u32;
   let mut v19 = 0u32;
   v8 = frame;
-  'after_4: {
-  'after_1: {
+  'after_6: {
   'after_3: {
-  v10 = 0;
-  v11 = u32::from(curve_len == 0);
-  if v11 != 0 {
+  'after_5: {
+  'after_4: {
+  v10 = curve.wrapping_add(if curve == 0 { 4096u64 } else { 0u64 });
+  'after_1: {
+  if curve_len > 8 {
     break 'after_1;
   }
-  curve = curve.wrapping_add(if curve == 0 { 4096u64 } else { 0u64 });
+  v11 = curve_len;
+  curve = 0;
   'after_2: {
-  if curve_len != 8 {
+  match curve_len as u32 {
+  8 => {
     break 'after_2;
   }
-  v12 = (load8(curve) as u32) as i8 as i32 as u32;
-  v13 = (load8(curve.wrapping_add(1)) as u32) as i8 as i32 as u32;
-  let t0 = (u32::from((v12 & 255) == 128)) | ((u32::from((v13 & 255) == 128)) << 1);
-  v14 = (load8(curve.wrapping_add(3)) as u32) as i8 as i32 as u32;
-  v15 = (load8(curve.wrapping_add(2)) as u32) as i8 as i32 as u32;
-  let t1 = ((u32::from((v14 & 255) == 128)) << 3) | ((u32::from((v15 & 255) == 128)) << 2);
-  v16 = (load8(curve.wrapping_add(4)) as u32) as i8 as i32 as u32;
-  v17 = (load8(curve.wrapping_add(5)) as u32) as i8 as i32 as u32;
-  let t2 = (u32::from((v16 & 255) == 128)) | ((u32::from((v17 & 255) == 128)) << 1);
-  v18 = (load8(curve.wrapping_add(7)) as u32) as i8 as i32 as u32;
-  v19 = (load8(curve.wrapping_add(6)) as u32) as i8 as i32 as u32;
-  let t3 = ((u32::from((v18 & 255) == 128)) << 3) | ((u32::from((v19 & 255) == 128)) << 2);
-  if ((t0 | t1) | ((t2 | t3) << 4)) != 0 {
+  1 | 2 | 3 | 4 | 5 | 6 | 7 => {
+    break 'after_1;
+  }
+  _ => {
     break 'after_3;
   }
-  v10 = 1;
+  }
+  }
+  v12 = (load8(v10) as u32) as i8 as i32 as u32;
+  v13 = (load8(v10.wrapping_add(1)) as u32) as i8 as i32 as u32;
+  let t0 = (u32::from((v12 & 255) == 128)) | ((u32::from((v13 & 255) == 128)) << 1);
+  v14 = (load8(v10.wrapping_add(3)) as u32) as i8 as i32 as u32;
+  v15 = (load8(v10.wrapping_add(2)) as u32) as i8 as i32 as u32;
+  let t1 = ((u32::from((v14 & 255) == 128)) << 3) | ((u32::from((v15 & 255) == 128)) << 2);
+  v16 = (load8(v10.wrapping_add(4)) as u32) as i8 as i32 as u32;
+  v17 = (load8(v10.wrapping_add(5)) as u32) as i8 as i32 as u32;
+  let t2 = (u32::from((v16 & 255) == 128)) | ((u32::from((v17 & 255) == 128)) << 1);
+  v18 = (load8(v10.wrapping_add(7)) as u32) as i8 as i32 as u32;
+  v19 = (load8(v10.wrapping_add(6)) as u32) as i8 as i32 as u32;
+  let t3 = ((u32::from((v18 & 255) == 128)) << 3) | ((u32::from((v19 & 255) == 128)) << 2);
+  if ((t0 | t1) | ((t2 | t3) << 4)) != 0 {
+    break 'after_4;
+  }
+  v11 = 1;
   let t4 = ((u32::from((v12 as i32) > (0xffffffffu32 as i32))) | ((u32::from((v13 as i32) >
       (0xffffffffu32 as i32))) << 1)) | (((u32::from((v14 as i32) > (0xffffffffu32 as i32))) << 3) |
       ((u32::from((v15 as i32) > (0xffffffffu32 as i32))) << 2));
   let t5 = ((u32::from((v16 as i32) > (0xffffffffu32 as i32))) | ((u32::from((v17 as i32) >
       (0xffffffffu32 as i32))) << 1)) | (((u32::from((v18 as i32) > (0xffffffffu32 as i32))) << 3) |
       ((u32::from((v19 as i32) > (0xffffffffu32 as i32))) << 2));
-  v8 = (t4 | (t5 << 4)) as u64;
-  if ((v8 >> 1) | v8) == 255 {
-    break 'after_1;
+  curve = (t4 | (t5 << 4)) as u64;
+  if ((curve >> 1) | curve) == 255 {
+    break 'after_5;
   }
-  break 'after_3;
+  break 'after_4;
   }
-  if curve_len <= 39 {
-    break 'after_3;
+  if (curve_len.wrapping_add(0xffffffffffffffd8)) >= 0xffffffffffffffd9 {
+    break 'after_4;
   }
   v12 = 5;
-  break 'after_4;
+  break 'after_6;
   }
   v8 = curve_len.wrapping_add(0xffffffffffffffff);
   v12 = 0;
-  'again_11: loop {
-  v10 = 1;
-  'after_10: {
-  'after_5: {
+  curve = v10;
+  'again_13: loop {
+  v11 = 1;
+  'after_12: {
+  'after_7: {
   v13 = (load8(curve) as u32) as i8 as i32 as u32;
   if (v13 as i32) > (0xffffffffu32 as i32) {
-    break 'after_5;
-  }
-  'after_8: {
-  'after_6: {
-  v14 = v12 & 255;
-  if v14 != 0 {
-    break 'after_6;
-  }
-  'after_7: {
-  if v13 != 0xffffff80 {
     break 'after_7;
   }
-  v12 = 5;
-  break 'after_4;
-  }
-  v12 = if v13 < 0xffffff90 { 1u32 } else { 2u32 };
-  break 'after_8;
+  'after_10: {
+  'after_8: {
+  v14 = v12 & 255;
+  if v14 != 0 {
+    break 'after_8;
   }
   'after_9: {
-  if v14 <= 3 {
+  if v13 != 0xffffff80 {
     break 'after_9;
   }
   v12 = 5;
-  break 'after_4;
+  break 'after_6;
+  }
+  v12 = if v13 < 0xffffff90 { 1u32 } else { 2u32 };
+  break 'after_10;
+  }
+  'after_11: {
+  if v14 <= 3 {
+    break 'after_11;
+  }
+  v12 = 5;
+  break 'after_6;
   }
   v12 = v12.wrapping_add(1);
   }
   if v8 != 0 {
-    break 'after_10;
+    break 'after_12;
   }
   v12 = 5;
-  break 'after_4;
+  break 'after_6;
   }
   v12 = 0;
   if v8 == 0 {
-    break 'after_1;
+    break 'after_5;
   }
   }
   curve = curve.wrapping_add(1);
   v8 = v8.wrapping_add(0xffffffffffffffff);
-  continue 'again_11;
+  continue 'again_13;
   }
   }
-  store64(frame.wrapping_add(8), private_key_len);
-  store64(frame, private_key.wrapping_add(if private_key == 0 { 4096u64 } else { 0u64 }));
+  curve = v10;
+  }
+  store64(frame.wrapping_add(48), curve_len);
+  store64(frame.wrapping_add(40), curve);
+  store64(frame.wrapping_add(32), v11);
+  store64(frame.wrapping_add(24), private_key_len);
+  store64(frame.wrapping_add(16),
+      private_key.wrapping_add(if private_key == 0 { 4096u64 } else { 0u64 }));
   v12 = u32::from(has_public_key != 0);
-  store64(frame.wrapping_add(96), if v12 != 0 { public_key_len } else { 0u64 });
-  store64(frame.wrapping_add(88), if v12 != 0 { public_key.wrapping_add(if public_key == 0 {
+  store64(frame.wrapping_add(72), if v12 != 0 { public_key_len } else { 0u64 });
+  store64(frame.wrapping_add(64), if v12 != 0 { public_key.wrapping_add(if public_key == 0 {
       4096u64 } else { 0u64 }) } else { 0u64 });
-  store64(frame.wrapping_add(176), 0);
-  store64(frame.wrapping_add(184), 0);
-  store64(frame.wrapping_add(168), 0);
-  curve = if v11 != 0 { 0u64 } else { frame.wrapping_add(32) };
-  v8 = v12 as u64;
-  'after_12: {
-  if has_public_key == 0 {
-    break 'after_12;
-  }
-  public_key = frame.wrapping_add(88);
-  store64(frame.wrapping_add(184), load64(public_key.wrapping_add(8)));
-  store64(frame.wrapping_add(176), load64(public_key));
-  }
-  store64(frame.wrapping_add(112), load64(frame.wrapping_add(8)));
-  store64(frame.wrapping_add(104), load64(frame));
-  store64(frame.wrapping_add(144), v8);
-  store64(frame.wrapping_add(136), curve_len);
-  store64(frame.wrapping_add(128), curve);
-  store64(frame.wrapping_add(120), v10);
-  store64(frame.wrapping_add(152), load64(frame.wrapping_add(176)));
-  store64(frame.wrapping_add(160), load64(frame.wrapping_add(184)));
-  sec1_der_part_Tuple2EncodePart_part_len(frame.wrapping_add(168), frame.wrapping_add(104));
-  'after_13: {
-  if (load8(frame.wrapping_add(168)) as u32) != 0 {
-    break 'after_13;
-  }
-  'after_15: {
+  store64(frame.wrapping_add(56), v12 as u64);
+  sec1_der_codec_element_len(frame, frame.wrapping_add(16));
   'after_14: {
-  v12 = load32(frame.wrapping_add(172));
-  if v12 >= 128 {
+  if (load8(frame) as u32) == 1 {
     break 'after_14;
   }
-  curve = 2;
-  break 'after_15;
-  }
-  'after_16: {
-  if v12 >= 256 {
-    break 'after_16;
-  }
-  curve = 3;
-  break 'after_15;
-  }
-  'after_17: {
-  if v12 >= 0x10000 {
-    break 'after_17;
-  }
-  curve = 4;
-  break 'after_15;
-  }
-  curve = if v12 < 0x1000000 { 5u64 } else { 6u64 };
-  }
-  store64(len, curve.wrapping_add(v12 as u64));
-  v12 = 0;
-  break 'after_4;
-  }
   v12 = 6;
+  break 'after_6;
+  }
+  store64(len, load64(frame.wrapping_add(8)));
+  v12 = 0;
   }
   return v12;
 }
@@ -38783,19 +38966,17 @@ unsafe fn export_sec1_private_key_info_fault_at(mut bytes: u64, bytes_len: u64,
 
 // rattle::export sec1_private_key_fault_at
 unsafe fn export_sec1_private_key_fault_at(mut bytes: u64, mut bytes_len: u64, offset: u64) -> u32 {
-  let mut array = Frame::<736>::new();
+  let mut array = Frame::<672>::new();
   let frame = address(&raw mut array);
   let mut v4 = 0u32;
   let mut v5 = 0u64;
   let mut v6 = 0u64;
   let mut v7 = 0u64;
-  let mut v8 = 0u32;
-  let mut v9 = 0u64;
+  let mut v8 = 0u64;
+  let mut v9 = 0u32;
   let mut v10 = 0u32;
-  let mut v11 = 0u64;
-  let mut v12 = 0u32;
-  'after_8: {
-  'after_11: {
+  'after_14: {
+  'after_10: {
   'after_1: {
   bytes = bytes.wrapping_add(if bytes == 0 { 4096u64 } else { 0u64 });
   let t0 = sec1_c_private_key_has_algorithm(bytes, bytes_len);
@@ -38803,127 +38984,128 @@ unsafe fn export_sec1_private_key_fault_at(mut bytes: u64, mut bytes_len: u64, o
     break 'after_1;
   }
   v4 = 0;
-  fill(frame.wrapping_add(168), 0, 136);
+  fill(frame.wrapping_add(160), 0, 136);
   v5 = 0;
-  store64(frame.wrapping_add(158), 0);
-  store64(frame.wrapping_add(152), 0);
+  store64(frame.wrapping_add(150), 0);
   store64(frame.wrapping_add(144), 0);
+  store64(frame.wrapping_add(136), 0);
+  store64(frame.wrapping_add(96), 0);
   store64(frame.wrapping_add(104), 0);
   store64(frame.wrapping_add(112), 0);
   store64(frame.wrapping_add(120), 0);
   store64(frame.wrapping_add(128), 0);
-  store64(frame.wrapping_add(136), 0);
-  store64(frame.wrapping_add(88), 0);
-  store64(frame.wrapping_add(96), 0);
-  store64(frame.wrapping_add(72), 0);
   store64(frame.wrapping_add(80), 0);
+  store64(frame.wrapping_add(88), 0);
+  store64(frame.wrapping_add(64), 0);
+  store64(frame.wrapping_add(72), 0);
+  store64(frame.wrapping_add(40), 0);
   store64(frame.wrapping_add(48), 0);
   store64(frame.wrapping_add(56), 0);
-  store64(frame.wrapping_add(64), 0);
+  store64(frame.wrapping_add(16), 0);
   store64(frame.wrapping_add(24), 0);
   store64(frame.wrapping_add(32), 0);
-  store64(frame.wrapping_add(40), 0);
-  fill(frame.wrapping_add(480), 0, 112);
-  store64(frame.wrapping_add(606), 0);
-  store64(frame.wrapping_add(600), 0);
-  store64(frame.wrapping_add(592), 0);
-  fill(frame.wrapping_add(304), 0, 144);
-  pkix_private_key_PrivateKeyInfo_from_der(frame.wrapping_add(480), bytes, bytes_len);
+  fill(frame.wrapping_add(560), 0, 112);
+  store64(frame.wrapping_add(550), 0);
+  store64(frame.wrapping_add(544), 0);
+  store64(frame.wrapping_add(536), 0);
+  fill(frame.wrapping_add(296), 0, 144);
+  pkix_private_key_PrivateKeyInfo_from_der(frame.wrapping_add(560), bytes, bytes_len);
   'after_3: {
   'after_2: {
-  if (load8(frame.wrapping_add(480)) as u32) != 0 {
+  if (load8(frame.wrapping_add(560)) as u32) != 0 {
     break 'after_2;
   }
-  store64(frame.wrapping_add(598), load64(frame.wrapping_add(488)));
-  store64(frame.wrapping_add(606), load64(frame.wrapping_add(496)));
-  store64(frame.wrapping_add(616), load64(frame.wrapping_add(512)));
-  store64(frame.wrapping_add(624), load64(frame.wrapping_add(520)));
-  store64(frame.wrapping_add(632), load64(frame.wrapping_add(528)));
-  store64(frame.wrapping_add(640), load64(frame.wrapping_add(536)));
-  store64(frame.wrapping_add(648), load64(frame.wrapping_add(544)));
-  store64(frame.wrapping_add(472), load64(frame.wrapping_add(560)));
-  store64(frame.wrapping_add(464), load64(frame.wrapping_add(552)));
-  v6 = load8(frame.wrapping_add(568)) as u64;
-  v7 = load8(frame.wrapping_add(504)) as u64;
+  store64(frame.wrapping_add(542), load64(frame.wrapping_add(568)));
+  store64(frame.wrapping_add(550), load64(frame.wrapping_add(576)));
+  store64(frame.wrapping_add(496), load64(frame.wrapping_add(592)));
+  store64(frame.wrapping_add(504), load64(frame.wrapping_add(600)));
+  store64(frame.wrapping_add(512), load64(frame.wrapping_add(608)));
+  store64(frame.wrapping_add(520), load64(frame.wrapping_add(616)));
+  store64(frame.wrapping_add(528), load64(frame.wrapping_add(624)));
+  store64(frame.wrapping_add(488), load64(frame.wrapping_add(640)));
+  store64(frame.wrapping_add(480), load64(frame.wrapping_add(632)));
+  v6 = load8(frame.wrapping_add(648)) as u64;
+  v7 = load8(frame.wrapping_add(584)) as u64;
   v5 = 0;
-  store64(frame.wrapping_add(728), 0);
-  store64(frame.wrapping_add(720), 0);
-  store64(frame.wrapping_add(712), 0);
-  store64(frame.wrapping_add(456), load64(frame.wrapping_add(584)));
-  store64(frame.wrapping_add(448), load64(frame.wrapping_add(576)));
+  store64(frame.wrapping_add(456), 0);
+  store64(frame.wrapping_add(448), 0);
+  store64(frame.wrapping_add(440), 0);
+  store64(frame.wrapping_add(472), load64(frame.wrapping_add(664)));
+  store64(frame.wrapping_add(464), load64(frame.wrapping_add(656)));
   v4 = 1;
   break 'after_3;
   }
   v6 = 0;
   v7 = 0;
   'after_4: {
-  if (load8(frame.wrapping_add(481)) as u32) != 4 {
+  if (load8(frame.wrapping_add(561)) as u32) != 4 {
     break 'after_4;
   }
-  pkix_private_key_OneAsymmetricKey_from_der(frame.wrapping_add(304), bytes, bytes_len);
-  v4 = u32::from((load8(frame.wrapping_add(304)) as u32) == 0);
-  v5 = load64(frame.wrapping_add(416));
-  v6 = load64(frame.wrapping_add(392));
-  v7 = load64(frame.wrapping_add(328));
+  pkix_private_key_OneAsymmetricKey_from_der(frame.wrapping_add(296), bytes, bytes_len);
+  v4 = u32::from((load8(frame.wrapping_add(296)) as u32) == 0);
+  v5 = load64(frame.wrapping_add(408));
+  v6 = load64(frame.wrapping_add(384));
+  v7 = load64(frame.wrapping_add(320));
   }
-  store64(frame.wrapping_add(606), load64(frame.wrapping_add(320)));
-  store64(frame.wrapping_add(598), load64(frame.wrapping_add(312)));
-  store64(frame.wrapping_add(616), load64(frame.wrapping_add(336)));
-  store64(frame.wrapping_add(624), load64(frame.wrapping_add(344)));
-  store64(frame.wrapping_add(632), load64(frame.wrapping_add(352)));
-  store64(frame.wrapping_add(640), load64(frame.wrapping_add(360)));
-  store64(frame.wrapping_add(648), load64(frame.wrapping_add(368)));
-  store64(frame.wrapping_add(464), load64(frame.wrapping_add(376)));
-  store64(frame.wrapping_add(472), load64(frame.wrapping_add(384)));
-  store64(frame.wrapping_add(456), load64(frame.wrapping_add(408)));
-  store64(frame.wrapping_add(448), load64(frame.wrapping_add(400)));
-  store64(frame.wrapping_add(728), load64(frame.wrapping_add(440)));
-  store64(frame.wrapping_add(720), load64(frame.wrapping_add(432)));
-  store64(frame.wrapping_add(712), load64(frame.wrapping_add(424)));
+  store64(frame.wrapping_add(550), load64(frame.wrapping_add(312)));
+  store64(frame.wrapping_add(542), load64(frame.wrapping_add(304)));
+  store64(frame.wrapping_add(496), load64(frame.wrapping_add(328)));
+  store64(frame.wrapping_add(504), load64(frame.wrapping_add(336)));
+  store64(frame.wrapping_add(512), load64(frame.wrapping_add(344)));
+  store64(frame.wrapping_add(520), load64(frame.wrapping_add(352)));
+  store64(frame.wrapping_add(528), load64(frame.wrapping_add(360)));
+  store64(frame.wrapping_add(480), load64(frame.wrapping_add(368)));
+  store64(frame.wrapping_add(488), load64(frame.wrapping_add(376)));
+  store64(frame.wrapping_add(472), load64(frame.wrapping_add(400)));
+  store64(frame.wrapping_add(464), load64(frame.wrapping_add(392)));
+  store64(frame.wrapping_add(456), load64(frame.wrapping_add(432)));
+  store64(frame.wrapping_add(448), load64(frame.wrapping_add(424)));
+  store64(frame.wrapping_add(440), load64(frame.wrapping_add(416)));
   }
-  store64(frame.wrapping_add(158), load64(frame.wrapping_add(606)));
-  store64(frame.wrapping_add(150), load64(frame.wrapping_add(598)));
-  store64(frame.wrapping_add(104), load64(frame.wrapping_add(616)));
-  store64(frame.wrapping_add(112), load64(frame.wrapping_add(624)));
-  store64(frame.wrapping_add(120), load64(frame.wrapping_add(632)));
-  store64(frame.wrapping_add(128), load64(frame.wrapping_add(640)));
-  store64(frame.wrapping_add(136), load64(frame.wrapping_add(648)));
-  store64(frame.wrapping_add(88), load64(frame.wrapping_add(464)));
-  store64(frame.wrapping_add(96), load64(frame.wrapping_add(472)));
-  store64(frame.wrapping_add(80), load64(frame.wrapping_add(456)));
-  store64(frame.wrapping_add(72), load64(frame.wrapping_add(448)));
-  store64(frame.wrapping_add(48), load64(frame.wrapping_add(712)));
-  store64(frame.wrapping_add(56), load64(frame.wrapping_add(720)));
-  store64(frame.wrapping_add(64), load64(frame.wrapping_add(728)));
+  store64(frame.wrapping_add(150), load64(frame.wrapping_add(550)));
+  store64(frame.wrapping_add(142), load64(frame.wrapping_add(542)));
+  store64(frame.wrapping_add(96), load64(frame.wrapping_add(496)));
+  store64(frame.wrapping_add(104), load64(frame.wrapping_add(504)));
+  store64(frame.wrapping_add(112), load64(frame.wrapping_add(512)));
+  store64(frame.wrapping_add(120), load64(frame.wrapping_add(520)));
+  store64(frame.wrapping_add(128), load64(frame.wrapping_add(528)));
+  store64(frame.wrapping_add(80), load64(frame.wrapping_add(480)));
+  store64(frame.wrapping_add(88), load64(frame.wrapping_add(488)));
+  store64(frame.wrapping_add(72), load64(frame.wrapping_add(472)));
+  store64(frame.wrapping_add(64), load64(frame.wrapping_add(464)));
+  store64(frame.wrapping_add(40), load64(frame.wrapping_add(440)));
+  store64(frame.wrapping_add(48), load64(frame.wrapping_add(448)));
+  store64(frame.wrapping_add(56), load64(frame.wrapping_add(456)));
   'after_6: {
-  'after_10: {
+  'after_7: {
   'after_9: {
+  'after_8: {
   'after_5: {
   if v4 == 0 {
     break 'after_5;
   }
-  store64(frame.wrapping_add(184), v7);
+  store64(frame.wrapping_add(176), v7);
+  store64(frame.wrapping_add(184), load64(frame.wrapping_add(96)));
   store64(frame.wrapping_add(192), load64(frame.wrapping_add(104)));
   store64(frame.wrapping_add(200), load64(frame.wrapping_add(112)));
   store64(frame.wrapping_add(208), load64(frame.wrapping_add(120)));
   store64(frame.wrapping_add(216), load64(frame.wrapping_add(128)));
-  store64(frame.wrapping_add(224), load64(frame.wrapping_add(136)));
+  store64(frame.wrapping_add(224), load64(frame.wrapping_add(80)));
   store64(frame.wrapping_add(232), load64(frame.wrapping_add(88)));
-  store64(frame.wrapping_add(240), load64(frame.wrapping_add(96)));
-  bytes = (frame.wrapping_add(144)) | 6;
-  store64(frame.wrapping_add(176), load64(bytes.wrapping_add(8)));
-  store64(frame.wrapping_add(168), load64(bytes));
-  store64(frame.wrapping_add(248), v6);
-  store64(frame.wrapping_add(272), v5);
+  bytes = (frame.wrapping_add(136)) | 6;
+  store64(frame.wrapping_add(168), load64(bytes.wrapping_add(8)));
+  store64(frame.wrapping_add(160), load64(bytes));
+  store64(frame.wrapping_add(240), v6);
+  store64(frame.wrapping_add(264), v5);
+  store64(frame.wrapping_add(248), load64(frame.wrapping_add(64)));
   store64(frame.wrapping_add(256), load64(frame.wrapping_add(72)));
-  store64(frame.wrapping_add(264), load64(frame.wrapping_add(80)));
+  store64(frame.wrapping_add(272), load64(frame.wrapping_add(40)));
   store64(frame.wrapping_add(280), load64(frame.wrapping_add(48)));
   store64(frame.wrapping_add(288), load64(frame.wrapping_add(56)));
-  store64(frame.wrapping_add(296), load64(frame.wrapping_add(64)));
-  if (load64(frame.wrapping_add(176))) != 7 {
+  if (load64(frame.wrapping_add(168))) != 7 {
     break 'after_6;
   }
-  bytes = load64(frame.wrapping_add(168));
+  bytes = load64(frame.wrapping_add(160));
   if (load8(bytes) as u32) != 42 {
     break 'after_6;
   }
@@ -38943,294 +39125,286 @@ unsafe fn export_sec1_private_key_fault_at(mut bytes: u64, mut bytes_len: u64, o
   if (v7 & 255) != 1 {
     break 'after_6;
   }
-  if ((load8(frame.wrapping_add(208)) as u32) & 255) != 6 {
+  if ((load8(frame.wrapping_add(200)) as u32) & 255) != 6 {
     break 'after_6;
   }
-  curves_curve_Curve_from_content(frame.wrapping_add(16), load64(frame.wrapping_add(216)),
-      load64(frame.wrapping_add(224)));
-  if (load8(frame.wrapping_add(16)) as u32) != 1 {
+  curves_curve_Curve_from_content(frame.wrapping_add(8), load64(frame.wrapping_add(208)),
+      load64(frame.wrapping_add(216)));
+  if (load8(frame.wrapping_add(8)) as u32) != 1 {
     break 'after_6;
   }
-  v8 = load8(frame.wrapping_add(17)) as u32;
-  fill(frame.wrapping_add(480), 0, 104);
-  fill(frame.wrapping_add(616), 0, 96);
-  store64(frame.wrapping_add(608), 0);
-  store64(frame.wrapping_add(600), 0);
-  store64(frame.wrapping_add(592), 0);
-  store64(frame.wrapping_add(728), 0);
-  store64(frame.wrapping_add(720), 0);
-  store64(frame.wrapping_add(712), 0);
-  bytes = v6 & 255;
-  v4 = u32::from(bytes == 1);
-  v7 = if v4 != 0 { load64(frame.wrapping_add(264)) } else { 0u64 };
-  v6 = if v4 != 0 { load64(frame.wrapping_add(256)) } else { 0u64 };
-  'after_7: {
+  v4 = load8(frame.wrapping_add(9)) as u32;
+  v8 = 0;
+  store64(frame.wrapping_add(512), 0);
+  store64(frame.wrapping_add(504), 0);
+  store64(frame.wrapping_add(496), 0);
   v5 = v5 & 255;
-  if v5 != 1 {
+  v7 = 0;
+  if (v6 & 255) != 1 {
     break 'after_7;
   }
-  store64(frame.wrapping_add(728), load64(frame.wrapping_add(64)));
-  store64(frame.wrapping_add(720), load64(frame.wrapping_add(56)));
-  store64(frame.wrapping_add(712), load64(frame.wrapping_add(48)));
-  }
-  store64(frame.wrapping_add(336), load64(frame.wrapping_add(712)));
-  store64(frame.wrapping_add(344), load64(frame.wrapping_add(720)));
-  store64(frame.wrapping_add(352), load64(frame.wrapping_add(728)));
-  store64(frame.wrapping_add(328), v5);
-  store64(frame.wrapping_add(320), v7);
-  store64(frame.wrapping_add(312), v6);
-  store64(frame.wrapping_add(304), bytes);
-  bytes = load64(frame.wrapping_add(240));
-  let t2 = sec1_c_fields_fields_len(frame.wrapping_add(304));
-  v7 = t2;
-  if bytes > 0xfffffff {
+  bytes = load32(frame.wrapping_add(256)) as u64;
+  v9 = bytes as u32;
+  if v9 >= 128 {
     break 'after_8;
   }
-  if bytes >= 128 {
-    break 'after_9;
+  v7 = 0xfffffffffffffffe;
+  break 'after_9;
   }
-  v5 = 2;
+  der_view_faults_container_container_fault(frame.wrapping_add(16), bytes, bytes_len);
+  v4 = 0;
+  if (load8(frame.wrapping_add(16)) as u32) != 1 {
+    break 'after_10;
+  }
+  store64(offset, load64(frame.wrapping_add(24)));
+  v4 = load32(constant(10928).wrapping_add((load8(frame.wrapping_add(32)) as u64) << 2));
   break 'after_10;
   }
-  der_view_faults_container_container_fault(frame.wrapping_add(24), bytes, bytes_len);
-  v4 = 0;
-  if (load8(frame.wrapping_add(24)) as u32) != 1 {
+  'after_11: {
+  if v9 >= 256 {
     break 'after_11;
   }
-  store64(offset, load64(frame.wrapping_add(32)));
-  v4 = load32(constant(10928).wrapping_add((load8(frame.wrapping_add(40)) as u64) << 2));
-  break 'after_11;
+  v7 = 0xfffffffffffffffd;
+  break 'after_9;
   }
   'after_12: {
-  if bytes >= 256 {
+  if v9 >= 0x10000 {
     break 'after_12;
   }
-  v5 = 3;
-  break 'after_10;
+  v7 = 0xfffffffffffffffc;
+  break 'after_9;
   }
+  v7 = if v9 < 0x1000000 { 0xfffffffffffffffbu64 } else { 0xfffffffffffffffau64 };
+  }
+  v7 = v7.wrapping_sub(bytes);
+  }
+  bytes = load64(frame.wrapping_add(232));
   'after_13: {
-  if bytes >= 0x10000 {
+  if v5 != 1 {
     break 'after_13;
   }
-  v5 = 4;
-  break 'after_10;
-  }
-  v5 = if bytes < 0x1000000 { 5u64 } else { 6u64 };
-  }
-  if (v5.wrapping_add(bytes)) >= 0x10000000 {
-    break 'after_8;
-  }
-  v5 = load64(frame.wrapping_add(232));
-  store64(frame.wrapping_add(304), constant(0));
-  v4 = 0;
-  v6 = frame.wrapping_add(312);
-  fill(v6, 0, 96);
-  bytes_len = bytes_len.wrapping_sub(bytes.wrapping_add(v7));
-  'after_14: {
-  if bytes == 0 {
+  v5 = (load64(frame.wrapping_add(288))).wrapping_add(1);
+  if v5 >= 0x10000000 {
     break 'after_14;
   }
-  if bytes == 1 {
-    break 'after_14;
-  }
-  if ((load8(v5) as u32) & 255) != 48 {
-    break 'after_14;
-  }
-  v9 = v5.wrapping_add(2);
-  v7 = bytes.wrapping_add(0xfffffffffffffffe);
+  'after_16: {
   'after_15: {
-  v10 = (load8(v5.wrapping_add(1)) as u32) as i8 as i32 as u32;
-  if (v10 as i32) >= (0u32 as i32) {
+  if v5 >= 128 {
     break 'after_15;
   }
-  if ((v10.wrapping_add(123)) & 255) < 252 {
-    break 'after_14;
+  v6 = 0xfffffffffffffffe;
+  break 'after_16;
   }
-  v11 = (v10 as i32 as i64 as u64).wrapping_add(128);
-  if v7 < v11 {
-    break 'after_14;
-  }
-  v10 = load8(v9) as u32;
-  v12 = 0;
-  'after_16: {
-  if v11 == 1 {
-    break 'after_16;
-  }
-  v12 = v10 << 8;
-  v10 = v12 | (load8(v5.wrapping_add(3)) as u32);
-  if v11 == 2 {
-    break 'after_16;
-  }
-  v12 = v10 << 8;
-  v10 = v12 | (load8(v5.wrapping_add(4)) as u32);
-  if v11 == 3 {
-    break 'after_16;
-  }
-  v12 = v10 << 8;
-  v10 = v12 | (load8(v5.wrapping_add(5)) as u32);
-  }
-  if v10 < 128 {
-    break 'after_14;
-  }
-  if ((load8(v9) as u32) & 255) == 0 {
-    break 'after_14;
-  }
-  if v12 > 0xfffffff {
-    break 'after_14;
-  }
-  v9 = v9.wrapping_add(v11);
-  v7 = v7.wrapping_sub(v11);
-  }
-  v11 = v10 as u64;
-  if v7 < v11 {
-    break 'after_14;
-  }
-  sec1_private_key_EcPrivateKeyReadInPlace_read_content(frame.wrapping_add(8),
-      frame.wrapping_add(304), v9, v11);
-  if v7 != v11 {
-    break 'after_14;
-  }
-  if ((load8(frame.wrapping_add(8)) as u32) & 255) != 0 {
-    break 'after_14;
-  }
-  v5 = load64(frame.wrapping_add(304));
-  move_(frame.wrapping_add(616), v6, 96);
-  store64(frame.wrapping_add(480), v5);
-  move_(frame.wrapping_add(488), frame.wrapping_add(616), 96);
-  v4 = 0;
-  if (load8(frame.wrapping_add(496)) as u32) != 1 {
-    break 'after_11;
-  }
-  v5 = load64(frame.wrapping_add(552));
-  curves_curve_Curve_from_content(frame, frame.wrapping_add(512), v5);
   'after_17: {
-  if (load8(frame) as u32) != 1 {
+  if v5 >= 256 {
     break 'after_17;
   }
-  if ((load8(frame.wrapping_add(1)) as u32) & 255) == (v8 & 255) {
-    break 'after_11;
+  v6 = 0xfffffffffffffffd;
+  break 'after_16;
   }
-  }
-  v7 = 0;
   'after_18: {
-  if (load8(frame.wrapping_add(560)) as u32) != 1 {
+  if v5 >= 0x10000 {
     break 'after_18;
   }
-  v7 = load64(frame.wrapping_add(576));
-  if v7 > 0xffffffe {
-    break 'after_8;
+  v6 = 0xfffffffffffffffc;
+  break 'after_16;
   }
-  v6 = v7.wrapping_add(1);
-  'after_20: {
+  v6 = if v5 < 0x1000000 { 0xfffffffffffffffbu64 } else { 0xfffffffffffffffau64 };
+  }
+  v8 = v6.wrapping_sub(v5);
+  }
+  if bytes >= 0x10000000 {
+    break 'after_14;
+  }
+  v5 = load64(frame.wrapping_add(224));
+  store64(frame.wrapping_add(304), 0);
+  store64(frame.wrapping_add(296), constant(0));
+  store64(frame.wrapping_add(312), 0);
+  store64(frame.wrapping_add(320), 0);
+  store64(frame.wrapping_add(328), 0);
+  store64(frame.wrapping_add(336), 0);
+  store64(frame.wrapping_add(344), 0);
+  store64(frame.wrapping_add(352), 0);
+  bytes_len = ((bytes_len.wrapping_sub(bytes)).wrapping_add(v7)).wrapping_add(v8);
   'after_19: {
-  if v7 >= 127 {
+  if bytes == 0 {
     break 'after_19;
   }
-  v7 = 2;
-  break 'after_20;
+  if bytes == 1 {
+    break 'after_19;
   }
+  if ((load8(v5) as u32) & 255) != 48 {
+    break 'after_19;
+  }
+  v6 = v5.wrapping_add(2);
+  v7 = bytes.wrapping_add(0xfffffffffffffffe);
+  'after_20: {
+  v9 = (load8(v5.wrapping_add(1)) as u32) as i8 as i32 as u32;
+  if (v9 as i32) >= (0u32 as i32) {
+    break 'after_20;
+  }
+  if ((v9.wrapping_add(123)) & 255) < 252 {
+    break 'after_19;
+  }
+  v8 = (v9 as i32 as i64 as u64).wrapping_add(128);
+  if v7 < v8 {
+    break 'after_19;
+  }
+  v9 = load8(v6) as u32;
+  v10 = 0;
   'after_21: {
-  if v7 >= 255 {
+  if v8 == 1 {
     break 'after_21;
   }
-  v7 = 3;
-  break 'after_20;
+  v10 = v9 << 8;
+  v9 = v10 | (load8(v5.wrapping_add(3)) as u32);
+  if v8 == 2 {
+    break 'after_21;
   }
+  v10 = v9 << 8;
+  v9 = v10 | (load8(v5.wrapping_add(4)) as u32);
+  if v8 == 3 {
+    break 'after_21;
+  }
+  v10 = v9 << 8;
+  v9 = v10 | (load8(v5.wrapping_add(5)) as u32);
+  }
+  if v9 < 128 {
+    break 'after_19;
+  }
+  if ((load8(v6) as u32) & 255) == 0 {
+    break 'after_19;
+  }
+  if v10 > 0xfffffff {
+    break 'after_19;
+  }
+  v6 = v6.wrapping_add(v8);
+  v7 = v7.wrapping_sub(v8);
+  }
+  v8 = v9 as u64;
+  if v7 < v8 {
+    break 'after_19;
+  }
+  sec1_borrowed_key_BorrowedKeyReadInPlace_read_content(frame, frame.wrapping_add(296), v6, v8);
+  if v7 != v8 {
+    break 'after_19;
+  }
+  if ((load8(frame) as u32) & 255) != 0 {
+    break 'after_19;
+  }
+  v5 = frame.wrapping_add(304);
+  store64(frame.wrapping_add(568), load64(v5));
+  store64(frame.wrapping_add(576), load64(v5.wrapping_add(8)));
+  store64(frame.wrapping_add(584), load64(v5.wrapping_add(16)));
+  store64(frame.wrapping_add(592), load64(v5.wrapping_add(24)));
+  store64(frame.wrapping_add(600), load64(v5.wrapping_add(32)));
+  store64(frame.wrapping_add(608), load64(v5.wrapping_add(40)));
+  store64(frame.wrapping_add(616), load64(v5.wrapping_add(48)));
+  store64(frame.wrapping_add(560), load64(frame.wrapping_add(296)));
   'after_22: {
-  if v7 >= 65535 {
+  let t2 = sec1_c_private_key_names_curve(frame.wrapping_add(560), v4);
+  if t2 == 0 {
     break 'after_22;
   }
-  v7 = 4;
-  break 'after_20;
+  v4 = 0;
+  break 'after_10;
   }
-  v7 = if v7 < 0xffffff { 5u64 } else { 6u64 };
-  }
-  v7 = v6.wrapping_add(v7);
-  if v7 > 0xfffffff {
-    break 'after_8;
-  }
-  'after_24: {
+  v5 = 0;
   'after_23: {
-  if v7 >= 128 {
+  if (load8(frame.wrapping_add(600)) as u32) != 1 {
     break 'after_23;
   }
-  v6 = 0xfffffffffffffffe;
-  break 'after_24;
+  v5 = load64(frame.wrapping_add(616));
+  if v5 > 0xffffffe {
+    break 'after_14;
   }
+  v7 = v5.wrapping_add(1);
   'after_25: {
-  if v7 >= 256 {
-    break 'after_25;
+  'after_24: {
+  if v5 >= 127 {
+    break 'after_24;
   }
-  v6 = 0xfffffffffffffffd;
-  break 'after_24;
+  v5 = 2;
+  break 'after_25;
   }
   'after_26: {
-  if v7 >= 0x10000 {
+  if v5 >= 255 {
     break 'after_26;
   }
-  v6 = 0xfffffffffffffffc;
-  break 'after_24;
+  v5 = 3;
+  break 'after_25;
   }
-  v6 = if v7 < 0x1000000 { 0xfffffffffffffffbu64 } else { 0xfffffffffffffffau64 };
-  }
-  v7 = v6.wrapping_sub(v7);
-  }
-  if v5 > 0xfffffff {
-    break 'after_8;
-  }
-  'after_28: {
   'after_27: {
-  if v5 >= 128 {
+  if v5 >= 65535 {
     break 'after_27;
   }
-  v6 = 2;
-  break 'after_28;
+  v5 = 4;
+  break 'after_25;
+  }
+  v5 = if v5 < 0xffffff { 5u64 } else { 6u64 };
+  }
+  v5 = v7.wrapping_add(v5);
+  if v5 > 0xfffffff {
+    break 'after_14;
   }
   'after_29: {
-  if v5 >= 256 {
-    break 'after_29;
+  'after_28: {
+  if v5 >= 128 {
+    break 'after_28;
   }
-  v6 = 3;
-  break 'after_28;
+  v7 = 0xfffffffffffffffe;
+  break 'after_29;
   }
   'after_30: {
-  if v5 >= 0x10000 {
+  if v5 >= 256 {
     break 'after_30;
   }
-  v6 = 4;
-  break 'after_28;
+  v7 = 0xfffffffffffffffd;
+  break 'after_29;
   }
-  v6 = if v5 < 0x1000000 { 5u64 } else { 6u64 };
+  'after_31: {
+  if v5 >= 0x10000 {
+    break 'after_31;
   }
-  if (v6.wrapping_add(v5)) > 0xfffffff {
-    break 'after_8;
+  v7 = 0xfffffffffffffffc;
+  break 'after_29;
   }
-  store64(offset, ((bytes_len.wrapping_add(bytes)).wrapping_sub(v5)).wrapping_add(v7));
+  v7 = if v5 < 0x1000000 { 0xfffffffffffffffbu64 } else { 0xfffffffffffffffau64 };
+  }
+  v5 = v7.wrapping_sub(v5);
+  }
+  let t3 = if (load8(frame.wrapping_add(576)) as u32) == 1 {
+      (v5.wrapping_add(bytes)).wrapping_sub(load64(frame.wrapping_add(592))) } else { 0u64 };
+  store64(offset, t3.wrapping_add(bytes_len));
   v4 = 12;
-  break 'after_11;
+  break 'after_10;
   }
-  der_view_faults_key_key_fault(frame.wrapping_add(592), v5, bytes);
-  if (load8(frame.wrapping_add(592)) as u32) != 1 {
-    break 'after_11;
+  der_view_faults_key_key_fault(frame.wrapping_add(496), v5, bytes);
+  'after_32: {
+  if (load8(frame.wrapping_add(496)) as u32) == 1 {
+    break 'after_32;
   }
-  store64(offset, (load64(frame.wrapping_add(600))).wrapping_add(bytes_len));
-  v4 = load32(constant(10928).wrapping_add((load8(frame.wrapping_add(608)) as u64) << 2));
-  break 'after_11;
+  v4 = 0;
+  break 'after_10;
   }
-  let t3 = sec1_c_container_fault_tell_curve(bytes_len, frame.wrapping_add(168), offset);
-  v4 = t3;
-  break 'after_11;
+  store64(offset, (load64(frame.wrapping_add(504))).wrapping_add(bytes_len));
+  v4 = load32(constant(10928).wrapping_add((load8(frame.wrapping_add(512)) as u64) << 2));
+  break 'after_10;
   }
-  store64(frame.wrapping_add(320), 0);
+  let t4 = sec1_c_container_fault_tell_curve(bytes_len, frame.wrapping_add(160), offset);
+  v4 = t4;
+  break 'after_10;
+  }
   store64(frame.wrapping_add(312), 0);
   store64(frame.wrapping_add(304), 0);
-  der_view_faults_key_key_fault(frame.wrapping_add(304), bytes, bytes_len);
+  store64(frame.wrapping_add(296), 0);
+  der_view_faults_key_key_fault(frame.wrapping_add(296), bytes, bytes_len);
   v4 = 0;
-  if (load8(frame.wrapping_add(304)) as u32) != 1 {
-    break 'after_11;
+  if (load8(frame.wrapping_add(296)) as u32) != 1 {
+    break 'after_10;
   }
-  store64(offset, load64(frame.wrapping_add(312)));
-  v4 = load32(constant(10928).wrapping_add((load8(frame.wrapping_add(320)) as u64) << 2));
+  store64(offset, load64(frame.wrapping_add(304)));
+  v4 = load32(constant(10928).wrapping_add((load8(frame.wrapping_add(312)) as u64) << 2));
   }
   return v4;
   }
@@ -39241,296 +39415,257 @@ unsafe fn export_sec1_private_key_fault_at(mut bytes: u64, mut bytes_len: u64, o
 unsafe fn export_sec1_public_key_fault_at(mut bytes: u64, mut bytes_len: u64, offset: u64) -> u32 {
   let mut array = Frame::<128>::new();
   let frame = address(&raw mut array);
-  let mut v3 = 0u64;
+  let mut v4 = 0u64;
   let mut v5 = 0u64;
   let mut v6 = 0u64;
   let mut v7 = 0u32;
   let mut v8 = 0u64;
-  let mut v9 = 0u64;
-  let mut v10 = 0u32;
+  let mut v9 = 0u32;
+  let mut v10 = 0u64;
   let mut v11 = 0u64;
   let mut v12 = 0u32;
-  let mut v13 = 0u64;
-  v3 = frame;
   'after_2: {
   fill(frame.wrapping_add(8), 0, 96);
   bytes = bytes.wrapping_add(if bytes == 0 { 4096u64 } else { 0u64 });
   pkix_public_key_SubjectPublicKeyInfo_from_der(frame.wrapping_add(8), bytes, bytes_len);
-  'after_27: {
-  'after_10: {
+  'after_26: {
+  'after_11: {
   'after_1: {
   if (load8(frame.wrapping_add(8)) as u32) != 0 {
     break 'after_1;
   }
-  v5 = load64(frame.wrapping_add(96));
-  bytes = v5.wrapping_add(1);
-  if bytes > 0xfffffff {
+  v4 = load64(frame.wrapping_add(96));
+  v5 = v4.wrapping_add(1);
+  if v5 >= 0x10000000 {
     break 'after_2;
   }
+  bytes = load64(frame.wrapping_add(24));
   'after_4: {
   'after_3: {
-  if bytes >= 128 {
+  if v5 >= 128 {
     break 'after_3;
   }
-  v3 = 2;
+  v5 = 0xfffffffffffffffe;
   break 'after_4;
   }
   'after_5: {
-  if bytes >= 256 {
+  if v5 >= 256 {
     break 'after_5;
   }
-  v3 = 3;
+  v5 = 0xfffffffffffffffd;
   break 'after_4;
   }
   'after_6: {
-  if bytes >= 0x10000 {
+  if v5 >= 0x10000 {
     break 'after_6;
   }
-  v3 = 4;
+  v5 = 0xfffffffffffffffc;
   break 'after_4;
   }
-  v3 = if bytes < 0x1000000 { 5u64 } else { 6u64 };
-  }
-  bytes = v3.wrapping_add(bytes);
-  if bytes >= 0x10000000 {
-    break 'after_2;
+  v5 = if v5 < 0x1000000 { 0xfffffffffffffffbu64 } else { 0xfffffffffffffffau64 };
   }
   v6 = load64(frame.wrapping_add(48));
   v7 = load8(frame.wrapping_add(32)) as u32;
-  v3 = load64(frame.wrapping_add(16));
-  v8 = bytes_len.wrapping_sub(bytes);
+  v5 = (bytes_len.wrapping_add(v4 ^ 0xffffffffffffffff)).wrapping_add(v5);
+  'after_15: {
   'after_14: {
   'after_13: {
   'after_12: {
-  'after_11: {
-  'after_8: {
-  'after_15: {
   'after_9: {
+  'after_16: {
+  'after_10: {
   'after_7: {
-  bytes = load64(frame.wrapping_add(24));
   if bytes != 7 {
     break 'after_7;
   }
-  if (load8(v3) as u32) != 42 {
+  bytes_len = load64(frame.wrapping_add(16));
+  if (load8(bytes_len) as u32) != 42 {
     break 'after_7;
   }
-  if ((load8(v3.wrapping_add(1)) as u32) & 255) != 134 {
+  if ((load8(bytes_len.wrapping_add(1)) as u32) & 255) != 134 {
     break 'after_7;
   }
-  if ((load8(v3.wrapping_add(2)) as u32) & 255) != 72 {
+  if ((load8(bytes_len.wrapping_add(2)) as u32) & 255) != 72 {
     break 'after_7;
   }
-  if ((load8(v3.wrapping_add(3)) as u32) & 255) != 206 {
+  if ((load8(bytes_len.wrapping_add(3)) as u32) & 255) != 206 {
     break 'after_7;
   }
-  v9 = load64(frame.wrapping_add(88));
-  v10 = load8(frame.wrapping_add(80)) as u32;
-  bytes_len = load64(frame.wrapping_add(72));
+  v8 = load64(frame.wrapping_add(88));
+  v9 = load8(frame.wrapping_add(80)) as u32;
+  v10 = load64(frame.wrapping_add(72));
   v11 = load64(frame.wrapping_add(64));
   v12 = load8(frame.wrapping_add(56)) as u32;
-  let t0 = core_cmp_slices_groups_equal(v3, 7, constant(281));
+  let t0 = core_cmp_slices_groups_equal(bytes_len, 7, constant(281));
   if t0 == 0 {
     break 'after_7;
   }
-  v13 = 0;
-  if (v7 & 255) != 1 {
+  'after_8: {
+  if (v7 & 255) == 1 {
     break 'after_8;
   }
+  bytes_len = 0;
+  v4 = 2;
+  break 'after_9;
+  }
   if (v12 & 255) != 6 {
-    break 'after_9;
+    break 'after_10;
   }
-  curves_curve_Curve_from_content(frame, v11, bytes_len);
+  curves_curve_Curve_from_content(frame, v11, v10);
   if (load8(frame) as u32) != 1 {
-    break 'after_9;
-  }
-  if (v10 & 255) != 0 {
     break 'after_10;
   }
-  if v5 == 0 {
-    break 'after_10;
+  if (v9 & 255) != 0 {
+    break 'after_11;
+  }
+  if v4 == 0 {
+    break 'after_11;
   }
   bytes = load64(constant(11728).wrapping_add(((load8(frame.wrapping_add(1)) as u64) & 255) << 3));
   bytes_len = 1;
-  v12 = load8(v9) as u32;
-  match v12 {
+  v7 = load8(v8) as u32;
+  match v7 {
   4 => {
-    break 'after_11;
-  }
-  2 | 3 | 5 => {
     break 'after_12;
   }
-  0 => {
+  2 | 3 | 5 => {
     break 'after_13;
   }
-  6 | 7 => {
+  0 => {
     break 'after_14;
   }
-  _ => {
-    break 'after_10;
-  }
-  }
-  }
-  v13 = 0;
-  if (v7 & 255) != 1 {
+  6 | 7 => {
     break 'after_15;
   }
+  _ => {
+    break 'after_11;
   }
-  v13 = v6;
-  }
-  if bytes == 0 {
-    break 'after_2;
   }
   }
   bytes_len = 0;
-  v10 = 1;
-  'again_17: loop {
-  v12 = (load8(v3.wrapping_add(bytes_len)) as u32) as i8 as i32 as u32;
-  'after_16: {
-  if (v10 & 1) == 0 {
+  if (v7 & 255) != 1 {
     break 'after_16;
   }
-  if v12 == 0xffffff80 {
-    break 'after_2;
   }
+  bytes_len = v6;
   }
-  v10 = u32::from((v12 as i32) > (0xffffffffu32 as i32));
-  bytes_len = bytes_len.wrapping_add(1);
-  if bytes != bytes_len {
-    continue 'again_17;
+  'after_18: {
+  'after_17: {
+  v12 = bytes as u32;
+  if v12 >= 128 {
+    break 'after_17;
   }
-  break;
-  }
-  if bytes > 0xfffffff {
-    break 'after_2;
-  }
-  if (v12 as i32) < (0u32 as i32) {
-    break 'after_2;
+  v4 = 2;
+  break 'after_18;
   }
   'after_19: {
-  'after_18: {
-  if bytes >= 128 {
-    break 'after_18;
+  if v12 >= 256 {
+    break 'after_19;
   }
-  bytes_len = 2;
-  break 'after_19;
+  v4 = 3;
+  break 'after_18;
   }
   'after_20: {
-  if bytes >= 256 {
+  if v12 >= 0x10000 {
     break 'after_20;
   }
-  bytes_len = 3;
-  break 'after_19;
+  v4 = 4;
+  break 'after_18;
+  }
+  v4 = if v12 < 0x1000000 { 5u64 } else { 6u64 };
   }
   'after_21: {
-  if bytes >= 0x10000 {
+  if (v7 & 255) == 1 {
     break 'after_21;
   }
-  bytes_len = 4;
-  break 'after_19;
-  }
-  bytes_len = if bytes < 0x1000000 { 5u64 } else { 6u64 };
-  }
-  bytes = bytes_len.wrapping_add(bytes);
-  if bytes > 0xfffffff {
-    break 'after_2;
-  }
   bytes_len = 0;
-  'after_22: {
-  if (v7 & 255) != 1 {
-    break 'after_22;
+  break 'after_9;
   }
-  bytes_len = v13;
-  if v13 > 0xfffffff {
-    break 'after_2;
-  }
-  }
-  bytes_len = bytes_len.wrapping_add(bytes);
-  if bytes_len > 0xfffffff {
-    break 'after_2;
-  }
-  'after_24: {
-  'after_23: {
-  if bytes_len >= 128 {
-    break 'after_23;
-  }
-  bytes = 2;
-  break 'after_24;
-  }
-  'after_25: {
-  if bytes_len >= 256 {
-    break 'after_25;
-  }
-  bytes = 3;
-  break 'after_24;
-  }
-  'after_26: {
-  if bytes_len >= 0x10000 {
-    break 'after_26;
-  }
-  bytes = 4;
-  break 'after_24;
-  }
-  bytes = if bytes_len < 0x1000000 { 5u64 } else { 6u64 };
-  }
-  bytes_len = bytes.wrapping_add(bytes_len);
   if bytes_len >= 0x10000000 {
     break 'after_2;
   }
-  store64(offset, v8.wrapping_sub(bytes_len));
-  v12 = 11;
-  break 'after_27;
   }
-  if v5 != ((bytes << 1) | 1) {
-    break 'after_10;
+  'after_23: {
+  'after_22: {
+  bytes_len = (v4.wrapping_add(bytes)).wrapping_add(bytes_len);
+  v7 = bytes_len as u32;
+  if v7 >= 128 {
+    break 'after_22;
   }
-  v12 = 0;
-  break 'after_27;
+  bytes = 0xfffffffffffffffe;
+  break 'after_23;
+  }
+  'after_24: {
+  if v7 >= 256 {
+    break 'after_24;
+  }
+  bytes = 0xfffffffffffffffd;
+  break 'after_23;
+  }
+  'after_25: {
+  if v7 >= 0x10000 {
+    break 'after_25;
+  }
+  bytes = 0xfffffffffffffffc;
+  break 'after_23;
+  }
+  bytes = if v7 < 0x1000000 { 0xfffffffffffffffbu64 } else { 0xfffffffffffffffau64 };
+  }
+  store64(offset, (v5.wrapping_sub(bytes_len & 0xffffffff)).wrapping_add(bytes));
+  v7 = 11;
+  break 'after_26;
+  }
+  if v4 != ((bytes << 1) | 1) {
+    break 'after_11;
+  }
+  v7 = 0;
+  break 'after_26;
   }
   bytes_len = bytes | 1;
   }
-  if v5 != bytes_len {
-    break 'after_10;
+  if v4 != bytes_len {
+    break 'after_11;
   }
-  v12 = 0;
-  break 'after_27;
+  v7 = 0;
+  break 'after_26;
   }
-  if v5 != ((bytes << 1) | 1) {
-    break 'after_10;
+  if v4 != ((bytes << 1) | 1) {
+    break 'after_11;
   }
-  if (((load8((v9.wrapping_add(v5)).wrapping_add(0xffffffffffffffff)) as u32) ^ v12) & 1) != 0 {
-    break 'after_10;
+  if (((load8((v8.wrapping_add(v4)).wrapping_add(0xffffffffffffffff)) as u32) ^ v7) & 1) != 0 {
+    break 'after_11;
   }
-  v12 = 0;
-  break 'after_27;
+  v7 = 0;
+  break 'after_26;
   }
   store64(frame.wrapping_add(120), 0);
   store64(frame.wrapping_add(112), 0);
   store64(frame.wrapping_add(104), 0);
   der_view_faults_public_key_info(frame.wrapping_add(104), bytes_len, bytes, bytes_len);
   bytes = load64(frame.wrapping_add(120));
-  'after_28: {
+  'after_27: {
   if (load8(frame.wrapping_add(104)) as u32) != 0 {
+    break 'after_27;
+  }
+  'after_28: {
+  if bytes != 0 {
     break 'after_28;
   }
-  'after_29: {
-  if bytes != 0 {
-    break 'after_29;
-  }
-  v12 = 0;
-  break 'after_27;
+  v7 = 0;
+  break 'after_26;
   }
   store64(offset, bytes_len.wrapping_sub(bytes));
-  v12 = 4;
-  break 'after_27;
+  v7 = 4;
+  break 'after_26;
   }
   store64(offset, load64(frame.wrapping_add(112)));
-  v12 = load32(constant(10928).wrapping_add((bytes & 255) << 2));
-  break 'after_27;
+  v7 = load32(constant(10928).wrapping_add((bytes & 255) << 2));
+  break 'after_26;
   }
-  store64(offset, v8);
-  v12 = 9;
+  store64(offset, v5);
+  v7 = 9;
   }
-  return v12;
+  return v7;
   }
   trap();
 }
@@ -41893,319 +42028,219 @@ unsafe fn export_sec1_element_write(mut tag: u64, content: u64, content_len: u64
 }
 
 // rattle::export sec1_key_write
-unsafe fn export_sec1_key_write(mut private_key: u64, private_key_len: u64, mut curve: u64,
-    curve_len: u64, mut public_key: u64, public_key_len: u64, has_public_key: u64, out: u64,
+unsafe fn export_sec1_key_write(private_key: u64, private_key_len: u64, mut curve: u64,
+    mut curve_len: u64, mut public_key: u64, public_key_len: u64, has_public_key: u64, out: u64,
     out_len: u64, len: u64) -> u32 {
-  let mut array = Frame::<256>::new();
+  let mut array = Frame::<208>::new();
   let frame = address(&raw mut array);
-  let mut v11 = 0u64;
+  let mut v10 = 0u64;
   let mut v12 = 0u64;
   let mut v13 = 0u32;
-  let mut v14 = 0u32;
+  let mut v14 = 0u64;
   let mut v15 = 0u32;
   let mut v16 = 0u32;
   let mut v17 = 0u32;
   let mut v18 = 0u32;
   let mut v19 = 0u32;
   let mut v20 = 0u32;
-  let mut v21 = 0u64;
-  let mut v22 = 0u64;
-  let mut v23 = 0u64;
-  'after_12: {
-  'after_2: {
-  'after_5: {
+  let mut v21 = 0u32;
+  v10 = frame;
   'after_6: {
-  'after_1: {
-  if curve_len != 0 {
-    break 'after_1;
-  }
-  curve = 0;
-  store64(frame.wrapping_add(136), 0);
-  store64(frame.wrapping_add(128), 0);
-  store64(frame.wrapping_add(120), 0);
-  store64(frame.wrapping_add(112), 0);
-  v11 = 0;
-  break 'after_2;
-  }
+  'after_3: {
+  'after_5: {
   v12 = curve.wrapping_add(if curve == 0 { 4096u64 } else { 0u64 });
   'after_4: {
-  'after_3: {
-  if curve_len != 8 {
+  'after_1: {
+  if curve_len > 8 {
+    break 'after_1;
+  }
+  v13 = 1;
+  v14 = curve_len;
+  curve = 0;
+  'after_2: {
+  match curve_len as u32 {
+  8 => {
+    break 'after_2;
+  }
+  1 | 2 | 3 | 4 | 5 | 6 | 7 => {
+    break 'after_1;
+  }
+  _ => {
     break 'after_3;
   }
+  }
+  }
   v13 = (load8(v12) as u32) as i8 as i32 as u32;
-  v14 = (load8(v12.wrapping_add(1)) as u32) as i8 as i32 as u32;
-  let t0 = (u32::from((v13 & 255) == 128)) | ((u32::from((v14 & 255) == 128)) << 1);
-  v15 = (load8(v12.wrapping_add(3)) as u32) as i8 as i32 as u32;
-  v16 = (load8(v12.wrapping_add(2)) as u32) as i8 as i32 as u32;
-  let t1 = ((u32::from((v15 & 255) == 128)) << 3) | ((u32::from((v16 & 255) == 128)) << 2);
-  v17 = (load8(v12.wrapping_add(4)) as u32) as i8 as i32 as u32;
-  v18 = (load8(v12.wrapping_add(5)) as u32) as i8 as i32 as u32;
-  let t2 = (u32::from((v17 & 255) == 128)) | ((u32::from((v18 & 255) == 128)) << 1);
-  v19 = (load8(v12.wrapping_add(7)) as u32) as i8 as i32 as u32;
-  v20 = (load8(v12.wrapping_add(6)) as u32) as i8 as i32 as u32;
-  let t3 = ((u32::from((v19 & 255) == 128)) << 3) | ((u32::from((v20 & 255) == 128)) << 2);
+  v15 = (load8(v12.wrapping_add(1)) as u32) as i8 as i32 as u32;
+  let t0 = (u32::from((v13 & 255) == 128)) | ((u32::from((v15 & 255) == 128)) << 1);
+  v16 = (load8(v12.wrapping_add(3)) as u32) as i8 as i32 as u32;
+  v17 = (load8(v12.wrapping_add(2)) as u32) as i8 as i32 as u32;
+  let t1 = ((u32::from((v16 & 255) == 128)) << 3) | ((u32::from((v17 & 255) == 128)) << 2);
+  v18 = (load8(v12.wrapping_add(4)) as u32) as i8 as i32 as u32;
+  v19 = (load8(v12.wrapping_add(5)) as u32) as i8 as i32 as u32;
+  let t2 = (u32::from((v18 & 255) == 128)) | ((u32::from((v19 & 255) == 128)) << 1);
+  v20 = (load8(v12.wrapping_add(7)) as u32) as i8 as i32 as u32;
+  v21 = (load8(v12.wrapping_add(6)) as u32) as i8 as i32 as u32;
+  let t3 = ((u32::from((v20 & 255) == 128)) << 3) | ((u32::from((v21 & 255) == 128)) << 2);
   if ((t0 | t1) | ((t2 | t3) << 4)) != 0 {
     break 'after_4;
   }
-  let t4 = ((u32::from((v13 as i32) > (0xffffffffu32 as i32))) | ((u32::from((v14 as i32) >
-      (0xffffffffu32 as i32))) << 1)) | (((u32::from((v15 as i32) > (0xffffffffu32 as i32))) << 3) |
-      ((u32::from((v16 as i32) > (0xffffffffu32 as i32))) << 2));
-  let t5 = ((u32::from((v17 as i32) > (0xffffffffu32 as i32))) | ((u32::from((v18 as i32) >
-      (0xffffffffu32 as i32))) << 1)) | (((u32::from((v19 as i32) > (0xffffffffu32 as i32))) << 3) |
-      ((u32::from((v20 as i32) > (0xffffffffu32 as i32))) << 2));
+  v14 = 1;
+  let t4 = ((u32::from((v13 as i32) > (0xffffffffu32 as i32))) | ((u32::from((v15 as i32) >
+      (0xffffffffu32 as i32))) << 1)) | (((u32::from((v16 as i32) > (0xffffffffu32 as i32))) << 3) |
+      ((u32::from((v17 as i32) > (0xffffffffu32 as i32))) << 2));
+  let t5 = ((u32::from((v18 as i32) > (0xffffffffu32 as i32))) | ((u32::from((v19 as i32) >
+      (0xffffffffu32 as i32))) << 1)) | (((u32::from((v20 as i32) > (0xffffffffu32 as i32))) << 3) |
+      ((u32::from((v21 as i32) > (0xffffffffu32 as i32))) << 2));
   curve = (t4 | (t5 << 4)) as u64;
   if ((curve >> 1) | curve) != 255 {
     break 'after_4;
   }
+  v13 = 0;
   break 'after_5;
   }
-  if curve_len > 39 {
-    break 'after_6;
+  if (curve_len.wrapping_add(0xffffffffffffffd8)) >= 0xffffffffffffffd9 {
+    break 'after_4;
   }
+  v13 = 5;
+  break 'after_6;
   }
-  v11 = curve_len.wrapping_add(0xffffffffffffffff);
+  v10 = curve_len.wrapping_add(0xffffffffffffffff);
   v13 = 0;
   curve = v12;
-  'again_11: loop {
-  'after_10: {
+  'again_13: loop {
+  v14 = 1;
+  'after_12: {
   'after_7: {
-  v14 = (load8(curve) as u32) as i8 as i32 as u32;
-  if (v14 as i32) > (0xffffffffu32 as i32) {
+  v15 = (load8(curve) as u32) as i8 as i32 as u32;
+  if (v15 as i32) > (0xffffffffu32 as i32) {
     break 'after_7;
   }
-  'after_9: {
+  'after_10: {
   'after_8: {
-  v15 = v13 & 255;
-  if v15 != 0 {
+  v16 = v13 & 255;
+  if v16 != 0 {
     break 'after_8;
   }
-  if v14 == 0xffffff80 {
-    break 'after_6;
+  'after_9: {
+  if v15 != 0xffffff80 {
+    break 'after_9;
   }
-  v13 = if v14 < 0xffffff90 { 1u32 } else { 2u32 };
-  break 'after_9;
+  v13 = 5;
+  break 'after_6;
   }
-  if v15 > 3 {
-    break 'after_6;
+  v13 = if v15 < 0xffffff90 { 1u32 } else { 2u32 };
+  break 'after_10;
+  }
+  'after_11: {
+  if v16 <= 3 {
+    break 'after_11;
+  }
+  v13 = 5;
+  break 'after_6;
   }
   v13 = v13.wrapping_add(1);
   }
-  if v11 != 0 {
-    break 'after_10;
+  if v10 != 0 {
+    break 'after_12;
   }
+  v13 = 5;
   break 'after_6;
   }
   v13 = 0;
-  if v11 == 0 {
+  if v10 == 0 {
     break 'after_5;
   }
   }
   curve = curve.wrapping_add(1);
-  v11 = v11.wrapping_add(0xffffffffffffffff);
-  continue 'again_11;
+  v10 = v10.wrapping_add(0xffffffffffffffff);
+  continue 'again_13;
   }
   }
-  v13 = 5;
-  break 'after_12;
+  curve = v12;
   }
-  'after_13: {
-  curve = if curve_len > 38 { 0u64 } else { 39u64.wrapping_sub(curve_len) };
-  if curve == 0 {
-    break 'after_13;
-  }
-  fill((frame.wrapping_add(8)).wrapping_add(curve_len), 0, curve);
-  }
+  store64(frame.wrapping_add(72), curve_len);
+  store64(frame.wrapping_add(64), curve);
+  store64(frame.wrapping_add(56), v14);
+  store64(frame.wrapping_add(48), private_key_len);
+  store64(frame.wrapping_add(40),
+      private_key.wrapping_add(if private_key == 0 { 4096u64 } else { 0u64 }));
+  v15 = u32::from(has_public_key != 0);
+  store64(frame.wrapping_add(96), if v15 != 0 { public_key_len } else { 0u64 });
+  store64(frame.wrapping_add(88), if v15 != 0 { public_key.wrapping_add(if public_key == 0 {
+      4096u64 } else { 0u64 }) } else { 0u64 });
+  v12 = v15 as u64;
+  store64(frame.wrapping_add(80), v12);
+  sec1_der_codec_element_len(frame.wrapping_add(24), frame.wrapping_add(40));
   'after_14: {
-  if curve_len == 0 {
+  v15 = load8(frame.wrapping_add(24)) as u32;
+  if v15 != 1 {
     break 'after_14;
   }
-  move_(frame.wrapping_add(8), v12, curve_len);
+  v10 = load64(frame.wrapping_add(32));
+  if out_len < v10 {
+    break 'after_14;
   }
-  curve = load64(frame.wrapping_add(8));
-  store64(frame.wrapping_add(144), curve);
-  store64(frame.wrapping_add(198), curve);
-  store64(frame.wrapping_add(120), load64(frame.wrapping_add(16)));
-  store64(frame.wrapping_add(136), load64(frame.wrapping_add(32)));
-  store64(frame.wrapping_add(128), load64(frame.wrapping_add(24)));
-  store64(frame.wrapping_add(112), curve);
-  let t6 = ((load8((frame.wrapping_add(8)).wrapping_add(38)) as u64) << 48) |
-      ((load16(frame.wrapping_add(44)) as u64) << 32);
-  v11 = (load32(frame.wrapping_add(40)) as u64) | t6;
-  curve = 1;
-  }
-  v12 = load64(frame.wrapping_add(136));
-  store64(frame.wrapping_add(168), v12);
-  v21 = load64(frame.wrapping_add(128));
-  store64(frame.wrapping_add(160), v21);
-  v22 = load64(frame.wrapping_add(120));
-  store64(frame.wrapping_add(152), v22);
-  v23 = load64(frame.wrapping_add(112));
-  store64(frame.wrapping_add(144), v23);
-  store64(frame.wrapping_add(32), 0);
-  store64(frame.wrapping_add(24), curve);
-  store64(frame.wrapping_add(16), private_key_len);
-  store64(frame.wrapping_add(8),
-      private_key.wrapping_add(if private_key == 0 { 4096u64 } else { 0u64 }));
-  store64(frame.wrapping_add(40), v23);
-  store64(frame.wrapping_add(48), v22);
-  store64(frame.wrapping_add(56), v21);
-  store64(frame.wrapping_add(64), v12);
-  v13 = u32::from(has_public_key != 0);
-  store64(frame.wrapping_add(104), if v13 != 0 { public_key_len } else { 0u64 });
-  store64(frame.wrapping_add(96), if v13 != 0 { public_key.wrapping_add(if public_key == 0 {
-      4096u64 } else { 0u64 }) } else { 0u64 });
-  v12 = v13 as u64;
-  store64(frame.wrapping_add(88), v12);
-  store64(frame.wrapping_add(72), v11);
-  store64(frame.wrapping_add(80), curve_len);
-  store64(frame.wrapping_add(112), 0);
-  store64(frame.wrapping_add(120), 0);
-  store64(frame.wrapping_add(176), 0);
-  public_key = if curve_len == 0 { 0u64 } else { frame.wrapping_add(40) };
-  v11 = frame.wrapping_add(96);
+  store64(frame.wrapping_add(120), v10);
+  store64(frame.wrapping_add(112), v10);
+  store64(frame.wrapping_add(104), out.wrapping_add(if out == 0 { 4096u64 } else { 0u64 }));
+  store64(frame.wrapping_add(192), 0);
+  store64(frame.wrapping_add(200), 0);
+  curve_len = if v13 != 0 { 0u64 } else { curve_len };
+  curve = if v13 != 0 { 0u64 } else { curve };
   'after_15: {
-  v13 = u32::from(has_public_key == 0);
-  if v13 != 0 {
+  if has_public_key == 0 {
     break 'after_15;
   }
-  store64(frame.wrapping_add(120), load64(v11.wrapping_add(8)));
-  store64(frame.wrapping_add(112), load64(v11));
+  public_key = frame.wrapping_add(88);
+  store64(frame.wrapping_add(200), load64(public_key.wrapping_add(8)));
+  store64(frame.wrapping_add(192), load64(public_key));
   }
-  store64(frame.wrapping_add(200), load64(frame.wrapping_add(16)));
-  store64(frame.wrapping_add(192), load64(frame.wrapping_add(8)));
-  store64(frame.wrapping_add(232), v12);
-  store64(frame.wrapping_add(224), curve_len);
-  store64(frame.wrapping_add(216), public_key);
-  store64(frame.wrapping_add(208), curve);
-  store64(frame.wrapping_add(240), load64(frame.wrapping_add(112)));
-  store64(frame.wrapping_add(248), load64(frame.wrapping_add(120)));
-  sec1_der_part_Tuple2EncodePart_part_len(frame.wrapping_add(176), frame.wrapping_add(192));
-  'after_16: {
-  v14 = load8(frame.wrapping_add(176)) as u32;
-  if v14 != 0 {
-    break 'after_16;
-  }
-  'after_18: {
+  store64(frame.wrapping_add(136), load64(frame.wrapping_add(48)));
+  store64(frame.wrapping_add(128), load64(frame.wrapping_add(40)));
+  store64(frame.wrapping_add(168), v12);
+  store64(frame.wrapping_add(160), curve_len);
+  store64(frame.wrapping_add(152), curve);
+  store64(frame.wrapping_add(144), v14);
+  store64(frame.wrapping_add(176), load64(frame.wrapping_add(192)));
+  store64(frame.wrapping_add(184), load64(frame.wrapping_add(200)));
+  sec1_der_optional_OptionalEncodePart_prepend_part(frame.wrapping_add(168),
+      frame.wrapping_add(104));
+  sec1_der_optional_OptionalEncodePart_prepend_part_2(frame.wrapping_add(144),
+      frame.wrapping_add(104));
+  sec1_der_required_RequiredEncodePart_prepend_part(load64(frame.wrapping_add(128)),
+      load64(frame.wrapping_add(136)), frame.wrapping_add(104));
+  curve = load64(frame.wrapping_add(104));
+  v14 = load64(frame.wrapping_add(120));
+  v12 = curve.wrapping_add(v14);
+  store8(v12.wrapping_add(0xffffffffffffffff), 1);
+  v14 = v14.wrapping_add(0xfffffffffffffffd);
+  store16(curve.wrapping_add(v14), 258);
   'after_17: {
-  v15 = load32(frame.wrapping_add(180));
-  if v15 >= 128 {
-    break 'after_17;
-  }
-  private_key = 2;
-  break 'after_18;
-  }
-  'after_19: {
-  if v15 >= 256 {
-    break 'after_19;
-  }
-  private_key = 3;
-  break 'after_18;
-  }
-  'after_20: {
-  if v15 >= 0x10000 {
-    break 'after_20;
-  }
-  private_key = 4;
-  break 'after_18;
-  }
-  private_key = if v15 < 0x1000000 { 5u64 } else { 6u64 };
-  }
-  private_key = private_key.wrapping_add(v15 as u64);
-  if out_len < private_key {
+  'after_16: {
+  curve_len = v10.wrapping_sub(v14);
+  if curve_len > 127 {
     break 'after_16;
   }
-  store64(frame.wrapping_add(128), private_key);
-  store64(frame.wrapping_add(120), private_key);
-  store64(frame.wrapping_add(112), out.wrapping_add(if out == 0 { 4096u64 } else { 0u64 }));
-  store64(frame.wrapping_add(176), 0);
-  store64(frame.wrapping_add(184), 0);
-  'after_21: {
-  if v13 != 0 {
-    break 'after_21;
+  store16(v12.wrapping_add(0xfffffffffffffffb), (((curve_len as u32) << 8) | 48) as u16);
+  break 'after_17;
   }
-  store64(frame.wrapping_add(184), load64(v11.wrapping_add(8)));
-  store64(frame.wrapping_add(176), load64(v11));
+  let t6 = sec1_der_back_writer_prepend_long_header(curve, v14, 48, curve_len);
   }
-  store64(frame.wrapping_add(200), load64(frame.wrapping_add(16)));
-  store64(frame.wrapping_add(192), load64(frame.wrapping_add(8)));
-  store64(frame.wrapping_add(232), v12);
-  store64(frame.wrapping_add(224), curve_len);
-  store64(frame.wrapping_add(216), public_key);
-  store64(frame.wrapping_add(208), curve);
-  store64(frame.wrapping_add(240), load64(frame.wrapping_add(176)));
-  store64(frame.wrapping_add(248), load64(frame.wrapping_add(184)));
-  sec1_der_part_Tuple2EncodePart_prepend_part(frame.wrapping_add(192), frame.wrapping_add(112));
-  'after_23: {
-  'after_22: {
-  v11 = load64(frame.wrapping_add(128));
-  curve = private_key.wrapping_sub(v11);
-  if curve > 127 {
-    break 'after_22;
-  }
-  store16(((load64(frame.wrapping_add(112))).wrapping_add(v11)).wrapping_add(0xfffffffffffffffe),
-      (((curve as u32) << 8) | 48) as u16);
-  break 'after_23;
-  }
-  sec1_der_back_writer_BackWriter_prepend_long_header(frame.wrapping_add(112), 48, curve);
-  }
-  store64(len, private_key);
+  store64(len, v10);
   v13 = 0;
-  break 'after_12;
+  break 'after_6;
   }
-  store64(frame.wrapping_add(112), 0);
-  store64(frame.wrapping_add(120), 0);
-  store64(frame.wrapping_add(176), 0);
-  'after_24: {
-  if v13 != 0 {
-    break 'after_24;
+  sec1_der_codec_element_len(frame.wrapping_add(8), frame.wrapping_add(40));
+  'after_18: {
+  if (load8(frame.wrapping_add(8)) as u32) != 1 {
+    break 'after_18;
   }
-  store64(frame.wrapping_add(120), load64(v11.wrapping_add(8)));
-  store64(frame.wrapping_add(112), load64(v11));
+  store64(len, load64(frame.wrapping_add(16)));
+  v13 = if v15 == 1 { 7u32 } else { 6u32 };
+  break 'after_6;
   }
-  store64(frame.wrapping_add(200), load64(frame.wrapping_add(16)));
-  store64(frame.wrapping_add(192), load64(frame.wrapping_add(8)));
-  store64(frame.wrapping_add(232), v12);
-  store64(frame.wrapping_add(224), curve_len);
-  store64(frame.wrapping_add(216), public_key);
-  store64(frame.wrapping_add(208), curve);
-  store64(frame.wrapping_add(240), load64(frame.wrapping_add(112)));
-  store64(frame.wrapping_add(248), load64(frame.wrapping_add(120)));
-  sec1_der_part_Tuple2EncodePart_part_len(frame.wrapping_add(176), frame.wrapping_add(192));
-  'after_25: {
-  if (load8(frame.wrapping_add(176)) as u32) != 0 {
-    break 'after_25;
-  }
-  'after_27: {
-  'after_26: {
-  v13 = load32(frame.wrapping_add(180));
-  if v13 >= 128 {
-    break 'after_26;
-  }
-  curve = 2;
-  break 'after_27;
-  }
-  'after_28: {
-  if v13 >= 256 {
-    break 'after_28;
-  }
-  curve = 3;
-  break 'after_27;
-  }
-  'after_29: {
-  if v13 >= 0x10000 {
-    break 'after_29;
-  }
-  curve = 4;
-  break 'after_27;
-  }
-  curve = if v13 < 0x1000000 { 5u64 } else { 6u64 };
-  }
-  store64(len, curve.wrapping_add(v13 as u64));
-  v13 = if v14 != 0 { 6u32 } else { 7u32 };
-  break 'after_12;
-  }
-  v13 = if v14 != 0 { 6u32 } else { 7u32 };
+  v13 = if v15 == 1 { 7u32 } else { 6u32 };
   }
   return v13;
 }
@@ -42822,7 +42857,7 @@ unsafe fn export_sec1_point_to_hybrid(bytes: u64, mut bytes_len: u64, mut field_
 // rattle::export sec1_signature_write
 unsafe fn export_sec1_signature_write(mut r: u64, mut r_len: u64, mut s: u64, mut s_len: u64,
     out: u64, out_len: u64, len: u64) -> u32 {
-  let mut array = Frame::<64>::new();
+  let mut array = Frame::<32>::new();
   let frame = address(&raw mut array);
   let mut v7 = 0u64;
   let mut v9 = 0u64;
@@ -42999,24 +43034,21 @@ unsafe fn export_sec1_signature_write(mut r: u64, mut r_len: u64, mut s: u64, mu
   store64(frame.wrapping_add(24), v7);
   store64(frame.wrapping_add(16), v7);
   store64(frame.wrapping_add(8), out.wrapping_add(if out == 0 { 4096u64 } else { 0u64 }));
-  store64(frame.wrapping_add(56), s_len);
-  store64(frame.wrapping_add(48), s);
-  store64(frame.wrapping_add(40), r_len);
-  store64(frame.wrapping_add(32), r);
-  sec1_der_required_RequiredEncodePart_prepend_part(frame.wrapping_add(48), frame.wrapping_add(8));
-  sec1_der_required_RequiredEncodePart_prepend_part(frame.wrapping_add(32), frame.wrapping_add(8));
+  sec1_der_required_RequiredEncodePart_prepend_part_2(s, s_len, frame.wrapping_add(8));
+  sec1_der_required_RequiredEncodePart_prepend_part_2(r, r_len, frame.wrapping_add(8));
+  r = load64(frame.wrapping_add(8));
   'after_25: {
   'after_24: {
   s = load64(frame.wrapping_add(24));
-  r = v7.wrapping_sub(s);
-  if r > 127 {
+  r_len = v7.wrapping_sub(s);
+  if r_len > 127 {
     break 'after_24;
   }
-  store16(((load64(frame.wrapping_add(8))).wrapping_add(s)).wrapping_add(0xfffffffffffffffe),
-      (((r as u32) << 8) | 48) as u16);
+  store16((r.wrapping_add(s)).wrapping_add(0xfffffffffffffffe),
+      (((r_len as u32) << 8) | 48) as u16);
   break 'after_25;
   }
-  sec1_der_back_writer_BackWriter_prepend_long_header(frame.wrapping_add(8), 48, r);
+  let t0 = sec1_der_back_writer_prepend_long_header(r, s, 48, r_len);
   }
   store64(len, v7);
   v11 = 0;
@@ -43140,10 +43172,10 @@ unsafe fn export_sec1_signature_write(mut r: u64, mut r_len: u64, mut s: u64, mu
 }
 
 // rattle::export sec1_private_key_info_write
-unsafe fn export_sec1_private_key_info_write(mut private_key: u64, private_key_len: u64,
+unsafe fn export_sec1_private_key_info_write(mut private_key: u64, mut private_key_len: u64,
     mut curve: u64, mut curve_len: u64, mut public_key: u64, mut public_key_len: u64,
-    mut has_public_key: u64, mut out: u64, mut out_len: u64, len: u64) -> u32 {
-  let mut array = Frame::<544>::new();
+    mut has_public_key: u64, mut out: u64, out_len: u64, len: u64) -> u32 {
+  let mut array = Frame::<464>::new();
   let frame = address(&raw mut array);
   let mut v11 = 0u32;
   let mut v12 = 0u64;
@@ -43159,173 +43191,234 @@ unsafe fn export_sec1_private_key_info_write(mut private_key: u64, private_key_l
   v11 = load8(frame.wrapping_add(33)) as u32;
   store32(frame.wrapping_add(47), 0);
   store64(frame.wrapping_add(40), 0);
-  let t0 = sec1_c_algorithm_write_curve(v11, frame.wrapping_add(40));
-  curve = t0;
-  store64(frame.wrapping_add(496), 0);
-  store64(frame.wrapping_add(488), curve);
-  store64(frame.wrapping_add(480), frame.wrapping_add(40));
-  store64(frame.wrapping_add(296), 0);
-  store64(frame.wrapping_add(288), 0);
-  store64(frame.wrapping_add(280), 0);
   store64(frame.wrapping_add(272), 0);
-  sec1_der_any_AnyRef_decode(frame.wrapping_add(272), frame.wrapping_add(480));
-  if (load8(frame.wrapping_add(272)) as u32) != 0 {
+  store64(frame.wrapping_add(264), 0);
+  store64(frame.wrapping_add(256), 0);
+  store64(frame.wrapping_add(248), 0);
+  store64(frame.wrapping_add(240), 0);
+  store64(frame.wrapping_add(232), 0);
+  curves_curve_Curve_identifier(frame.wrapping_add(232), v11);
+  curve = load64(frame.wrapping_add(272));
+  if curve > 0xfffffff {
     break 'after_2;
   }
-  store64(frame.wrapping_add(248), load64(frame.wrapping_add(280)));
-  store64(frame.wrapping_add(256), load64(frame.wrapping_add(288)));
-  store64(frame.wrapping_add(264), load64(frame.wrapping_add(296)));
-  if (load64(frame.wrapping_add(488))) != 0 {
+  'after_4: {
+  'after_3: {
+  if curve >= 128 {
+    break 'after_3;
+  }
+  v12 = 2;
+  break 'after_4;
+  }
+  'after_5: {
+  if curve >= 256 {
+    break 'after_5;
+  }
+  v12 = 3;
+  break 'after_4;
+  }
+  'after_6: {
+  if curve >= 0x10000 {
+    break 'after_6;
+  }
+  v12 = 4;
+  break 'after_4;
+  }
+  v12 = if curve < 0x1000000 { 5u64 } else { 6u64 };
+  }
+  curve_len = v12.wrapping_add(curve);
+  if curve_len > 11 {
     break 'after_2;
   }
-  if ((load8(frame.wrapping_add(496)) as u32) & 255) != 0 {
+  v13 = (frame.wrapping_add(232)).wrapping_add(curve);
+  v12 = (frame.wrapping_add(40)) | v12;
+  'after_8: {
+  'after_7: {
+  if curve < 8 {
+    break 'after_7;
+  }
+  store64(v12, load64(frame.wrapping_add(232)));
+  store64(((frame.wrapping_add(40)).wrapping_add(curve_len)).wrapping_add(0xfffffffffffffff8),
+      load64(v13.wrapping_add(0xfffffffffffffff8)));
+  break 'after_8;
+  }
+  'after_9: {
+  if curve < 4 {
+    break 'after_9;
+  }
+  store32(v12, load32(frame.wrapping_add(232)));
+  store32(((frame.wrapping_add(40)).wrapping_add(curve_len)).wrapping_add(0xfffffffffffffffc),
+      load32(v13.wrapping_add(0xfffffffffffffffc)));
+  break 'after_8;
+  }
+  if curve == 0 {
+    break 'after_8;
+  }
+  move_(v12, frame.wrapping_add(232), curve);
+  }
+  store16(v12.wrapping_add(0xfffffffffffffffe), (((curve as u32) << 8) | 6) as u16);
+  store64(frame.wrapping_add(416), 0);
+  store64(frame.wrapping_add(408), curve_len);
+  store64(frame.wrapping_add(400), frame.wrapping_add(40));
+  store64(frame.wrapping_add(256), 0);
+  store64(frame.wrapping_add(248), 0);
+  store64(frame.wrapping_add(240), 0);
+  store64(frame.wrapping_add(232), 0);
+  sec1_der_any_AnyRef_decode(frame.wrapping_add(232), frame.wrapping_add(400));
+  if (load8(frame.wrapping_add(232)) as u32) != 0 {
     break 'after_2;
   }
-  curve_len = load64(frame.wrapping_add(264));
-  store64(frame.wrapping_add(72), curve_len);
-  v12 = load64(frame.wrapping_add(256));
+  store64(frame.wrapping_add(208), load64(frame.wrapping_add(240)));
+  store64(frame.wrapping_add(216), load64(frame.wrapping_add(248)));
+  store64(frame.wrapping_add(224), load64(frame.wrapping_add(256)));
+  if (load64(frame.wrapping_add(408))) != 0 {
+    break 'after_2;
+  }
+  if ((load8(frame.wrapping_add(416)) as u32) & 255) != 0 {
+    break 'after_2;
+  }
+  curve = load64(frame.wrapping_add(224));
+  store64(frame.wrapping_add(72), curve);
+  v12 = load64(frame.wrapping_add(216));
   store64(frame.wrapping_add(64), v12);
-  v13 = load64(frame.wrapping_add(248));
+  v13 = load64(frame.wrapping_add(208));
   store64(frame.wrapping_add(56), v13);
-  store64(frame.wrapping_add(112), curve);
+  store64(frame.wrapping_add(112), curve_len);
   store64(frame.wrapping_add(96), 1);
   store64(frame.wrapping_add(88), 7);
   store64(frame.wrapping_add(80), constant(281));
   store64(frame.wrapping_add(120), v13);
   store64(frame.wrapping_add(128), v12);
-  store64(frame.wrapping_add(136), curve_len);
+  store64(frame.wrapping_add(136), curve);
   curve_len = private_key.wrapping_add(if private_key == 0 { 4096u64 } else { 0u64 });
   store64(frame.wrapping_add(144), curve_len);
   store64(frame.wrapping_add(152), private_key_len);
   store64(frame.wrapping_add(104), frame.wrapping_add(40));
-  store64(frame.wrapping_add(216), 0);
-  store64(frame.wrapping_add(208), 0);
-  store64(frame.wrapping_add(200), 0);
-  store64(frame.wrapping_add(192), 0);
-  store64(frame.wrapping_add(184), 0);
   store64(frame.wrapping_add(176), 0);
   store64(frame.wrapping_add(168), 0);
   store64(frame.wrapping_add(160), 0);
   v11 = u32::from(has_public_key != 0);
   private_key = if v11 != 0 { public_key_len } else { 0u64 };
-  store64(frame.wrapping_add(240), private_key);
+  store64(frame.wrapping_add(200), private_key);
   public_key = if v11 != 0 { public_key.wrapping_add(if public_key == 0 { 4096u64 } else { 0u64
       }) } else { 0u64 };
-  store64(frame.wrapping_add(232), public_key);
+  store64(frame.wrapping_add(192), public_key);
   has_public_key = v11 as u64;
-  store64(frame.wrapping_add(224), has_public_key);
-  sec1_der_codec_element_len(frame.wrapping_add(16), frame.wrapping_add(80));
-  'after_3: {
+  store64(frame.wrapping_add(184), has_public_key);
+  sec1_der_codec_element_len_3(frame.wrapping_add(16), frame.wrapping_add(80));
+  'after_10: {
   v11 = load8(frame.wrapping_add(16)) as u32;
   if v11 != 1 {
-    break 'after_3;
+    break 'after_10;
   }
   curve = load64(frame.wrapping_add(24));
   if out_len < curve {
-    break 'after_3;
+    break 'after_10;
   }
-  store64(frame.wrapping_add(264), curve);
-  store64(frame.wrapping_add(256), curve);
-  store64(frame.wrapping_add(248), out.wrapping_add(if out == 0 { 4096u64 } else { 0u64 }));
+  store64(frame.wrapping_add(224), curve);
+  store64(frame.wrapping_add(216), curve);
+  store64(frame.wrapping_add(208), out.wrapping_add(if out == 0 { 4096u64 } else { 0u64 }));
   public_key_len = load64(frame.wrapping_add(56));
-  store64(frame.wrapping_add(456), public_key_len);
-  out = load64(frame.wrapping_add(64));
-  store64(frame.wrapping_add(464), out);
-  out_len = load64(frame.wrapping_add(72));
-  store64(frame.wrapping_add(472), out_len);
-  store64(frame.wrapping_add(288), 1);
-  store64(frame.wrapping_add(280), 7);
-  store64(frame.wrapping_add(272), constant(281));
-  store64(frame.wrapping_add(312), public_key_len);
-  store64(frame.wrapping_add(320), out);
-  store64(frame.wrapping_add(328), out_len);
+  store64(frame.wrapping_add(376), public_key_len);
+  v12 = load64(frame.wrapping_add(64));
+  store64(frame.wrapping_add(384), v12);
+  out = load64(frame.wrapping_add(72));
+  store64(frame.wrapping_add(392), out);
+  store64(frame.wrapping_add(248), 1);
+  store64(frame.wrapping_add(240), 7);
+  store64(frame.wrapping_add(232), constant(281));
+  store64(frame.wrapping_add(272), public_key_len);
+  store64(frame.wrapping_add(280), v12);
+  store64(frame.wrapping_add(288), out);
   public_key_len = frame.wrapping_add(104);
-  out = load64(public_key_len);
-  store64(frame.wrapping_add(440), out);
+  v12 = load64(public_key_len);
+  store64(frame.wrapping_add(360), v12);
   public_key_len = load64(public_key_len.wrapping_add(8));
-  store64(frame.wrapping_add(448), public_key_len);
-  store64(frame.wrapping_add(296), out);
-  store64(frame.wrapping_add(304), public_key_len);
-  store64(frame.wrapping_add(344), private_key_len);
-  store64(frame.wrapping_add(336), curve_len);
-  store64(frame.wrapping_add(352), 0);
-  store64(frame.wrapping_add(360), 0);
-  store64(frame.wrapping_add(368), 0);
-  store64(frame.wrapping_add(376), 0);
-  store64(frame.wrapping_add(384), 0);
-  store64(frame.wrapping_add(392), 0);
-  store64(frame.wrapping_add(400), 0);
-  store64(frame.wrapping_add(408), 0);
-  store64(frame.wrapping_add(416), has_public_key);
-  store64(frame.wrapping_add(424), public_key);
-  store64(frame.wrapping_add(432), private_key);
-  store64(frame.wrapping_add(496), 0);
-  store64(frame.wrapping_add(488), private_key_len);
-  store64(frame.wrapping_add(480), curve_len);
-  store64(frame.wrapping_add(504), 0);
-  store64(frame.wrapping_add(512), 0);
-  store64(frame.wrapping_add(536), private_key);
-  store64(frame.wrapping_add(528), public_key);
-  store64(frame.wrapping_add(520), has_public_key);
-  sec1_der_part_Tuple2EncodePart_prepend_part(frame.wrapping_add(480), frame.wrapping_add(248));
-  'after_5: {
-  'after_4: {
-  curve_len = load64(frame.wrapping_add(264));
-  public_key = curve.wrapping_sub(curve_len);
-  if public_key > 127 {
-    break 'after_4;
+  store64(frame.wrapping_add(368), public_key_len);
+  store64(frame.wrapping_add(256), v12);
+  store64(frame.wrapping_add(264), public_key_len);
+  store64(frame.wrapping_add(304), private_key_len);
+  store64(frame.wrapping_add(296), curve_len);
+  store64(frame.wrapping_add(312), 0);
+  store64(frame.wrapping_add(320), 0);
+  store64(frame.wrapping_add(328), 0);
+  store64(frame.wrapping_add(336), has_public_key);
+  store64(frame.wrapping_add(344), public_key);
+  store64(frame.wrapping_add(352), private_key);
+  store64(frame.wrapping_add(416), 0);
+  store64(frame.wrapping_add(408), private_key_len);
+  store64(frame.wrapping_add(400), curve_len);
+  store64(frame.wrapping_add(424), 0);
+  store64(frame.wrapping_add(432), 0);
+  store64(frame.wrapping_add(456), private_key);
+  store64(frame.wrapping_add(448), public_key);
+  store64(frame.wrapping_add(440), has_public_key);
+  sec1_der_optional_OptionalEncodePart_prepend_part(frame.wrapping_add(440),
+      frame.wrapping_add(208));
+  sec1_der_optional_OptionalEncodePart_prepend_part_2(frame.wrapping_add(416),
+      frame.wrapping_add(208));
+  sec1_der_required_RequiredEncodePart_prepend_part(curve_len, private_key_len,
+      frame.wrapping_add(208));
+  curve_len = load64(frame.wrapping_add(208));
+  public_key = load64(frame.wrapping_add(224));
+  store8((curve_len.wrapping_add(public_key)).wrapping_add(0xffffffffffffffff), 1);
+  private_key = public_key.wrapping_add(0xfffffffffffffffd);
+  store16(curve_len.wrapping_add(private_key), 258);
+  'after_12: {
+  'after_11: {
+  private_key_len = curve.wrapping_sub(private_key);
+  if private_key_len > 127 {
+    break 'after_11;
   }
-  curve_len = curve_len.wrapping_add(0xfffffffffffffffe);
-  store16((load64(frame.wrapping_add(248))).wrapping_add(curve_len),
-      (((public_key as u32) << 8) | 48) as u16);
-  store64(frame.wrapping_add(264), curve_len);
-  break 'after_5;
+  public_key = public_key.wrapping_add(0xfffffffffffffffb);
+  store16(curve_len.wrapping_add(public_key), (((private_key_len as u32) << 8) | 48) as u16);
+  break 'after_12;
   }
-  sec1_der_back_writer_BackWriter_prepend_long_header(frame.wrapping_add(248), 48, public_key);
-  curve_len = load64(frame.wrapping_add(264));
+  let t0 = sec1_der_back_writer_prepend_long_header(curve_len, private_key, 48, private_key_len);
+  public_key = t0;
   }
-  'after_7: {
-  'after_6: {
-  public_key = curve.wrapping_sub(curve_len);
-  if public_key > 127 {
-    break 'after_6;
+  'after_14: {
+  'after_13: {
+  private_key = curve.wrapping_sub(public_key);
+  if private_key > 127 {
+    break 'after_13;
   }
-  curve_len = curve_len.wrapping_add(0xfffffffffffffffe);
-  store64(frame.wrapping_add(264), curve_len);
-  store16((load64(frame.wrapping_add(248))).wrapping_add(curve_len),
-      (((public_key as u32) << 8) | 4) as u16);
-  break 'after_7;
+  public_key = public_key.wrapping_add(0xfffffffffffffffe);
+  store16(curve_len.wrapping_add(public_key), (((private_key as u32) << 8) | 4) as u16);
+  break 'after_14;
   }
-  sec1_der_back_writer_BackWriter_prepend_long_header(frame.wrapping_add(248), 4, public_key);
+  let t1 = sec1_der_back_writer_prepend_long_header(curve_len, public_key, 4, private_key);
+  public_key = t1;
   }
-  pkix_algorithm_AlgorithmIdentifierEncodePart_prepend_part(frame.wrapping_add(272),
-      frame.wrapping_add(248));
-  public_key = load64(frame.wrapping_add(248));
-  curve_len = load64(frame.wrapping_add(264));
-  private_key = public_key.wrapping_add(curve_len);
-  store8(private_key.wrapping_add(0xffffffffffffffff), 0);
-  curve_len = curve_len.wrapping_add(0xfffffffffffffffd);
-  store64(frame.wrapping_add(264), curve_len);
-  store16(public_key.wrapping_add(curve_len), 258);
-  'after_9: {
-  'after_8: {
-  curve_len = curve.wrapping_sub(curve_len);
-  if curve_len > 127 {
-    break 'after_8;
+  store64(frame.wrapping_add(224), public_key);
+  pkix_algorithm_AlgorithmIdentifierEncodePart_prepend_part(frame.wrapping_add(232),
+      frame.wrapping_add(208));
+  curve_len = load64(frame.wrapping_add(208));
+  public_key = load64(frame.wrapping_add(224));
+  private_key_len = curve_len.wrapping_add(public_key);
+  store8(private_key_len.wrapping_add(0xffffffffffffffff), 0);
+  public_key = public_key.wrapping_add(0xfffffffffffffffd);
+  store16(curve_len.wrapping_add(public_key), 258);
+  'after_16: {
+  'after_15: {
+  private_key = curve.wrapping_sub(public_key);
+  if private_key > 127 {
+    break 'after_15;
   }
-  store16(private_key.wrapping_add(0xfffffffffffffffb), (((curve_len as u32) << 8) | 48) as u16);
-  break 'after_9;
+  store16(private_key_len.wrapping_add(0xfffffffffffffffb),
+      (((private_key as u32) << 8) | 48) as u16);
+  break 'after_16;
   }
-  sec1_der_back_writer_BackWriter_prepend_long_header(frame.wrapping_add(248), 48, curve_len);
+  let t2 = sec1_der_back_writer_prepend_long_header(curve_len, public_key, 48, private_key);
   }
   store64(len, curve);
   v11 = 0;
   break 'after_1;
   }
-  sec1_der_codec_element_len(frame, frame.wrapping_add(80));
-  'after_10: {
+  sec1_der_codec_element_len_3(frame, frame.wrapping_add(80));
+  'after_17: {
   if (load8(frame) as u32) != 1 {
-    break 'after_10;
+    break 'after_17;
   }
   store64(len, load64(frame.wrapping_add(8)));
   }
@@ -43337,50 +43430,43 @@ unsafe fn export_sec1_private_key_info_write(mut private_key: u64, private_key_l
 }
 
 // rattle::export sec1_public_key_write
-unsafe fn export_sec1_public_key_write(mut curve: u64, mut curve_len: u64, public_key: u64,
-    mut public_key_len: u64, out: u64, mut out_len: u64, len: u64) -> u32 {
-  let mut array = Frame::<192>::new();
+unsafe fn export_sec1_public_key_write(mut curve: u64, mut curve_len: u64, mut public_key: u64,
+    mut public_key_len: u64, mut out: u64, mut out_len: u64, len: u64) -> u32 {
+  let mut array = Frame::<352>::new();
   let frame = address(&raw mut array);
   let mut v8 = 0u32;
   let mut v9 = 0u32;
   let mut v10 = 0u32;
   let mut v11 = 0u64;
   let mut v12 = 0u64;
-  let mut v13 = 0u32;
+  let mut v13 = 0u64;
   let mut v14 = 0u64;
   let mut v15 = 0u64;
   let mut v16 = 0u64;
   let mut v17 = 0u64;
-  let mut v18 = 0u64;
-  let mut v19 = 0u64;
-  let mut v20 = 0u64;
-  let mut v21 = 0u64;
-  let mut v22 = 0u64;
+  'after_1: {
   'after_7: {
-  curves_curve_Curve_from_content(frame.wrapping_add(8),
+  curves_curve_Curve_from_content(frame.wrapping_add(40),
       curve.wrapping_add(if curve == 0 { 4096u64 } else { 0u64 }), curve_len);
   v8 = 11;
-  'after_1: {
-  if (load8(frame.wrapping_add(8)) as u32) != 1 {
+  if (load8(frame.wrapping_add(40)) as u32) != 1 {
     break 'after_1;
   }
   v8 = 9;
-  v9 = u32::from(public_key_len == 0);
-  if v9 != 0 {
+  if public_key_len == 0 {
     break 'after_1;
   }
-  v10 = load8(frame.wrapping_add(9)) as u32;
-  v11 = load64(constant(11728).wrapping_add(((v10 as u64) & 255) << 3));
-  curve_len = 1;
+  v9 = load8(frame.wrapping_add(41)) as u32;
+  curve_len = load64(constant(11728).wrapping_add(((v9 as u64) & 255) << 3));
+  curve = 1;
   'after_6: {
   'after_5: {
   'after_4: {
   'after_3: {
   'after_2: {
-  v12 = if public_key == 0 { 4096u64 } else { 0u64 };
-  curve = public_key.wrapping_add(v12);
-  v13 = load8(curve) as u32;
-  match v13 {
+  public_key = public_key.wrapping_add(if public_key == 0 { 4096u64 } else { 0u64 });
+  v10 = load8(public_key) as u32;
+  match v10 {
   2 | 3 | 5 => {
     break 'after_2;
   }
@@ -43398,281 +43484,368 @@ unsafe fn export_sec1_public_key_write(mut curve: u64, mut curve_len: u64, publi
   }
   }
   }
-  curve_len = v11 | 1;
+  curve = curve_len | 1;
   }
-  if public_key_len == curve_len {
+  if public_key_len == curve {
     break 'after_6;
   }
   break 'after_1;
   }
-  if public_key_len != ((v11 << 1) | 1) {
+  if public_key_len != ((curve_len << 1) | 1) {
     break 'after_1;
   }
-  if (((load8((curve.wrapping_add(public_key_len)).wrapping_add(0xffffffffffffffff)) as u32) ^
-      v13) & 1) != 0 {
+  if (((load8((public_key.wrapping_add(public_key_len)).wrapping_add(0xffffffffffffffff)) as
+      u32) ^ v10) & 1) != 0 {
     break 'after_1;
   }
   break 'after_6;
   }
-  if public_key_len != ((v11 << 1) | 1) {
+  if public_key_len != ((curve_len << 1) | 1) {
     break 'after_1;
   }
   }
-  store32(frame.wrapping_add(23), 0);
-  store64(frame.wrapping_add(16), 0);
-  let t0 = sec1_c_algorithm_write_curve(v10, frame.wrapping_add(16));
-  curve_len = t0;
-  store64(frame.wrapping_add(96), 0);
-  store64(frame.wrapping_add(88), curve_len);
-  store64(frame.wrapping_add(80), frame.wrapping_add(16));
-  store64(frame.wrapping_add(128), 0);
-  store64(frame.wrapping_add(120), 0);
-  store64(frame.wrapping_add(112), 0);
-  store64(frame.wrapping_add(104), 0);
-  sec1_der_any_AnyRef_decode(frame.wrapping_add(104), frame.wrapping_add(80));
-  if (load8(frame.wrapping_add(104)) as u32) != 0 {
+  store32(frame.wrapping_add(55), 0);
+  store64(frame.wrapping_add(48), 0);
+  store64(frame.wrapping_add(264), 0);
+  store64(frame.wrapping_add(256), 0);
+  store64(frame.wrapping_add(248), 0);
+  store64(frame.wrapping_add(240), 0);
+  store64(frame.wrapping_add(232), 0);
+  store64(frame.wrapping_add(224), 0);
+  curves_curve_Curve_identifier(frame.wrapping_add(224), v9);
+  curve = load64(frame.wrapping_add(264));
+  if curve > 0xfffffff {
     break 'after_7;
   }
-  store64(frame.wrapping_add(56), load64(frame.wrapping_add(112)));
-  store64(frame.wrapping_add(64), load64(frame.wrapping_add(120)));
-  store64(frame.wrapping_add(72), load64(frame.wrapping_add(128)));
-  if (load64(frame.wrapping_add(88))) != 0 {
-    break 'after_7;
-  }
-  if ((load8(frame.wrapping_add(96)) as u32) & 255) != 0 {
-    break 'after_7;
-  }
-  v11 = load64(frame.wrapping_add(72));
-  store64(frame.wrapping_add(48), v11);
-  v14 = load64(frame.wrapping_add(64));
-  store64(frame.wrapping_add(40), v14);
-  v15 = load64(frame.wrapping_add(56));
-  store64(frame.wrapping_add(32), v15);
-  store64(frame.wrapping_add(80), 0);
-  store64(frame.wrapping_add(144), v15);
-  store64(frame.wrapping_add(152), v14);
-  store64(frame.wrapping_add(160), v11);
-  store64(frame.wrapping_add(184), public_key_len);
-  store64(frame.wrapping_add(176), curve);
-  store64(frame.wrapping_add(168), 0);
-  store64(frame.wrapping_add(136), curve_len);
-  store64(frame.wrapping_add(120), 1);
-  store64(frame.wrapping_add(112), 7);
-  store64(frame.wrapping_add(104), constant(281));
-  store64(frame.wrapping_add(128), frame.wrapping_add(16));
-  sec1_der_part_Tuple2EncodePart_part_len_2(frame.wrapping_add(80), frame.wrapping_add(104));
+  'after_9: {
   'after_8: {
-  v8 = load8(frame.wrapping_add(80)) as u32;
-  if v8 != 0 {
+  if curve >= 128 {
     break 'after_8;
+  }
+  v11 = 2;
+  break 'after_9;
   }
   'after_10: {
-  'after_9: {
-  v10 = load32(frame.wrapping_add(84));
-  if v10 >= 128 {
-    break 'after_9;
+  if curve >= 256 {
+    break 'after_10;
   }
-  v16 = 2;
-  break 'after_10;
+  v11 = 3;
+  break 'after_9;
   }
   'after_11: {
-  if v10 >= 256 {
+  if curve >= 0x10000 {
     break 'after_11;
   }
-  v16 = 3;
-  break 'after_10;
+  v11 = 4;
+  break 'after_9;
   }
+  v11 = if curve < 0x1000000 { 5u64 } else { 6u64 };
+  }
+  curve_len = v11.wrapping_add(curve);
+  if curve_len > 11 {
+    break 'after_7;
+  }
+  v12 = (frame.wrapping_add(224)).wrapping_add(curve);
+  v11 = (frame.wrapping_add(48)) | v11;
+  'after_13: {
   'after_12: {
-  if v10 >= 0x10000 {
+  if curve < 8 {
     break 'after_12;
   }
-  v16 = 4;
-  break 'after_10;
+  store64(v11, load64(frame.wrapping_add(224)));
+  store64(((frame.wrapping_add(48)).wrapping_add(curve_len)).wrapping_add(0xfffffffffffffff8),
+      load64(v12.wrapping_add(0xfffffffffffffff8)));
+  break 'after_13;
   }
-  v16 = if v10 < 0x1000000 { 5u64 } else { 6u64 };
-  }
-  v17 = v10 as u64;
-  v18 = v16.wrapping_add(v17);
-  if out_len < v18 {
-    break 'after_8;
-  }
-  v19 = if out == 0 { 4096u64 } else { 0u64 };
-  v20 = out.wrapping_add(v19);
-  store64(frame.wrapping_add(80), v20);
-  store64(frame.wrapping_add(88), v18);
-  store64(frame.wrapping_add(160), load64(frame.wrapping_add(48)));
-  store64(frame.wrapping_add(152), load64(frame.wrapping_add(40)));
-  store64(frame.wrapping_add(144), load64(frame.wrapping_add(32)));
-  store64(frame.wrapping_add(176), curve);
-  store64(frame.wrapping_add(168), 0);
-  store64(frame.wrapping_add(136), curve_len);
-  store64(frame.wrapping_add(120), 1);
-  store64(frame.wrapping_add(112), 7);
-  store64(frame.wrapping_add(104), constant(281));
-  store64(frame.wrapping_add(184), public_key_len);
-  v21 = v18.wrapping_sub(public_key_len);
-  v15 = v20.wrapping_add(v21);
-  store64(frame.wrapping_add(128), frame.wrapping_add(16));
-  'after_15: {
-  'after_13: {
-  if public_key_len > 32 {
-    break 'after_13;
-  }
-  curve_len = curve.wrapping_add(public_key_len);
   'after_14: {
-  if public_key_len < 16 {
+  if curve < 4 {
     break 'after_14;
   }
-  public_key_len = load64(curve);
-  store64(v15.wrapping_add(8), load64(curve.wrapping_add(8)));
-  store64(v15, public_key_len);
-  curve = curve_len.wrapping_add(0xfffffffffffffff0);
-  public_key_len = load64(curve);
-  curve_len = (v20.wrapping_add(v18)).wrapping_add(0xfffffffffffffff0);
-  store64(curve_len.wrapping_add(8), load64(curve.wrapping_add(8)));
-  store64(curve_len, public_key_len);
-  break 'after_15;
+  store32(v11, load32(frame.wrapping_add(224)));
+  store32(((frame.wrapping_add(48)).wrapping_add(curve_len)).wrapping_add(0xfffffffffffffffc),
+      load32(v12.wrapping_add(0xfffffffffffffffc)));
+  break 'after_13;
   }
-  if (public_key_len.wrapping_add(0xfffffffffffffff7)) < 0xfffffffffffffffb {
+  if curve == 0 {
     break 'after_13;
   }
-  store32(v15, load32(curve));
-  store32((v20.wrapping_add(v18)).wrapping_add(0xfffffffffffffffc),
-      load32(curve_len.wrapping_add(0xfffffffffffffffc)));
-  break 'after_15;
+  move_(v11, frame.wrapping_add(224), curve);
   }
+  store16(v11.wrapping_add(0xfffffffffffffffe), (((curve as u32) << 8) | 6) as u16);
+  store64(frame.wrapping_add(216), 0);
+  store64(frame.wrapping_add(208), curve_len);
+  store64(frame.wrapping_add(200), frame.wrapping_add(48));
+  store64(frame.wrapping_add(248), 0);
+  store64(frame.wrapping_add(240), 0);
+  store64(frame.wrapping_add(232), 0);
+  store64(frame.wrapping_add(224), 0);
+  sec1_der_any_AnyRef_decode(frame.wrapping_add(224), frame.wrapping_add(200));
+  if (load8(frame.wrapping_add(224)) as u32) != 0 {
+    break 'after_7;
+  }
+  store64(frame.wrapping_add(176), load64(frame.wrapping_add(232)));
+  store64(frame.wrapping_add(184), load64(frame.wrapping_add(240)));
+  store64(frame.wrapping_add(192), load64(frame.wrapping_add(248)));
+  if (load64(frame.wrapping_add(208))) != 0 {
+    break 'after_7;
+  }
+  if ((load8(frame.wrapping_add(216)) as u32) & 255) != 0 {
+    break 'after_7;
+  }
+  v11 = load64(frame.wrapping_add(192));
+  store64(frame.wrapping_add(80), v11);
+  v12 = load64(frame.wrapping_add(184));
+  store64(frame.wrapping_add(72), v12);
+  v13 = load64(frame.wrapping_add(176));
+  store64(frame.wrapping_add(64), v13);
+  curve = frame.wrapping_add(128);
+  store64(curve, v13);
+  store64(curve.wrapping_add(8), v12);
+  store64(curve.wrapping_add(16), v11);
+  store64(frame.wrapping_add(120), curve_len);
+  store64(frame.wrapping_add(104), 1);
+  store64(frame.wrapping_add(96), 7);
+  store64(frame.wrapping_add(88), constant(281));
+  store64(frame.wrapping_add(152), 0);
+  store64(frame.wrapping_add(160), public_key);
+  store64(frame.wrapping_add(168), public_key_len);
+  store64(frame.wrapping_add(112), frame.wrapping_add(48));
+  sec1_der_codec_element_len_2(frame.wrapping_add(24), frame.wrapping_add(88));
+  'after_15: {
+  v8 = load8(frame.wrapping_add(24)) as u32;
+  if v8 != 1 {
+    break 'after_15;
+  }
+  curve = load64(frame.wrapping_add(32));
+  if out_len < curve {
+    break 'after_15;
+  }
+  curve_len = load64(frame.wrapping_add(64));
+  store64(frame.wrapping_add(328), curve_len);
+  public_key_len = load64(frame.wrapping_add(72));
+  store64(frame.wrapping_add(336), public_key_len);
+  public_key = load64(frame.wrapping_add(80));
+  store64(frame.wrapping_add(344), public_key);
+  v14 = if out == 0 { 4096u64 } else { 0u64 };
+  v15 = out.wrapping_add(v14);
+  store64(frame.wrapping_add(200), v15);
+  store64(frame.wrapping_add(208), curve);
+  store64(frame.wrapping_add(240), 1);
+  store64(frame.wrapping_add(232), 7);
+  store64(frame.wrapping_add(224), constant(281));
+  store64(frame.wrapping_add(264), curve_len);
+  store64(frame.wrapping_add(272), public_key_len);
+  store64(frame.wrapping_add(280), public_key);
+  curve_len = frame.wrapping_add(112);
+  public_key_len = load64(curve_len);
+  store64(frame.wrapping_add(312), public_key_len);
+  curve_len = load64(curve_len.wrapping_add(8));
+  store64(frame.wrapping_add(320), curve_len);
+  store64(frame.wrapping_add(248), public_key_len);
+  store64(frame.wrapping_add(256), curve_len);
+  public_key_len = frame.wrapping_add(152);
+  public_key = load64(public_key_len.wrapping_add(16));
+  store64(frame.wrapping_add(304), public_key);
+  curve_len = load64(public_key_len.wrapping_add(8));
+  store64(frame.wrapping_add(296), curve_len);
+  store64(frame.wrapping_add(288), load64(public_key_len));
+  v16 = curve.wrapping_sub(public_key);
+  v12 = v15.wrapping_add(v16);
+  'after_18: {
+  'after_19: {
   'after_16: {
-  if (v15.wrapping_sub(curve)) >= public_key_len {
+  if public_key < 33 {
     break 'after_16;
   }
-  v14 = public_key_len & 3;
-  curve_len = 0;
+  public_key_len = curve_len.wrapping_add(public_key);
   'after_17: {
-  if public_key_len < 4 {
+  if public_key > 64 {
     break 'after_17;
   }
-  v22 = public_key_len & 0xfffffffffffffffc;
-  curve_len = 0;
-  'again_18: loop {
-  out_len = v15.wrapping_add(curve_len);
-  v11 = curve.wrapping_add(curve_len);
+  public_key = load64(curve_len);
+  out = load64(curve_len.wrapping_add(8));
+  out_len = load64(curve_len.wrapping_add(16));
+  store64(v12.wrapping_add(24), load64(curve_len.wrapping_add(24)));
+  store64(v12.wrapping_add(16), out_len);
+  store64(v12.wrapping_add(8), out);
+  store64(v12, public_key);
+  curve_len = public_key_len.wrapping_add(0xffffffffffffffe0);
+  public_key = load64(curve_len);
+  out = load64(curve_len.wrapping_add(8));
+  out_len = load64(curve_len.wrapping_add(16));
+  public_key_len = (v15.wrapping_add(curve)).wrapping_add(0xffffffffffffffe0);
+  store64(public_key_len.wrapping_add(24), load64(curve_len.wrapping_add(24)));
+  store64(public_key_len.wrapping_add(16), out_len);
+  store64(public_key_len.wrapping_add(8), out);
+  store64(public_key_len, public_key);
+  break 'after_18;
+  }
+  if public_key > 128 {
+    break 'after_19;
+  }
+  public_key = load64(curve_len);
+  out = load64(curve_len.wrapping_add(8));
+  out_len = load64(curve_len.wrapping_add(16));
+  v11 = load64(curve_len.wrapping_add(24));
+  v13 = load64(curve_len.wrapping_add(32));
+  v17 = load64(curve_len.wrapping_add(40));
+  v14 = load64(curve_len.wrapping_add(48));
+  store64(v12.wrapping_add(56), load64(curve_len.wrapping_add(56)));
+  store64(v12.wrapping_add(48), v14);
+  store64(v12.wrapping_add(40), v17);
+  store64(v12.wrapping_add(32), v13);
+  store64(v12.wrapping_add(24), v11);
+  store64(v12.wrapping_add(16), out_len);
+  store64(v12.wrapping_add(8), out);
+  store64(v12, public_key);
+  curve_len = public_key_len.wrapping_add(0xffffffffffffffc0);
+  public_key = load64(curve_len);
+  out = load64(curve_len.wrapping_add(8));
+  out_len = load64(curve_len.wrapping_add(16));
+  v11 = load64(curve_len.wrapping_add(24));
+  v12 = load64(curve_len.wrapping_add(32));
+  v13 = load64(curve_len.wrapping_add(40));
+  v17 = load64(curve_len.wrapping_add(48));
+  public_key_len = (v15.wrapping_add(curve)).wrapping_add(0xffffffffffffffc0);
+  store64(public_key_len.wrapping_add(56), load64(curve_len.wrapping_add(56)));
+  store64(public_key_len.wrapping_add(48), v17);
+  store64(public_key_len.wrapping_add(40), v13);
+  store64(public_key_len.wrapping_add(32), v12);
+  store64(public_key_len.wrapping_add(24), v11);
+  store64(public_key_len.wrapping_add(16), out_len);
+  store64(public_key_len.wrapping_add(8), out);
+  store64(public_key_len, public_key);
+  break 'after_18;
+  }
+  public_key_len = curve_len.wrapping_add(public_key);
+  'after_20: {
+  if public_key < 16 {
+    break 'after_20;
+  }
+  public_key = load64(curve_len);
+  store64(v12.wrapping_add(8), load64(curve_len.wrapping_add(8)));
+  store64(v12, public_key);
+  curve_len = public_key_len.wrapping_add(0xfffffffffffffff0);
+  public_key_len = load64(curve_len);
+  public_key = (v15.wrapping_add(curve)).wrapping_add(0xfffffffffffffff0);
+  store64(public_key.wrapping_add(8), load64(curve_len.wrapping_add(8)));
+  store64(public_key, public_key_len);
+  break 'after_18;
+  }
+  'after_21: {
+  if public_key < 8 {
+    break 'after_21;
+  }
+  store64(v12, load64(curve_len));
+  store64((v15.wrapping_add(curve)).wrapping_add(0xfffffffffffffff8),
+      load64(public_key_len.wrapping_add(0xfffffffffffffff8)));
+  break 'after_18;
+  }
+  if public_key < 4 {
+    break 'after_19;
+  }
+  store32(v12, load32(curve_len));
+  store32((v15.wrapping_add(curve)).wrapping_add(0xfffffffffffffffc),
+      load32(public_key_len.wrapping_add(0xfffffffffffffffc)));
+  break 'after_18;
+  }
+  'after_22: {
+  if (v12.wrapping_sub(curve_len)) >= public_key {
+    break 'after_22;
+  }
+  v13 = public_key & 3;
+  public_key_len = 0;
+  'after_23: {
+  if public_key < 4 {
+    break 'after_23;
+  }
+  v17 = public_key & 0xfffffffffffffffc;
+  public_key_len = 0;
+  'again_24: loop {
+  out_len = v12.wrapping_add(public_key_len);
+  v11 = curve_len.wrapping_add(public_key_len);
   store8(out_len, (load8(v11) as u32) as u8);
   store8(out_len.wrapping_add(1), (load8(v11.wrapping_add(1)) as u32) as u8);
   store8(out_len.wrapping_add(2), (load8(v11.wrapping_add(2)) as u32) as u8);
   store8(out_len.wrapping_add(3), (load8(v11.wrapping_add(3)) as u32) as u8);
-  curve_len = curve_len.wrapping_add(4);
-  if v22 != curve_len {
-    continue 'again_18;
+  public_key_len = public_key_len.wrapping_add(4);
+  if v17 != public_key_len {
+    continue 'again_24;
   }
   break;
   }
-  if v14 == 0 {
-    break 'after_15;
+  if v13 == 0 {
+    break 'after_18;
   }
   }
-  curve = public_key.wrapping_add(v12.wrapping_add(curve_len));
+  curve_len = curve_len.wrapping_add(public_key_len);
   public_key_len =
-      out.wrapping_add((((v19.wrapping_add(v16)).wrapping_add(curve_len)).wrapping_add(v17)).wrapping_sub(public_key_len));
-  'again_19: loop {
-  store8(public_key_len, (load8(curve) as u32) as u8);
+      out.wrapping_add(((curve.wrapping_add(v14)).wrapping_add(public_key_len)).wrapping_sub(public_key));
+  'again_25: loop {
+  store8(public_key_len, (load8(curve_len) as u32) as u8);
   public_key_len = public_key_len.wrapping_add(1);
-  curve = curve.wrapping_add(1);
-  v14 = v14.wrapping_add(0xffffffffffffffff);
-  if v14 != 0 {
-    continue 'again_19;
+  curve_len = curve_len.wrapping_add(1);
+  v13 = v13.wrapping_add(0xffffffffffffffff);
+  if v13 != 0 {
+    continue 'again_25;
   }
-  break 'after_15;
+  break 'after_18;
   }
   }
-  if v9 != 0 {
-    break 'after_15;
+  if public_key == 0 {
+    break 'after_18;
   }
-  move_(v15, curve, public_key_len);
+  move_(v12, curve_len, public_key);
   }
-  curve = v21.wrapping_add(0xffffffffffffffff);
-  store64(frame.wrapping_add(96), curve);
-  store8(v20.wrapping_add(curve), 0);
-  'after_21: {
-  'after_20: {
-  curve = v18.wrapping_sub(curve);
-  if curve > 127 {
-    break 'after_20;
+  curve_len = v16.wrapping_add(0xffffffffffffffff);
+  store8(v15.wrapping_add(curve_len), (load8(frame.wrapping_add(288)) as u32) as u8);
+  'after_27: {
+  'after_26: {
+  public_key_len = curve.wrapping_sub(curve_len);
+  if public_key_len > 127 {
+    break 'after_26;
   }
-  public_key_len = v21.wrapping_add(0xfffffffffffffffd);
-  store64(frame.wrapping_add(96), public_key_len);
-  store16(v20.wrapping_add(public_key_len), (((curve as u32) << 8) | 3) as u16);
-  break 'after_21;
+  curve_len = v16.wrapping_add(0xfffffffffffffffd);
+  store16(v15.wrapping_add(curve_len), (((public_key_len as u32) << 8) | 3) as u16);
+  break 'after_27;
   }
-  sec1_der_back_writer_BackWriter_prepend_long_header(frame.wrapping_add(80), 3, curve);
+  let t0 = sec1_der_back_writer_prepend_long_header(v15, curve_len, 3, public_key_len);
+  curve_len = t0;
   }
-  pkix_algorithm_AlgorithmIdentifierEncodePart_prepend_part(frame.wrapping_add(104),
-      frame.wrapping_add(80));
-  'after_23: {
-  'after_22: {
-  public_key_len = load64(frame.wrapping_add(96));
-  curve = v18.wrapping_sub(public_key_len);
-  if curve > 127 {
-    break 'after_22;
+  store64(frame.wrapping_add(216), curve_len);
+  pkix_algorithm_AlgorithmIdentifierEncodePart_prepend_part(frame.wrapping_add(224),
+      frame.wrapping_add(200));
+  curve_len = load64(frame.wrapping_add(200));
+  'after_29: {
+  'after_28: {
+  public_key_len = load64(frame.wrapping_add(216));
+  public_key = curve.wrapping_sub(public_key_len);
+  if public_key > 127 {
+    break 'after_28;
   }
-  store16(((load64(frame.wrapping_add(80))).wrapping_add(public_key_len)).wrapping_add(0xfffffffffffffffe),
-      (((curve as u32) << 8) | 48) as u16);
-  break 'after_23;
+  store16((curve_len.wrapping_add(public_key_len)).wrapping_add(0xfffffffffffffffe),
+      (((public_key as u32) << 8) | 48) as u16);
+  break 'after_29;
   }
-  sec1_der_back_writer_BackWriter_prepend_long_header(frame.wrapping_add(80), 48, curve);
+  let t1 = sec1_der_back_writer_prepend_long_header(curve_len, public_key_len, 48, public_key);
   }
-  store64(len, v18);
+  store64(len, curve);
   v8 = 0;
   break 'after_1;
   }
-  store64(frame.wrapping_add(80), 0);
-  store64(frame.wrapping_add(144), load64(frame.wrapping_add(32)));
-  store64(frame.wrapping_add(152), load64(frame.wrapping_add(40)));
-  store64(frame.wrapping_add(160), load64(frame.wrapping_add(48)));
-  store64(frame.wrapping_add(184), public_key_len);
-  store64(frame.wrapping_add(176), curve);
-  store64(frame.wrapping_add(168), 0);
-  store64(frame.wrapping_add(136), curve_len);
-  store64(frame.wrapping_add(120), 1);
-  store64(frame.wrapping_add(112), 7);
-  store64(frame.wrapping_add(104), constant(281));
-  store64(frame.wrapping_add(128), frame.wrapping_add(16));
-  sec1_der_part_Tuple2EncodePart_part_len_2(frame.wrapping_add(80), frame.wrapping_add(104));
-  'after_24: {
-  if (load8(frame.wrapping_add(80)) as u32) != 0 {
-    break 'after_24;
+  sec1_der_codec_element_len_2(frame.wrapping_add(8), frame.wrapping_add(88));
+  'after_30: {
+  if (load8(frame.wrapping_add(8)) as u32) != 1 {
+    break 'after_30;
   }
-  'after_26: {
-  'after_25: {
-  v9 = load32(frame.wrapping_add(84));
-  if v9 >= 128 {
-    break 'after_25;
+  store64(len, load64(frame.wrapping_add(16)));
   }
-  curve = 2;
-  break 'after_26;
-  }
-  'after_27: {
-  if v9 >= 256 {
-    break 'after_27;
-  }
-  curve = 3;
-  break 'after_26;
-  }
-  'after_28: {
-  if v9 >= 0x10000 {
-    break 'after_28;
-  }
-  curve = 4;
-  break 'after_26;
-  }
-  curve = if v9 < 0x1000000 { 5u64 } else { 6u64 };
-  }
-  store64(len, curve.wrapping_add(v9 as u64));
-  }
-  v8 = if v8 != 0 { 6u32 } else { 7u32 };
-  }
-  return v8;
+  v8 = if v8 == 1 { 7u32 } else { 6u32 };
+  break 'after_1;
   }
   trap();
+  }
+  return v8;
 }
 
 #[unsafe(no_mangle)]
