@@ -39,8 +39,8 @@ pub fn pictures_are_of_masks()
 {}
 
 /// Private keys that differ in one private number or string alone have the same masks, however the
-/// bytes go on, and wherever they end. A key with more of them, as of RSA, differs in one after the
-/// other.
+/// bytes go on, and wherever they end; those in PKCS #8 if the privateKey around them is whole. A
+/// key with several private numbers, as of RSA, differs in one after the other.
 pub fn keys_are_unseen()
     // RFC 5915 section 3: ECPrivateKey
     ensures ec { (m n : ℕ) (version x y rest : List ℕ) → length version ≤ max_content_len
