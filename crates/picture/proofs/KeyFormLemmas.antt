@@ -22,11 +22,11 @@ use Rattle.picture.specs.Pictures.{left_as, left_in, root_at, rows_as}
 use Rattle.picture.specs.Rows.{Row, Step, admits, fitting, follows, follows_by, inside_follows, inside_of}
 use Rattle.picture.specs.Rows.{inside_rows, may_end, rows_by, rows_of, step_at}
 use Rattle.picture.specs.declared.grammar.Content.TheVariants as contents
-use Rattle.picture.specs.declared.grammar.Name.TheVariants as names
+use Rattle.picture.specs.declared.grammar.name.Name.TheVariants as names
 use Rattle.picture.specs.declared.grammar.Presence.TheVariants as presences
 use Rattle.picture.specs.declared.grammar.Structure.{Structure}
 use Rattle.picture.specs.declared.grammar.Structure.TheVariants as structures
-use Rattle.picture.specs.declared.grammar.TheConstants as tables
+use Rattle.picture.specs.declared.grammar.forms.TheConstants as tables
 use Rattle.picture.specs.declared.header.Header.{Header}
 use Rattle.picture.specs.declared.walk.Place.{Place}
 use Rattle.picture.proofs.DerLemmas.{der_header, head_in_der}

@@ -18,7 +18,7 @@ use Rattle.picture.specs.Rows.{step_at, step_with}
 use Rattle.picture.specs.declared.grammar.Content.{Content}
 use Rattle.picture.specs.declared.grammar.Content.TheVariants as contents
 use Rattle.picture.specs.declared.grammar.Structure.{Structure}
-use Rattle.picture.specs.declared.grammar.TheConstants as tables
+use Rattle.picture.specs.declared.grammar.forms.TheConstants as tables
 use Rattle.picture.specs.declared.header.Header.{Header}
 use Rattle.picture.proofs.DerLemmas.{IsHead, der_header, head_in_der}
 use Rattle.picture.proofs.MaskLemmas.{follows_masked, inside_same}

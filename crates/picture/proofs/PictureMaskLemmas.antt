@@ -16,7 +16,7 @@ use Rattle.picture.specs.Pictures.{picture_as, rest_rows, root_at, root_by, root
 use Rattle.picture.specs.Rows.{Row, follows, inside_follows, inside_of, inside_rows, rows_of, shown_of}
 use Rattle.picture.specs.declared.grammar.Content.{Content}
 use Rattle.picture.specs.declared.grammar.Structure.{Structure}
-use Rattle.picture.specs.declared.grammar.TheConstants as tables
+use Rattle.picture.specs.declared.grammar.forms.TheConstants as tables
 use Rattle.picture.specs.declared.header.ElementFault.{ElementFault}
 use Rattle.picture.specs.declared.header.Header.{Header}
 use Rattle.picture.specs.declared.walk.Place.{Place}

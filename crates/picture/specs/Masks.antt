@@ -8,7 +8,7 @@ use Rattle.picture.specs.Rows.{Step, follows, inside_follows, inside_of, step_at
 use Rattle.picture.specs.declared.grammar.Content.{Content}
 use Rattle.picture.specs.declared.grammar.Content.TheVariants as contents
 use Rattle.picture.specs.declared.grammar.Structure.{Structure}
-use Rattle.picture.specs.declared.grammar.TheConstants as tables
+use Rattle.picture.specs.declared.grammar.forms.TheConstants as tables
 use Rattle.picture.specs.declared.header.Header.{Header}
 
 -- as many zeros

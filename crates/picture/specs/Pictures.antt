@@ -6,10 +6,10 @@ use Rattle.picture.specs.Grammar.{Component, Form, components}
 use Rattle.picture.specs.Headers.{header_of}
 use Rattle.picture.specs.Rows.{Element, NotDrawn, Row, follows, inside_follows, inside_of}
 use Rattle.picture.specs.Rows.{inside_rows, rows_of, shown_of}
-use Rattle.picture.specs.declared.grammar.Secrecy.{Secrecy}
-use Rattle.picture.specs.declared.grammar.Secrecy.TheVariants as secrecies
+use Rattle.picture.specs.declared.grammar.forms.Secrecy.{Secrecy}
+use Rattle.picture.specs.declared.grammar.forms.Secrecy.TheVariants as secrecies
 use Rattle.picture.specs.declared.grammar.Structure.{Structure}
-use Rattle.picture.specs.declared.grammar.TheConstants as tables
+use Rattle.picture.specs.declared.grammar.forms.TheConstants as tables
 use Rattle.picture.specs.declared.header.ElementFault.{ElementFault}
 use Rattle.picture.specs.declared.header.Header.{Header}
 use Rattle.picture.specs.declared.walk.Place.{Place}

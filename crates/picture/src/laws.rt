@@ -10,7 +10,7 @@ ghost use Rattle.picture.specs.Masks.{AreAlike, mask_as, masked};
 ghost use Rattle.picture.specs.Pictures.{form_of, is_whole, picture, rows_as};
 ghost use Rattle.picture.specs.RowLaws.{AreAt, rows_len};
 ghost use Rattle.picture.specs.Rows.{follows, rows_of};
-ghost use Rattle.picture.specs.declared.grammar.TheConstants as tables;
+ghost use Rattle.picture.specs.declared.grammar.forms.TheConstants as tables;
 ghost use Rattle.picture.specs.declared.walk.Place.{Place};
 
 /// The rows of bytes are those of their mask, in which each byte that isn't shown is 0, and so is

@@ -3,7 +3,7 @@ ghost use Rattle.std.specs.Prelude.{◌≡◌, ◌≤◌, true, length};
 ghost use Rattle.sec1.specs.Keys.{IsKeyOf, Key};
 ghost use Rattle.picture.specs.Headers.{max_content_len};
 ghost use Rattle.picture.specs.Pictures.{form_of, picture};
-ghost use Rattle.picture.specs.declared.grammar.TheConstants as tables;
+ghost use Rattle.picture.specs.declared.grammar.forms.TheConstants as tables;
 
 use crate::{Component, Form, Header, Name, Place, Rows, draw, form_of, laws};
 
