@@ -14,10 +14,10 @@ use Rattle.sec1_der.proofs.LengthLaws.{len_1}
 use Rattle.sec1_der.specs.Elements.{element, header, length_octets}
 use Rattle.sec1_der.specs.Identifiers.{content_of}
 use Rattle.picture.specs.CountLaws.{left_join}
-use Rattle.picture.specs.Grammar.{Component, Form, components}
+use Rattle.picture.specs.Grammar.{Component, Form, components, key_components}
 use Rattle.picture.specs.Headers.{max_content_len}
 use Rattle.picture.specs.Keys.{IsContent, is_low, root_bytes}
-use Rattle.picture.specs.Pictures.{best, better, capped, content_follows, content_rows, first_place, form_of, is_whole}
+use Rattle.picture.specs.Pictures.{best, better, capped, content_follows, rows_in, first_place, form_of, is_whole}
 use Rattle.picture.specs.Pictures.{left_as, left_in, root_at, rows_as}
 use Rattle.picture.specs.Rows.{Row, Step, admits, fitting, follows, follows_by, inside_follows, inside_of}
 use Rattle.picture.specs.Rows.{inside_rows, may_end, rows_by, rows_of, step_at}
@@ -27,6 +27,7 @@ use Rattle.picture.specs.declared.grammar.Presence.TheVariants as presences
 use Rattle.picture.specs.declared.grammar.Structure.{Structure}
 use Rattle.picture.specs.declared.grammar.Structure.TheVariants as structures
 use Rattle.picture.specs.declared.grammar.forms.TheConstants as tables
+use Rattle.picture.specs.declared.grammar.keys.KeyStructure.TheVariants as of_keys
 use Rattle.picture.specs.declared.header.Header.{Header}
 use Rattle.picture.specs.declared.walk.Place.{Place}
 use Rattle.picture.proofs.DerLemmas.{der_header, head_in_der}
@@ -71,8 +72,8 @@ rows_left (suc most) place some bytes is =
     (λ p cs x known. rows_left most p cs x known)
 
 content_left : (place : Place) (k : Option Structure) (x : List ℕ) → content_follows k x ≡ true
-    → left_in (content_rows place k x) ≡ 0
-unfolding content_rows content_follows
+    → left_in (rows_in place k x) ≡ 0
+unfolding rows_in content_follows
 content_left place k x is =
     inside_left (λ (s : Structure) (y : List ℕ). follows (length x + 1) (components s) y)
     (λ (s : Structure) (y : List ℕ). rows_of (length x + 1) place (components s) y) k x is
@@ -84,7 +85,7 @@ whole_left : (form : Form) (bytes : List ℕ) (header : Header) (content : List 
     → left_in (rows_as form false bytes) ≡ 0
 whole_left form bytes header content is known =
     let place : Place = record (first_place false (length bytes)) { offset = header.len; depth = 1 } in
-    let rows : List Row = content_rows place (inside_of form.0.2) content in
+    let rows : List Row = rows_in place (inside_of form.0.2) content in
     rw (rows_found form false bytes header content [] true is known, append-nil rows)
     (content_left place (inside_of form.0.2) content known)
 
@@ -127,10 +128,10 @@ abbrev key_row : Component
 key_row = (0x04, presences.Needed, contents.Hidden, names.PrivateKey)
 
 abbrev curve_row : Component
-curve_row = (0xA0, presences.Optional, contents.Inside structures.CurveName, names.Parameters)
+curve_row = (0xA0, presences.Optional, contents.Inside (structures.Key of_keys.CurveName), names.Parameters)
 
 abbrev point_row : Component
-point_row = (0xA1, presences.Optional, contents.Inside structures.PublicPoint, names.PublicKey)
+point_row = (0xA1, presences.Optional, contents.Inside (structures.Key of_keys.PublicPoint), names.PublicKey)
 
 -- the bytes of the public key, and before it of the parameters
 abbrev public_bytes : Option (List ℕ) → List ℕ
@@ -148,21 +149,21 @@ element_long tag content rest =
 public_follows : (m : ℕ) (some : List Component) (q : Option (List ℕ)) → fitting 0xA1 some ≡ Some (point_row, [])
     → may_end some ≡ true → length (public_bytes q) ≤ max_content_len
     → follows (suc (suc (suc m))) some (public_bytes q) ≡ true
-unfolding components step_at admits
+unfolding components key_components step_at admits
 public_follows m some None fits ended few = ended
 public_follows m some (Some bytes) fits ended few =
     let inner : List ℕ = element 0x03 (0 ∷ bytes) ++ [] in
     let long = element_long 0xA1 inner [] in
     let within : length inner ≤ max_content_len = omega (arith, long, few) in
     let deep = element_long 0x03 (0 ∷ bytes) [] in
-    let point : follows (suc (suc m)) (components structures.PublicPoint) inner ≡ true =
-    follows_there (suc m) (components structures.PublicPoint) 0x03 (0 ∷ bytes) []
+    let point : follows (suc (suc m)) (components (structures.Key of_keys.PublicPoint)) inner ≡ true =
+    follows_there (suc m) (components (structures.Key of_keys.PublicPoint)) 0x03 (0 ∷ bytes) []
     (0x03, presences.Needed, contents.Point, names.Point) [] refl (omega (arith, deep, within)) refl refl refl in
     follows_there (suc (suc m)) some 0xA1 inner [] point_row [] refl within fits refl point
 
 fields_follow : (m : ℕ) (p q : Option (List ℕ)) → length (fields_bytes p q) ≤ max_content_len
     → follows (suc (suc (suc (suc m)))) (curve_row ∷ point_row ∷ []) (fields_bytes p q) ≡ true
-unfolding components step_at admits
+unfolding components key_components step_at admits
 fields_follow m None q few = public_follows (suc m) (curve_row ∷ point_row ∷ []) q refl refl few
 fields_follow m (Some arcs) q few =
     let content : List ℕ = content_of arcs in
@@ -172,8 +173,8 @@ fields_follow m (Some arcs) q few =
     let deep = element_long 0x06 content [] in
     let last : length (public_bytes q) ≤ max_content_len =
     omega (arith, length-append (element 0xA0 inner) (public_bytes q), few) in
-    let name : follows (suc (suc (suc m))) (components structures.CurveName) inner ≡ true =
-    follows_there (suc (suc m)) (components structures.CurveName) 0x06 content []
+    let name : follows (suc (suc (suc m))) (components (structures.Key of_keys.CurveName)) inner ≡ true =
+    follows_there (suc (suc m)) (components (structures.Key of_keys.CurveName)) 0x06 content []
     (0x06, presences.Needed, contents.Shown 12, names.NamedCurve) [] refl (omega
     (arith, deep, within)) refl refl refl in
     follows_there (suc (suc (suc m))) (curve_row ∷ point_row ∷ []) 0xA0 inner (public_bytes q) curve_row
@@ -183,14 +184,14 @@ fields_follow m (Some arcs) q few =
 
 key_follows : (m : ℕ) (private_key : List ℕ) (p q : Option (List ℕ))
     → length (element 0x04 private_key ++ fields_bytes p q) ≤ max_content_len
-    → follows (suc (suc (suc (suc (suc (suc m)))))) (components structures.EcPrivateKey)
+    → follows (suc (suc (suc (suc (suc (suc m)))))) (components (structures.Key of_keys.EcPrivateKey))
     (element 0x02 (1 ∷ []) ++ (element 0x04 private_key ++ fields_bytes p q)) ≡ true
-unfolding components admits
+unfolding components key_components admits
 key_follows m private_key p q few =
     let long = element_long 0x04 private_key (fields_bytes p q) in
     let last : length (fields_bytes p q) ≤ max_content_len =
     omega (arith, length-append (element 0x04 private_key) (fields_bytes p q), few) in
-    follows_there (suc (suc (suc (suc (suc m))))) (components structures.EcPrivateKey) 0x02 (1 ∷ [])
+    follows_there (suc (suc (suc (suc (suc m))))) (components (structures.Key of_keys.EcPrivateKey)) 0x02 (1 ∷ [])
     (element 0x04 private_key ++ fields_bytes p q) version_row (key_row ∷ curve_row ∷ point_row ∷ []) refl
     (omega arith) refl
     refl refl
@@ -210,7 +211,7 @@ octets_some n = choice (nat_lt n 128) (n ∷ []) ((0x80 + length (digits_of 256 
 
 inside_known : (key : Key) → length (inside_key (length key.private_key) (key.private_key
     ++ after_key key)) ≤ max_content_len
-    → content_follows (Some structures.EcPrivateKey)
+    → content_follows (Some (structures.Key of_keys.EcPrivateKey))
     (inside_key (length key.private_key) (key.private_key ++ after_key key)) ≡ true
 unfolding content_follows
 inside_known key few =
@@ -229,9 +230,9 @@ inside_known key few =
     let fuel : length content + 1 ≡ suc (suc (suc (suc (suc (suc m))))) = omega (arith, size, head, two, after) in
     let short : length rest ≤ max_content_len = omega (arith, size, few) in
     let known = key_follows m key.private_key key.parameters key.public_key short in
-    subst (λ (k : ℕ). follows k (components structures.EcPrivateKey) content ≡ true) (sym fuel)
-    (ap (λ (b : List ℕ). follows (suc (suc (suc (suc (suc (suc m)))))) (components structures.EcPrivateKey) b)
-    (sym same) ∙ known)
+    subst (λ (k : ℕ). follows k (components (structures.Key of_keys.EcPrivateKey)) content ≡ true) (sym fuel)
+    (ap (λ (b : List ℕ). follows (suc (suc (suc (suc (suc (suc m))))))
+    (components (structures.Key of_keys.EcPrivateKey)) b) (sym same) ∙ known)
 
 -- what a key's bytes are
 pub key_is : (key : Key) (a : List ℕ) → IsKeyOf key a → length a ≤ max_content_len
@@ -251,7 +252,7 @@ key_is key a is few =
     let there : IsContent m content [] = record { few = fits; there = inl refl } in
     let root : root_at 0x30 a ≡ Some (der_header 0x30 m, content, []) =
     ap (λ (b : List ℕ). root_at 0x30 b) first ∙ root_there m content [] there in
-    let known : content_follows (Some structures.EcPrivateKey) content ≡ true = inside_known key fits in
+    let known : content_follows (Some (structures.Key of_keys.EcPrivateKey)) content ≡ true = inside_known key fits in
     let left : left_in (rows_as tables.FIRST false a) ≡ 0 =
     whole_left tables.FIRST a (der_header 0x30 m) content root known in (
       rw (root, known, eq-eqb m m refl) refl,

@@ -7,7 +7,8 @@ use Rattle.std.proofs.lemmas.Bool.{and_parts, cases_Bool, cases_lt, lt-leb}
 use Rattle.std.proofs.lemmas.Bool.Decides.{nat_tests}
 use Rattle.std.proofs.lemmas.List.{length-take-le, length-drop, take_at, drop_at, take_all}
 use Rattle.sec1_der.specs.Elements.{element, header}
-use Rattle.picture.specs.Grammar.{Component, Form, components}
+use Rattle.picture.specs.Grammar.{Component, Form, components, container_components, key_components}
+use Rattle.picture.specs.Grammar.{public_components, service_components, signed_components}
 use Rattle.picture.specs.Headers.{header_of, max_content_len}
 use Rattle.picture.specs.Keys.{AreLevels, AreParts, DifferIn, IsContent, Level, Part, container, integers}
 use Rattle.picture.specs.Keys.{is_low, key_in, parts_bytes, root_bytes, sequence}
@@ -482,7 +483,7 @@ pub ec_alike : (m n : ℕ) (version x y rest : List ℕ) → length version ≤ 
     → IsContent m (key_in [] ((0x02, version) ∷ []) 0x04 n x) rest
     → AreAlike (root_bytes m (key_in [] ((0x02, version) ∷ []) 0x04 n x) rest)
     (root_bytes m (key_in [] ((0x02, version) ∷ []) 0x04 n y) rest)
-unfolding components
+unfolding components container_components key_components public_components service_components signed_components
 ec_alike m n version x y rest few differ is =
     key_forms [] ((0x02, version) ∷ []) 0x04 m n x y rest ((refl, few, tt), refl) differ is refl refl
 
@@ -492,7 +493,7 @@ pub number_alike : (m n : ℕ) (numbers : List (List ℕ)) (x y rest : List ℕ)
     → IsContent m (key_in [] (integers numbers) 0x02 n x) rest
     → AreAlike (root_bytes m (key_in [] (integers numbers) 0x02 n x) rest)
     (root_bytes m (key_in [] (integers numbers) 0x02 n y) rest)
-unfolding components
+unfolding components container_components key_components public_components service_components signed_components
 number_alike m n [] x y rest are some few differ is = absurd (omega arith)
 number_alike m n (a ∷ []) x y rest are some few differ is = absurd (omega arith)
 number_alike m n (a ∷ b ∷ []) x y rest are some few differ is = absurd (omega arith)
@@ -517,7 +518,7 @@ pub contained_ec_alike : (m n : ℕ) (version algorithm inner after x y rest : L
     → AreAlike (root_bytes m (key_in (container version algorithm after ∷ sequence ∷ [])
     ((0x02, inner) ∷ []) 0x04 n x) rest)
     (root_bytes m (key_in (container version algorithm after ∷ sequence ∷ []) ((0x02, inner) ∷ []) 0x04 n y) rest)
-unfolding components
+unfolding components container_components key_components public_components service_components signed_components
 contained_ec_alike m n version algorithm inner after x y rest are differ is =
     key_forms (container version algorithm after ∷ sequence ∷ [])
     ((0x02, inner) ∷ []) 0x04 m n x y rest are differ is refl refl
@@ -527,7 +528,7 @@ pub contained_number_alike : (m n : ℕ) (version algorithm after x y rest : Lis
     → IsContent m (key_in (container version algorithm after ∷ []) [] 0x02 n x) rest
     → AreAlike (root_bytes m (key_in (container version algorithm after ∷ []) [] 0x02 n x) rest)
     (root_bytes m (key_in (container version algorithm after ∷ []) [] 0x02 n y) rest)
-unfolding components
+unfolding components container_components key_components public_components service_components signed_components
 contained_number_alike m n version algorithm after x y rest are differ is =
     key_forms (container version algorithm after ∷ []) [] 0x02 m n x y rest are differ is refl refl
 
@@ -536,7 +537,7 @@ pub contained_octets_alike : (m n : ℕ) (version algorithm after x y rest : Lis
     → IsContent m (key_in (container version algorithm after ∷ []) [] 0x04 n x) rest
     → AreAlike (root_bytes m (key_in (container version algorithm after ∷ []) [] 0x04 n x) rest)
     (root_bytes m (key_in (container version algorithm after ∷ []) [] 0x04 n y) rest)
-unfolding components
+unfolding components container_components key_components public_components service_components signed_components
 contained_octets_alike m n version algorithm after x y rest are differ is =
     key_forms (container version algorithm after ∷ []) [] 0x04 m n x y rest are differ is refl refl
 
@@ -548,7 +549,7 @@ pub contained_rsa_alike : (m n : ℕ) (version algorithm after : List ℕ) (numb
     → AreAlike (root_bytes m (key_in (container version algorithm after ∷ sequence ∷ [])
     (integers numbers) 0x02 n x) rest)
     (root_bytes m (key_in (container version algorithm after ∷ sequence ∷ []) (integers numbers) 0x02 n y) rest)
-unfolding components
+unfolding components container_components key_components public_components service_components signed_components
 contained_rsa_alike m n version algorithm after [] x y rest are some few differ is = absurd (omega arith)
 contained_rsa_alike m n version algorithm after (a ∷ []) x y rest are some few differ is = absurd (omega arith)
 contained_rsa_alike m n version algorithm after (a ∷ b ∷ []) x y rest are some few differ is = absurd (omega arith)

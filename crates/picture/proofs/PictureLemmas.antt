@@ -2,7 +2,7 @@
 use Rattle.std.proofs.Common.{◌≡◌, ◌+◌, ◌<◌, ◌^◌, ℕ, List, [], ◌∷◌, ◌++◌, length, refl, Some, Bool, if◌then◌else◌}
 use Rattle.std.proofs.Common.{arith}
 use Rattle.picture.specs.Grammar.{Form}
-use Rattle.picture.specs.Pictures.{capped, content_follows, content_rows, first_place, rest_rows, root_at, rows_as}
+use Rattle.picture.specs.Pictures.{capped, content_follows, rows_in, first_place, rest_rows, root_at, rows_as}
 use Rattle.picture.specs.Rows.{Element, inside_of, shown_of}
 use Rattle.picture.specs.declared.header.Header.{Header}
 
@@ -12,7 +12,7 @@ pub rows_found : (form : Form) (is_public : Bool) (bytes : List ℕ) (header : H
     → content_follows (inside_of form.0.2) content ≡ whole
     → rows_as form is_public bytes
     ≡ Element (first_place is_public (length bytes)) header form.0 (length content) (shown_of form.0.2 content)
-    ∷ (content_rows (record (first_place is_public (length bytes)) { offset = header.len; depth = 1 })
+    ∷ (rows_in (record (first_place is_public (length bytes)) { offset = header.len; depth = 1 })
     (inside_of form.0.2) content
     ++ (if whole then
     rest_rows (record (first_place is_public (length bytes)) { offset = header.len + length content }) rest else []))

@@ -9,7 +9,7 @@ use Rattle.std.specs.Prelude.{if◌then◌else◌, nat_lt}
 use Rattle.picture.specs.Grammar.{Component, Form, components}
 use Rattle.picture.specs.Headers.{header_of}
 use Rattle.picture.specs.Masks.{AreAlike, AreAlikeAs, content_mask, mask_as, mask_with, masked, zeros}
-use Rattle.picture.specs.Pictures.{best, better, capped, content_follows, content_rows, first_place, form_of}
+use Rattle.picture.specs.Pictures.{best, better, capped, content_follows, rows_in, first_place, form_of}
 use Rattle.picture.specs.Pictures.{holds_no_key}
 use Rattle.picture.specs.Pictures.{is_empty, is_known, is_whole, left_as, left_in, parts_as, parts_in, picture}
 use Rattle.picture.specs.Pictures.{picture_as, rest_rows, root_at, root_by, root_parts, rows_as, rows_with, whole_by}
@@ -153,10 +153,10 @@ content_mask_len k x =
     content_len (λ (s : Structure) (y : List ℕ). masked (length x + 1) (components s) y)
     (λ s y. masked_len (length x + 1) (components s) y) k x
 
-content_rows_same : (place : Place) (k : Content) (x : List ℕ)
-    → content_rows place (inside_of k) (content_mask k x) ≡ content_rows place (inside_of k) x
-unfolding content_mask content_rows
-content_rows_same place k x =
+rows_in_same : (place : Place) (k : Content) (x : List ℕ)
+    → rows_in place (inside_of k) (content_mask k x) ≡ rows_in place (inside_of k) x
+unfolding content_mask rows_in
+rows_in_same place k x =
     ap (λ (n : ℕ). inside_rows (λ (s : Structure) (y : List ℕ). rows_of (n + 1) place (components s) y) (inside_of k)
     (content_mask k x)) (content_mask_len k x)
     ∙ rows_inside (λ (s : Structure) (y : List ℕ). rows_of (length x + 1) place (components s) y)
@@ -213,7 +213,7 @@ mask_rows root place len bytes (Some (header, content, rest)) is =
     let again : root_at root.0 (take header.len bytes ++ (m ++ zeros rest)) ≡ Some (header, m, zeros rest) =
     b.again m (zeros rest) size (zeros_len rest) in
     let seen = content_shown_same root.2 content in
-    let inner = content_rows_same (record place { offset = header.len; depth = 1 }) root.2 content in
+    let inner = rows_in_same (record place { offset = header.len; depth = 1 }) root.2 content in
     let follow = content_follows_same root.2 content in
     let last = rest_same (record place { offset = header.len + length content }) rest in
     rw (again, size, seen, inner, follow, last) refl

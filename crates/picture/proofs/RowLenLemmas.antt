@@ -4,7 +4,7 @@ use Rattle.std.proofs.Common.{refl}
 use Rattle.std.proofs.Common.{sym, Option, Some, None, arith, subst}
 use Rattle.std.specs.Prelude.{if◌then◌else◌}
 use Rattle.picture.specs.Grammar.{Component, Form, components}
-use Rattle.picture.specs.Pictures.{content_follows, content_rows, first_place, form_of, holds_no_key, is_known}
+use Rattle.picture.specs.Pictures.{content_follows, rows_in, first_place, form_of, holds_no_key, is_known}
 use Rattle.picture.specs.Pictures.{is_whole}
 use Rattle.picture.specs.Pictures.{picture, picture_as, rest_rows, root_at, rows_as, rows_with}
 use Rattle.picture.specs.RowLaws.{AreAt, offset_of, own_len, row_len, rows_len}
@@ -136,11 +136,11 @@ rows_of_len (suc most) place some bytes fits =
 
 -- ---- whole inputs
 
-content_rows_len : (place : Place) (k : Option Structure) (x : List ℕ) → place.offset + length x ≤ place.end
+rows_in_len : (place : Place) (k : Option Structure) (x : List ℕ) → place.offset + length x ≤ place.end
     → AreRowsOf (place.offset + own_len k (length x)) place.end (inner_len k (length x)) (content_follows k x)
-    (content_rows place k x)
-unfolding content_rows content_follows
-content_rows_len place k x fits =
+    (rows_in place k x)
+unfolding rows_in content_follows
+rows_in_len place k x fits =
     inside_len place.offset place.end (λ (s : Structure) (y : List ℕ). rows_of (length x + 1) place (components s) y)
     (λ (s : Structure) (y : List ℕ). follows (length x + 1) (components s) y) k x
     (λ s. rows_of_len (length x + 1) place (components s) x fits)
@@ -161,12 +161,12 @@ with_len root place bytes (Some (header, content, rest)) is zero_is end_is =
     let k : Option Structure = inside_of root.2 in
     let n : ℕ = length content in
     let whole : Bool = content_follows k content in
-    let within : List Row = content_rows (record place { offset = header.len; depth = 1 }) k content in
+    let within : List Row = rows_in (record place { offset = header.len; depth = 1 }) k content in
     let last : List Row = rest_rows (record place { offset = header.len + n }) rest in
     let zero : (m : ℕ) → m ≡ 0 + m = λ m. omega arith in
     let first : AreRowsOf (0 + header.len + own_len k n) place.end (inner_len k n) whole within =
     subst (λ (m : ℕ). AreRowsOf (m + own_len k n) place.end (inner_len k n) whole within) (zero header.len)
-    (content_rows_len (record place { offset = header.len; depth = 1 }) k content (omega (arith, len, end_is))) in
+    (rows_in_len (record place { offset = header.len; depth = 1 }) k content (omega (arith, len, end_is))) in
     let second : AreRowsOf (0 + header.len + n) place.end (length rest) true last =
     subst (λ (m : ℕ). AreRowsOf (m + n) place.end (length rest) true last) (zero header.len)
     (rest_len (record place { offset = header.len + n }) rest) in

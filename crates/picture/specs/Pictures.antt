@@ -62,8 +62,8 @@ first_place is_public len =
     record { offset = 0; depth = 0; end = len; is_public = is_public }
 
 -- their rows
-unfoldable pub content_rows : Place → Option Structure → List ℕ → List Row
-content_rows place structure bytes =
+unfoldable pub rows_in : Place → Option Structure → List ℕ → List Row
+rows_in place structure bytes =
     inside_rows (λ s content. rows_of (length bytes + 1) place (components s) content) structure
     bytes
 
@@ -76,7 +76,7 @@ abbrev pub rows_with : Component → Place → ℕ → Option (Header × List �
 rows_with root place len None = NotDrawn place (root ∷ []) len ∷ []
 rows_with root place len (Some found) =
     Element place found.0 root (length found.1) (shown_of root.2 found.1)
-    ∷ (content_rows (record place { offset = found.0.len; depth = 1 }) (inside_of root.2) found.1
+    ∷ (rows_in (record place { offset = found.0.len; depth = 1 }) (inside_of root.2) found.1
     ++ (if content_follows (inside_of root.2) found.1
     then rest_rows (record place { offset = found.0.len + length found.1 }) found.2 else []))
 

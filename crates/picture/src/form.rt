@@ -2,10 +2,11 @@
 ghost use Rattle.std.specs.Prelude.{◌≡◌, ◌+◌, ◌++◌, ◌∷◌, ◌<◌, ◌≤◌, ◌^◌, [], List, length};
 ghost use Rattle.std.specs.Prelude.{IfSome, option_map};
 ghost use Rattle.picture.specs.CountLaws.{capped_left, capped_none, capped_parts};
-ghost use Rattle.picture.specs.Pictures.{best, better, capped, content_follows, content_rows};
+ghost use Rattle.picture.specs.Pictures.{best, better, capped, content_follows, rows_in};
 ghost use Rattle.picture.specs.Pictures.{form_of, holds_no_key, is_there, is_whole, left_as};
 ghost use Rattle.picture.specs.Pictures.{left_in};
-ghost use Rattle.picture.specs.Pictures.{parts_as, parts_in, picture, rest_rows, root_at, rows_as};
+ghost use Rattle.picture.specs.Pictures.{parts_as, parts_in, picture, picture_as, rest_rows, root_at};
+ghost use Rattle.picture.specs.Pictures.{rows_as, rows_in};
 ghost use Rattle.picture.specs.Rows.{Row};
 
 use crate::grammar::{Component, FIRST, Form, OTHERS, Secrecy, Structure};
@@ -13,13 +14,23 @@ use crate::header::Header;
 use crate::walk::{Place, Rows, follow, inside_of, shown_of};
 
 /// Tells the rows of bytes, as what they are. Returns what that is, and whether all of them are.
-#[tactic(auto, unfolding(crate::specs::Pictures::picture, crate::specs::Pictures::picture_as, crate::specs::Pictures::is_known))]
+#[tactic(auto, unfolding(crate::specs::Pictures::picture))]
 pub fn draw<R: Rows>(rows: &mut R, bytes: &[u8]) -> (Form, bool)
     ensures rows { R.tells rows.old rows.new (picture bytes.now) }
     ensures form { result.0 ≡ form_of bytes.now }
     ensures whole { result.1 ≡ is_whole (form_of bytes.now) bytes.now }
 {
     let form = form_of(bytes);
+    let is_whole = draw_known(rows, form, bytes);
+    (form, is_whole)
+}
+
+/// Tells the rows of bytes as this form, if they are known by it. Returns whether all of them are.
+#[tactic(auto, unfolding(crate::specs::Pictures::picture_as, crate::specs::Pictures::is_known))]
+fn draw_known<R: Rows>(rows: &mut R, form: Form, bytes: &[u8]) -> bool
+    ensures rows { R.tells rows.old rows.new (picture_as form bytes.now) }
+    ensures whole { result ≡ is_whole form bytes.now }
+{
     let shape = shape_as(form, bytes);
     if shape.is_whole || shape.parts >= 2 {
         draw_as(rows, form, shape.is_whole && holds_no_key(form.1), bytes);
@@ -32,7 +43,7 @@ pub fn draw<R: Rows>(rows: &mut R, bytes: &[u8]) -> (Form, bool)
         };
         rows.not_drawn(place, &[], bytes.len());
     }
-    (form, shape.is_whole)
+    shape.is_whole
 }
 
 /// Returns the form that the fewest of the bytes don't follow.
@@ -223,7 +234,7 @@ fn is_there(announced: Option<usize>, len: usize) -> bool
 }
 
 /// Tells the rows inside a content at this place that is a structure. Returns whether it follows.
-#[tactic(auto, unfolding(crate::specs::Pictures::content_rows, crate::specs::Pictures::content_follows))]
+#[tactic(auto, unfolding(crate::specs::Pictures::rows_in, crate::specs::Pictures::content_follows))]
 fn draw_content<R: Rows>(
     rows: &mut R,
     place: Place,
@@ -232,7 +243,7 @@ fn draw_content<R: Rows>(
 ) -> bool
     requires within { place.offset + length content.now ≤ place.end }
     requires depth { place.depth < place.offset }
-    ensures rows { R.tells rows.old rows.new (content_rows place structure content.now) }
+    ensures rows { R.tells rows.old rows.new (rows_in place structure content.now) }
     ensures whole { result ≡ content_follows structure content.now }
 {
     match structure {

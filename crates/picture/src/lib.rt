@@ -10,7 +10,10 @@ pub mod laws;
 mod walk;
 
 pub use form::{draw, form_of};
-pub use grammar::{Component, Content, Family, Form, Name, Presence, Secrecy, Structure};
+pub use grammar::{
+    Component, ContainerStructure, Content, Family, Form, KeyStructure, Name, Presence,
+    PublicStructure, Secrecy, ServiceStructure, SignedStructure, Structure,
+};
 pub use header::{Class, ElementFault, Header, Tag};
 pub use walk::{Place, Rows};
 

@@ -1,126 +1,255 @@
 //! Structures of certificates, requests for them and lists of those that are revoked.
+ghost use Rattle.std.specs.Prelude.{◌≡◌};
+ghost use Rattle.picture.specs.Grammar.{signed_components};
+
 use super::Content::{Hidden, Inside, Shown, Version};
 use super::Presence::{Many, Needed, Optional};
-use super::Structure::{
-    Algorithm, CertificationRequestInfo, DistinguishedName, Extension, Extensions, ExtensionsField,
-    NameAttribute, PublicKeyInfo, RelativeName, RevokedCertificate, RevokedCertificates,
-    TbsCertList, TbsCertificate, Validity, VersionField,
-};
+use super::Structure::{Public, Signed};
+use super::public::PublicStructure::{Algorithm, PublicKeyInfo};
 use super::{Component, Name};
+use SignedStructure::{
+    CertificationRequestInfo, DistinguishedName, Extension, Extensions, ExtensionsField,
+    NameAttribute, RelativeName, RevokedCertificate, RevokedCertificates, TbsCertList,
+    TbsCertificate, Validity, VersionField,
+};
 
-pub(super) const CERTIFICATE: [Component; 3] = [
-    (0x30, Needed, Inside(TbsCertificate), Name::TbsCertificate),
-    (0x30, Needed, Inside(Algorithm), Name::SignatureAlgorithm),
-    (0x03, Needed, Hidden, Name::SignatureValue),
-];
+/// A structure of certificates, requests for them, or lists of those that are revoked.
+#[derive(Clone, Copy, PartialEq, Eq)]
+pub enum SignedStructure {
+    /// Certificate (RFC 5280 section 4.1).
+    Certificate,
+    /// TBSCertificate (RFC 5280 section 4.1).
+    TbsCertificate,
+    /// A version with an explicit tag.
+    VersionField,
+    /// RDNSequence (RFC 5280 section 4.1.2.4).
+    DistinguishedName,
+    /// RelativeDistinguishedName (RFC 5280 section 4.1.2.4).
+    RelativeName,
+    /// AttributeTypeAndValue (RFC 5280 section 4.1.2.4).
+    NameAttribute,
+    /// Validity (RFC 5280 section 4.1.2.5).
+    Validity,
+    /// Extensions with an explicit tag.
+    ExtensionsField,
+    /// Extensions (RFC 5280 section 4.1.2.9).
+    Extensions,
+    /// Extension (RFC 5280 section 4.1.2.9).
+    Extension,
+    /// CertificationRequest (RFC 2986 section 4.2).
+    CertificationRequest,
+    /// CertificationRequestInfo (RFC 2986 section 4.1).
+    CertificationRequestInfo,
+    /// CertificateList (RFC 5280 section 5.1).
+    CertificateList,
+    /// TBSCertList (RFC 5280 section 5.1).
+    TbsCertList,
+    /// revokedCertificates (RFC 5280 section 5.1).
+    RevokedCertificates,
+    /// One of revokedCertificates (RFC 5280 section 5.1).
+    RevokedCertificate,
+}
 
-pub(super) const TBS_CERTIFICATE: [Component; 10] = [
-    (0xA0, Optional, Inside(VersionField), Name::Version),
-    (0x02, Needed, Shown(20), Name::SerialNumber),
-    (0x30, Needed, Inside(Algorithm), Name::Signature),
-    (0x30, Needed, Inside(DistinguishedName), Name::Issuer),
-    (0x30, Needed, Inside(Validity), Name::Validity),
-    (0x30, Needed, Inside(DistinguishedName), Name::Subject),
+const CERTIFICATE: [Component; 3] = [
     (
         0x30,
         Needed,
-        Inside(PublicKeyInfo),
+        Inside(Signed(TbsCertificate)),
+        Name::TbsCertificate,
+    ),
+    (
+        0x30,
+        Needed,
+        Inside(Public(Algorithm)),
+        Name::SignatureAlgorithm,
+    ),
+    (0x03, Needed, Hidden, Name::SignatureValue),
+];
+
+const TBS_CERTIFICATE: [Component; 10] = [
+    (0xA0, Optional, Inside(Signed(VersionField)), Name::Version),
+    (0x02, Needed, Shown(20), Name::SerialNumber),
+    (0x30, Needed, Inside(Public(Algorithm)), Name::Signature),
+    (
+        0x30,
+        Needed,
+        Inside(Signed(DistinguishedName)),
+        Name::Issuer,
+    ),
+    (0x30, Needed, Inside(Signed(Validity)), Name::Validity),
+    (
+        0x30,
+        Needed,
+        Inside(Signed(DistinguishedName)),
+        Name::Subject,
+    ),
+    (
+        0x30,
+        Needed,
+        Inside(Public(PublicKeyInfo)),
         Name::SubjectPublicKeyInfo,
     ),
     (0x81, Optional, Hidden, Name::IssuerUniqueId),
     (0x82, Optional, Hidden, Name::SubjectUniqueId),
-    (0xA3, Optional, Inside(ExtensionsField), Name::Extensions),
+    (
+        0xA3,
+        Optional,
+        Inside(Signed(ExtensionsField)),
+        Name::Extensions,
+    ),
 ];
 
-pub(super) const VERSION_FIELD: [Component; 1] = [(0x02, Needed, Version, Name::Version)];
+const VERSION_FIELD: [Component; 1] = [(0x02, Needed, Version, Name::Version)];
 
-pub(super) const DISTINGUISHED_NAME: [Component; 1] = [(
+const DISTINGUISHED_NAME: [Component; 1] = [(
     0x31,
     Many,
-    Inside(RelativeName),
+    Inside(Signed(RelativeName)),
     Name::RelativeDistinguishedName,
 )];
 
-pub(super) const RELATIVE_NAME: [Component; 1] = [(
+const RELATIVE_NAME: [Component; 1] = [(
     0x30,
     Many,
-    Inside(NameAttribute),
+    Inside(Signed(NameAttribute)),
     Name::AttributeTypeAndValue,
 )];
 
-pub(super) const NAME_ATTRIBUTE: [Component; 2] = [
+const NAME_ATTRIBUTE: [Component; 2] = [
     (0x06, Needed, Shown(12), Name::Type),
     (0x00, Needed, Shown(255), Name::Value),
 ];
 
-pub(super) const VALIDITY: [Component; 2] = [
+const VALIDITY: [Component; 2] = [
     (0x17, Needed, Shown(19), Name::NotBefore),
     (0x17, Needed, Shown(19), Name::NotAfter),
 ];
 
-pub(super) const EXTENSIONS_FIELD: [Component; 1] = [(
+const EXTENSIONS_FIELD: [Component; 1] = [(
     0x30,
     Needed,
-    Inside(Extensions),
+    Inside(Signed(Extensions)),
     Name::Extensions,
 )];
 
-pub(super) const EXTENSIONS: [Component; 1] = [(0x30, Many, Inside(Extension), Name::Extension)];
+const EXTENSIONS: [Component; 1] = [(0x30, Many, Inside(Signed(Extension)), Name::Extension)];
 
-pub(super) const EXTENSION: [Component; 3] = [
+const EXTENSION: [Component; 3] = [
     (0x06, Needed, Shown(12), Name::ExtnId),
     (0x01, Optional, Version, Name::Critical),
     (0x04, Needed, Hidden, Name::ExtnValue),
 ];
 
-pub(super) const CERTIFICATION_REQUEST: [Component; 3] = [
+const CERTIFICATION_REQUEST: [Component; 3] = [
     (
         0x30,
         Needed,
-        Inside(CertificationRequestInfo),
+        Inside(Signed(CertificationRequestInfo)),
         Name::CertificationRequestInfo,
     ),
-    (0x30, Needed, Inside(Algorithm), Name::SignatureAlgorithm),
+    (
+        0x30,
+        Needed,
+        Inside(Public(Algorithm)),
+        Name::SignatureAlgorithm,
+    ),
     (0x03, Needed, Hidden, Name::Signature),
 ];
 
-pub(super) const CERTIFICATION_REQUEST_INFO: [Component; 4] = [
+const CERTIFICATION_REQUEST_INFO: [Component; 4] = [
     (0x02, Needed, Version, Name::Version),
-    (0x30, Needed, Inside(DistinguishedName), Name::Subject),
-    (0x30, Needed, Inside(PublicKeyInfo), Name::SubjectPkInfo),
+    (
+        0x30,
+        Needed,
+        Inside(Signed(DistinguishedName)),
+        Name::Subject,
+    ),
+    (
+        0x30,
+        Needed,
+        Inside(Public(PublicKeyInfo)),
+        Name::SubjectPkInfo,
+    ),
     (0xA0, Needed, Hidden, Name::Attributes),
 ];
 
-pub(super) const CERTIFICATE_LIST: [Component; 3] = [
-    (0x30, Needed, Inside(TbsCertList), Name::TbsCertList),
-    (0x30, Needed, Inside(Algorithm), Name::SignatureAlgorithm),
+const CERTIFICATE_LIST: [Component; 3] = [
+    (0x30, Needed, Inside(Signed(TbsCertList)), Name::TbsCertList),
+    (
+        0x30,
+        Needed,
+        Inside(Public(Algorithm)),
+        Name::SignatureAlgorithm,
+    ),
     (0x03, Needed, Hidden, Name::SignatureValue),
 ];
 
-pub(super) const TBS_CERT_LIST: [Component; 7] = [
+const TBS_CERT_LIST: [Component; 7] = [
     (0x02, Optional, Version, Name::Version),
-    (0x30, Needed, Inside(Algorithm), Name::Signature),
-    (0x30, Needed, Inside(DistinguishedName), Name::Issuer),
+    (0x30, Needed, Inside(Public(Algorithm)), Name::Signature),
+    (
+        0x30,
+        Needed,
+        Inside(Signed(DistinguishedName)),
+        Name::Issuer,
+    ),
     (0x17, Needed, Shown(19), Name::ThisUpdate),
     (0x17, Optional, Shown(19), Name::NextUpdate),
     (
         0x30,
         Optional,
-        Inside(RevokedCertificates),
+        Inside(Signed(RevokedCertificates)),
         Name::RevokedCertificates,
     ),
-    (0xA0, Optional, Inside(ExtensionsField), Name::CrlExtensions),
+    (
+        0xA0,
+        Optional,
+        Inside(Signed(ExtensionsField)),
+        Name::CrlExtensions,
+    ),
 ];
 
-pub(super) const REVOKED_CERTIFICATES: [Component; 1] = [(
+const REVOKED_CERTIFICATES: [Component; 1] = [(
     0x30,
     Many,
-    Inside(RevokedCertificate),
+    Inside(Signed(RevokedCertificate)),
     Name::RevokedCertificate,
 )];
 
-pub(super) const REVOKED_CERTIFICATE: [Component; 3] = [
+const REVOKED_CERTIFICATE: [Component; 3] = [
     (0x02, Needed, Shown(20), Name::UserCertificate),
     (0x17, Needed, Shown(19), Name::RevocationDate),
-    (0x30, Optional, Inside(Extensions), Name::CrlEntryExtensions),
+    (
+        0x30,
+        Optional,
+        Inside(Signed(Extensions)),
+        Name::CrlEntryExtensions,
+    ),
 ];
+
+impl SignedStructure {
+    /// Borrows its components, in order.
+    #[tactic(auto, unfolding(crate::specs::Grammar::signed_components))]
+    pub fn components(self) -> &'static [Component]
+        ensures { result.now ≡ signed_components self }
+    {
+        match self {
+            SignedStructure::Certificate => &CERTIFICATE,
+            SignedStructure::TbsCertificate => &TBS_CERTIFICATE,
+            SignedStructure::VersionField => &VERSION_FIELD,
+            SignedStructure::DistinguishedName => &DISTINGUISHED_NAME,
+            SignedStructure::RelativeName => &RELATIVE_NAME,
+            SignedStructure::NameAttribute => &NAME_ATTRIBUTE,
+            SignedStructure::Validity => &VALIDITY,
+            SignedStructure::ExtensionsField => &EXTENSIONS_FIELD,
+            SignedStructure::Extensions => &EXTENSIONS,
+            SignedStructure::Extension => &EXTENSION,
+            SignedStructure::CertificationRequest => &CERTIFICATION_REQUEST,
+            SignedStructure::CertificationRequestInfo => &CERTIFICATION_REQUEST_INFO,
+            SignedStructure::CertificateList => &CERTIFICATE_LIST,
+            SignedStructure::TbsCertList => &TBS_CERT_LIST,
+            SignedStructure::RevokedCertificates => &REVOKED_CERTIFICATES,
+            SignedStructure::RevokedCertificate => &REVOKED_CERTIFICATE,
+        }
+    }
+}

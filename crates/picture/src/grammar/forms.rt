@@ -1,14 +1,20 @@
 //! What the whole of some bytes can be.
 use super::Content::{Inside, Shown};
 use super::Presence::Needed;
-use super::Structure::{
-    Certificate, CertificateList, CertificationRequest, ContentInfo, DhKeyInfo, DhParameter,
-    DomainParameters, DsaKeyInfo, DsaParameters, DsaPrivateKey, EcKeyInfo, EcParameters,
-    EcPrivateKey, EcPublicKeyInfo, KeyInfo, KeyPackage, MdInfo, OcspRequest, OcspResponse,
-    OctetKeyInfo, PbeKeyInfo, PbesKeyInfo, Pfx, PublicKeyInfo, RsaKeyInfo, RsaPrivateKey,
-    RsaPublicKey, SafeContents, Sha1Info, ShaInfo, Signature, TimeStampReq, TimeStampResp,
-    X942KeyInfo,
+use super::Structure::{Container, Key, Public, Service, Signed};
+use super::certificates::SignedStructure::{Certificate, CertificateList, CertificationRequest};
+use super::containers::ContainerStructure::{
+    ContentInfo, MdInfo, PbeKeyInfo, PbesKeyInfo, Pfx, SafeContents, Sha1Info, ShaInfo,
 };
+use super::keys::KeyStructure::{
+    DhKeyInfo, DsaKeyInfo, DsaPrivateKey, EcKeyInfo, EcPrivateKey, KeyInfo, KeyPackage,
+    OctetKeyInfo, RsaKeyInfo, RsaPrivateKey, X942KeyInfo,
+};
+use super::public::PublicStructure::{
+    DhParameter, DomainParameters, DsaParameters, EcParameters, EcPublicKeyInfo, PublicKeyInfo,
+    RsaPublicKey, Signature,
+};
+use super::services::ServiceStructure::{OcspRequest, OcspResponse, TimeStampReq, TimeStampResp};
 use super::{Component, Name};
 
 /// What the parts of a form can hold.
@@ -27,112 +33,165 @@ pub type Form = (Component, Secrecy);
 
 /// The first of the forms.
 pub(crate) const FIRST: Form = (
-    (0x30, Needed, Inside(EcPrivateKey), Name::EcPrivateKey),
+    (0x30, Needed, Inside(Key(EcPrivateKey)), Name::EcPrivateKey),
     Secrecy::Private,
 );
 
 /// The others. Of two that as many bytes follow the earlier is meant.
 pub(crate) const OTHERS: [Form; 34] = [
     (
-        (0x30, Needed, Inside(EcKeyInfo), Name::PrivateKeyInfo),
+        (0x30, Needed, Inside(Key(EcKeyInfo)), Name::PrivateKeyInfo),
         Secrecy::Private,
     ),
     (
-        (0x30, Needed, Inside(RsaKeyInfo), Name::PrivateKeyInfo),
+        (0x30, Needed, Inside(Key(RsaKeyInfo)), Name::PrivateKeyInfo),
         Secrecy::Private,
     ),
     (
-        (0x30, Needed, Inside(DsaKeyInfo), Name::PrivateKeyInfo),
+        (0x30, Needed, Inside(Key(DsaKeyInfo)), Name::PrivateKeyInfo),
         Secrecy::Private,
     ),
     (
-        (0x30, Needed, Inside(DhKeyInfo), Name::PrivateKeyInfo),
+        (0x30, Needed, Inside(Key(DhKeyInfo)), Name::PrivateKeyInfo),
         Secrecy::Private,
     ),
     (
-        (0x30, Needed, Inside(X942KeyInfo), Name::PrivateKeyInfo),
+        (0x30, Needed, Inside(Key(X942KeyInfo)), Name::PrivateKeyInfo),
         Secrecy::Private,
     ),
     (
-        (0x30, Needed, Inside(OctetKeyInfo), Name::PrivateKeyInfo),
+        (
+            0x30,
+            Needed,
+            Inside(Key(OctetKeyInfo)),
+            Name::PrivateKeyInfo,
+        ),
         Secrecy::Private,
     ),
     (
-        (0x30, Needed, Inside(KeyInfo), Name::PrivateKeyInfo),
+        (0x30, Needed, Inside(Key(KeyInfo)), Name::PrivateKeyInfo),
         Secrecy::Private,
     ),
     (
-        (0x30, Needed, Inside(RsaPrivateKey), Name::RsaPrivateKey),
+        (
+            0x30,
+            Needed,
+            Inside(Key(RsaPrivateKey)),
+            Name::RsaPrivateKey,
+        ),
         Secrecy::Private,
     ),
     (
-        (0x30, Needed, Inside(DsaPrivateKey), Name::DsaPrivateKey),
+        (
+            0x30,
+            Needed,
+            Inside(Key(DsaPrivateKey)),
+            Name::DsaPrivateKey,
+        ),
         Secrecy::Private,
     ),
-    ((0x30, Needed, Inside(Pfx), Name::Pfx), Secrecy::Private),
     (
-        (0x30, Needed, Inside(Certificate), Name::Certificate),
+        (0x30, Needed, Inside(Container(Pfx)), Name::Pfx),
+        Secrecy::Private,
+    ),
+    (
+        (0x30, Needed, Inside(Signed(Certificate)), Name::Certificate),
         Secrecy::Public,
     ),
     (
         (
             0x30,
             Needed,
-            Inside(CertificationRequest),
+            Inside(Signed(CertificationRequest)),
             Name::CertificationRequest,
         ),
         Secrecy::Public,
     ),
     (
-        (0x30, Needed, Inside(CertificateList), Name::CertificateList),
-        Secrecy::Public,
-    ),
-    (
-        (0x30, Needed, Inside(EcPublicKeyInfo), Name::PublicKeyInfo),
-        Secrecy::Public,
-    ),
-    (
-        (0x30, Needed, Inside(PublicKeyInfo), Name::PublicKeyInfo),
-        Secrecy::Public,
-    ),
-    (
-        (0x30, Needed, Inside(DhParameter), Name::DhParameter),
-        Secrecy::Public,
-    ),
-    (
-        (0x30, Needed, Inside(RsaPublicKey), Name::RsaPublicKey),
-        Secrecy::Public,
-    ),
-    (
-        (0x30, Needed, Inside(Signature), Name::Signature),
-        Secrecy::Public,
-    ),
-    (
-        (0x30, Needed, Inside(DsaParameters), Name::DsaParameters),
+        (
+            0x30,
+            Needed,
+            Inside(Signed(CertificateList)),
+            Name::CertificateList,
+        ),
         Secrecy::Public,
     ),
     (
         (
             0x30,
             Needed,
-            Inside(DomainParameters),
+            Inside(Public(EcPublicKeyInfo)),
+            Name::PublicKeyInfo,
+        ),
+        Secrecy::Public,
+    ),
+    (
+        (
+            0x30,
+            Needed,
+            Inside(Public(PublicKeyInfo)),
+            Name::PublicKeyInfo,
+        ),
+        Secrecy::Public,
+    ),
+    (
+        (0x30, Needed, Inside(Public(DhParameter)), Name::DhParameter),
+        Secrecy::Public,
+    ),
+    (
+        (
+            0x30,
+            Needed,
+            Inside(Public(RsaPublicKey)),
+            Name::RsaPublicKey,
+        ),
+        Secrecy::Public,
+    ),
+    (
+        (0x30, Needed, Inside(Public(Signature)), Name::Signature),
+        Secrecy::Public,
+    ),
+    (
+        (
+            0x30,
+            Needed,
+            Inside(Public(DsaParameters)),
+            Name::DsaParameters,
+        ),
+        Secrecy::Public,
+    ),
+    (
+        (
+            0x30,
+            Needed,
+            Inside(Public(DomainParameters)),
             Name::DomainParameters,
         ),
         Secrecy::Public,
     ),
     (
-        (0x30, Needed, Inside(EcParameters), Name::EcParameters),
+        (
+            0x30,
+            Needed,
+            Inside(Public(EcParameters)),
+            Name::EcParameters,
+        ),
         Secrecy::Public,
     ),
     (
-        (0x30, Needed, Inside(ContentInfo), Name::ContentInfo),
+        (
+            0x30,
+            Needed,
+            Inside(Container(ContentInfo)),
+            Name::ContentInfo,
+        ),
         Secrecy::Closed,
     ),
     (
         (
             0x30,
             Needed,
-            Inside(PbesKeyInfo),
+            Inside(Container(PbesKeyInfo)),
             Name::EncryptedPrivateKeyInfo,
         ),
         Secrecy::Closed,
@@ -141,45 +200,75 @@ pub(crate) const OTHERS: [Form; 34] = [
         (
             0x30,
             Needed,
-            Inside(PbeKeyInfo),
+            Inside(Container(PbeKeyInfo)),
             Name::EncryptedPrivateKeyInfo,
         ),
         Secrecy::Closed,
     ),
     (
-        (0x30, Needed, Inside(ShaInfo), Name::DigestInfo),
+        (0x30, Needed, Inside(Container(ShaInfo)), Name::DigestInfo),
         Secrecy::Closed,
     ),
     (
-        (0x30, Needed, Inside(Sha1Info), Name::DigestInfo),
+        (0x30, Needed, Inside(Container(Sha1Info)), Name::DigestInfo),
         Secrecy::Closed,
     ),
     (
-        (0x30, Needed, Inside(MdInfo), Name::DigestInfo),
+        (0x30, Needed, Inside(Container(MdInfo)), Name::DigestInfo),
         Secrecy::Closed,
     ),
     (
-        (0x30, Needed, Inside(OcspResponse), Name::OcspResponse),
+        (
+            0x30,
+            Needed,
+            Inside(Service(OcspResponse)),
+            Name::OcspResponse,
+        ),
         Secrecy::Closed,
     ),
     (
-        (0x30, Needed, Inside(TimeStampReq), Name::TimeStampReq),
+        (
+            0x30,
+            Needed,
+            Inside(Service(TimeStampReq)),
+            Name::TimeStampReq,
+        ),
         Secrecy::Closed,
     ),
     (
-        (0x30, Needed, Inside(TimeStampResp), Name::TimeStampResp),
+        (
+            0x30,
+            Needed,
+            Inside(Service(TimeStampResp)),
+            Name::TimeStampResp,
+        ),
         Secrecy::Closed,
     ),
     (
-        (0x30, Needed, Inside(OcspRequest), Name::OcspRequest),
+        (
+            0x30,
+            Needed,
+            Inside(Service(OcspRequest)),
+            Name::OcspRequest,
+        ),
         Secrecy::Closed,
     ),
     (
-        (0x30, Needed, Inside(KeyPackage), Name::AsymmetricKeyPackage),
+        (
+            0x30,
+            Needed,
+            Inside(Key(KeyPackage)),
+            Name::AsymmetricKeyPackage,
+        ),
         Secrecy::Private,
     ),
     (
-        (0x30, Needed, Inside(SafeContents), Name::SafeContents),
+        (
+            0x30,
+            Needed,
+            Inside(Container(SafeContents)),
+            Name::SafeContents,
+        ),
         Secrecy::Private,
     ),
     ((0x06, Needed, Shown(12), Name::NamedCurve), Secrecy::Public),

@@ -1,6 +1,6 @@
 use Rattle.std.proofs.Common.{rules, ◌≡◌, ◌∷◌, [], List, ℕ, Some, Option, length, true, false}
 use Rattle.std.proofs.Common.{append-nil}
-use Rattle.picture.specs.Pictures.{content_follows, content_rows, first_place, root_at}
+use Rattle.picture.specs.Pictures.{content_follows, rows_in, first_place, root_at}
 use Rattle.picture.specs.Rows.{Element, Row, inside_of, shown_of}
 use Rattle.picture.specs.declared.grammar.Structure.{Structure}
 use Rattle.picture.specs.declared.header.Header.{Header}
@@ -23,12 +23,12 @@ returns-then-not-draw_content-clause-rows g c =
     (Element place header c.args.form.0 (length content) (shown_of c.args.form.0.2 content) ∷ []) =
     rw (← c.shown_of.ensures) c.element.ensures in
     let within : tells c.element.new.self c.draw_content.new.rows
-    (content_rows (record place { offset = header.len; depth = 1 }) k content) =
+    (rows_in (record place { offset = header.len; depth = 1 }) k content) =
     rw (← c.inside_of.ensures) c.draw_content.ensures.rows in
     let both = g.met.R.Rows.joined c.args.rows.now c.element.new.self c.draw_content.new.rows _ _ own within in
     rw (
       rows_found c.args.form c.args.is_public bytes header content rest false is known,
-      append-nil (content_rows (record place { offset = header.len; depth = 1 }) k content),
+      append-nil (rows_in (record place { offset = header.len; depth = 1 }) k content),
     ) both
 
 pub returns-then-is_empty-clause-rows : goal.returns-then-is_empty-clause-rows
@@ -46,7 +46,7 @@ returns-then-is_empty-clause-rows g c =
     (Element place header c.args.form.0 (length content) (shown_of c.args.form.0.2 content) ∷ []) =
     rw (← c.shown_of.ensures) c.element.ensures in
     let within : tells c.element.new.self c.draw_content.new.rows
-    (content_rows (record place { offset = header.len; depth = 1 }) k content) =
+    (rows_in (record place { offset = header.len; depth = 1 }) k content) =
     rw (← c.inside_of.ensures) c.draw_content.ensures.rows in
     let both = g.met.R.Rows.joined c.args.rows.now c.element.new.self c.draw_content.new.rows _ _ own within in
     rw (rows_found c.args.form c.args.is_public bytes header content rest true is known)
@@ -67,7 +67,7 @@ returns-else-is_empty-clause-rows g c =
     (Element place header c.args.form.0 (length content) (shown_of c.args.form.0.2 content) ∷ []) =
     rw (← c.shown_of.ensures) c.element.ensures in
     let within : tells c.element.new.self c.draw_content.new.rows
-    (content_rows (record place { offset = header.len; depth = 1 }) k content) =
+    (rows_in (record place { offset = header.len; depth = 1 }) k content) =
     rw (← c.inside_of.ensures) c.draw_content.ensures.rows in
     let both = g.met.R.Rows.joined c.args.rows.now c.element.new.self c.draw_content.new.rows _ _ own within in
     rw (rows_found c.args.form c.args.is_public bytes header content rest true is known)

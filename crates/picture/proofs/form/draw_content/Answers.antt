@@ -1,11 +1,11 @@
 use Rattle.std.proofs.Common.{◌≡◌, ◌+◌, ◌∙◌, List, Some, ap, length, subst}
 use Rattle.picture.specs.Grammar.{Component, components}
-use Rattle.picture.specs.Pictures.{content_follows, content_rows}
+use Rattle.picture.specs.Pictures.{content_follows, rows_in}
 use Rattle.picture.specs.Rows.{follows, rows_of}
 use Rattle.picture.proofs.form.draw_content.Goals as goal
 
 pub returns-in-Some-clause-rows : goal.returns-in-Some-clause-rows
-unfolding content_rows
+unfolding rows_in
 returns-in-Some-clause-rows g c =
     let same : c.components.result.now ≡ components c.in-Some.structure = c.components.ensures in
     let some : c.args.structure ≡ Some c.in-Some.structure = c.in-Some.is in
