@@ -2,11 +2,10 @@
 ghost use Rattle.std.specs.Prelude.{◌≡◌, ◌+◌, ◌++◌, ◌∷◌, ◌<◌, ◌≤◌, ◌^◌, [], List, length};
 ghost use Rattle.std.specs.Prelude.{IfSome, option_map};
 ghost use Rattle.picture.specs.CountLaws.{capped_left, capped_none, capped_parts};
-ghost use Rattle.picture.specs.Pictures.{best, better, capped, content_follows, rows_in};
-ghost use Rattle.picture.specs.Pictures.{form_of, holds_no_key, is_there, is_whole, left_as};
-ghost use Rattle.picture.specs.Pictures.{left_in};
-ghost use Rattle.picture.specs.Pictures.{parts_as, parts_in, picture, picture_as, rest_rows, root_at};
-ghost use Rattle.picture.specs.Pictures.{rows_as, rows_in};
+ghost use Rattle.picture.specs.Pictures.{best, better, capped, content_follows, form_of};
+ghost use Rattle.picture.specs.Pictures.{holds_no_key, is_there, is_whole, left_as, left_in};
+ghost use Rattle.picture.specs.Pictures.{parts_as, parts_in, picture, picture_as, rest_rows};
+ghost use Rattle.picture.specs.Pictures.{root_at, rows_as, rows_in};
 ghost use Rattle.picture.specs.Rows.{Row};
 
 use crate::grammar::{Component, FIRST, Form, OTHERS, Secrecy, Structure};
