@@ -32870,7 +32870,7 @@ static uint32_t export_sec1_key_write(uint64_t private_key, uint64_t private_key
   FRAME(208)
   uint32_t v13 = 0, v15 = 0, v16 = 0, v17 = 0, v18 = 0, v19 = 0, v20 = 0, v21 = 0, t0, t1, t2,
       t3, t4, t5;
-  uint64_t v10 = 0, v12 = 0, v14 = 0, t6;
+  uint64_t v10 = 0, v12 = 0, v14 = 0;
   v10 = frame;
   v12 = curve + ((curve == 0) ? 4096ull : 0ull);
   if (curve_len > 8)
@@ -33012,7 +33012,7 @@ after_15:;
   store16(v12 + 0xfffffffffffffffb, (uint16_t)(((uint32_t)curve_len << 8) | 0x30u));
   goto after_17;
 after_16:;
-  t6 = sec1_der_back_writer_prepend_long_header(curve, v14, 48, curve_len);
+  sec1_der_back_writer_prepend_long_header(curve, v14, 48, curve_len);
 after_17:;
   store64(len, v10);
   v13 = 0;
@@ -33483,7 +33483,7 @@ static uint32_t export_sec1_signature_write(uint64_t r, uint64_t r_len, uint64_t
 {
   FRAME(32)
   uint32_t v10 = 0, v11 = 0;
-  uint64_t v7 = 0, v9 = 0, v12 = 0, t0;
+  uint64_t v7 = 0, v9 = 0, v12 = 0;
   v7 = frame;
   v7 = (s == 0) ? 4096ull : 0ull;
   r = r + ((r == 0) ? 4096ull : 0ull);
@@ -33615,7 +33615,7 @@ after_21:;
   store16((r + s) + 0xfffffffffffffffe, (uint16_t)(((uint32_t)r_len << 8) | 0x30u));
   goto after_25;
 after_24:;
-  t0 = sec1_der_back_writer_prepend_long_header(r, s, 48, r_len);
+  sec1_der_back_writer_prepend_long_header(r, s, 48, r_len);
 after_25:;
   store64(len, v7);
   v11 = 0;
@@ -33713,7 +33713,7 @@ static uint32_t export_sec1_private_key_info_write(uint64_t private_key,
 {
   FRAME(464)
   uint32_t v11 = 0;
-  uint64_t v12 = 0, v13 = 0, t0, t1, t2;
+  uint64_t v12 = 0, v13 = 0, t0, t1;
   curves_curve_Curve_from_content(frame + 32, curve + ((curve == 0) ? 4096ull : 0ull), curve_len);
   v11 = 11;
   if (load8(frame + 32) != 1u)
@@ -33901,7 +33901,7 @@ after_14:;
   store16(private_key_len + 0xfffffffffffffffb, (uint16_t)(((uint32_t)private_key << 8) | 0x30u));
   goto after_16;
 after_15:;
-  t2 = sec1_der_back_writer_prepend_long_header(curve_len, public_key, 48, private_key);
+  sec1_der_back_writer_prepend_long_header(curve_len, public_key, 48, private_key);
 after_16:;
   store64(len, curve);
   v11 = 0;
@@ -33925,7 +33925,7 @@ static uint32_t export_sec1_public_key_write(uint64_t curve, uint64_t curve_len,
 {
   FRAME(352)
   uint32_t v8 = 0, v9 = 0, v10 = 0;
-  uint64_t v11 = 0, v12 = 0, v13 = 0, v14 = 0, v15 = 0, v16 = 0, v17 = 0, t0, t1;
+  uint64_t v11 = 0, v12 = 0, v13 = 0, v14 = 0, v15 = 0, v16 = 0, v17 = 0, t0;
   curves_curve_Curve_from_content(frame + 40, curve + ((curve == 0) ? 4096ull : 0ull), curve_len);
   v8 = 11;
   if (load8(frame + 40) != 1u)
@@ -34233,7 +34233,7 @@ after_27:;
       (uint16_t)(((uint32_t)public_key << 8) | 0x30u));
   goto after_29;
 after_28:;
-  t1 = sec1_der_back_writer_prepend_long_header(curve_len, public_key_len, 48, public_key);
+  sec1_der_back_writer_prepend_long_header(curve_len, public_key_len, 48, public_key);
 after_29:;
   store64(len, curve);
   v8 = 0;

@@ -42225,7 +42225,7 @@ unsafe fn export_sec1_key_write(private_key: u64, private_key_len: u64, mut curv
   store16(v12.wrapping_add(0xfffffffffffffffb), (((curve_len as u32) << 8) | 48) as u16);
   break 'after_17;
   }
-  let t6 = sec1_der_back_writer_prepend_long_header(curve, v14, 48, curve_len);
+  sec1_der_back_writer_prepend_long_header(curve, v14, 48, curve_len);
   }
   store64(len, v10);
   v13 = 0;
@@ -43048,7 +43048,7 @@ unsafe fn export_sec1_signature_write(mut r: u64, mut r_len: u64, mut s: u64, mu
       (((r_len as u32) << 8) | 48) as u16);
   break 'after_25;
   }
-  let t0 = sec1_der_back_writer_prepend_long_header(r, s, 48, r_len);
+  sec1_der_back_writer_prepend_long_header(r, s, 48, r_len);
   }
   store64(len, v7);
   v11 = 0;
@@ -43409,7 +43409,7 @@ unsafe fn export_sec1_private_key_info_write(mut private_key: u64, mut private_k
       (((private_key as u32) << 8) | 48) as u16);
   break 'after_16;
   }
-  let t2 = sec1_der_back_writer_prepend_long_header(curve_len, public_key, 48, private_key);
+  sec1_der_back_writer_prepend_long_header(curve_len, public_key, 48, private_key);
   }
   store64(len, curve);
   v11 = 0;
@@ -43827,7 +43827,7 @@ unsafe fn export_sec1_public_key_write(mut curve: u64, mut curve_len: u64, mut p
       (((public_key as u32) << 8) | 48) as u16);
   break 'after_29;
   }
-  let t1 = sec1_der_back_writer_prepend_long_header(curve_len, public_key_len, 48, public_key);
+  sec1_der_back_writer_prepend_long_header(curve_len, public_key_len, 48, public_key);
   }
   store64(len, curve);
   v8 = 0;

@@ -164,15 +164,29 @@ class Translation:
             else:
                 self.skip(op)
         function = self.function
+        self.leave_out_unread()
         function.written = {it.parts[0] for it in function.body if it.kind == "set"}
         used = self.used()
         own = [(it.value, it.bits) for it in self.locals[len(function.params):]]
         function.variables = [it for it in own if it[0] in used]
-        function.temporaries = self.temporaries
+        function.temporaries = [it for it in self.temporaries if it[0] in used]
         return function
 
-    def used(self):
-        """The names of the variables that the function mentions."""
+    def leave_out_unread(self):
+        """Leaves out numbers that were named and that nothing reads, and the names of results."""
+        body, is_changed = self.function.body, True
+        while is_changed:
+            read = self.used(but=("let", "call"))
+            kept = [it for it in body if it.kind != "let" or it.parts[0] in read]
+            is_changed = len(kept) < len(body)
+            body[:] = kept
+        for it in body:
+            if it.kind == "call" and it.parts[0] not in read:
+                it.parts = (None, *it.parts[1:])
+
+    def used(self, but=()):
+        """The names of the variables that the function mentions, but for those that these kinds of
+        statements name."""
         found = set()
 
         def look(part):
@@ -180,7 +194,7 @@ class Translation:
                 found.update(part.reads)
                 wasm.refuse(part.kind == "stack", "another use of the pointer to its stack")
             elif isinstance(part, Statement):
-                for it in part.parts:
+                for it in part.parts[part.kind in but:]:
                     look(it)
             elif isinstance(part, (list, tuple)):
                 for it in part:
