@@ -93,7 +93,7 @@ fn is_borrowed_and_written(bytes: &[u8]) -> bool {
         return false;
     };
     let mut room = [0u8; 121];
-    curve.as_bytes() == &bytes[43..51]
+    bytes.get(43..51) == Some(curve.as_bytes())
         && key.encoded_len() == Ok(121)
         && key.encode_to_slice(&mut room) == Ok(121)
         && room.as_slice() == bytes
