@@ -156,7 +156,7 @@ test('keeps arrays of keys, and takes any buffer', () => {
   const der = key.toDer();
   const copies = [
     der, Buffer.from(der), der.buffer.slice(der.byteOffset, der.byteOffset + der.length),
-    new DataView(der.buffer, der.byteOffset, der.length),
+    new DataView(new Uint8Array([9, ...der, 9]).buffer, 1, der.length),
     new Uint8Array([9, ...der, 9]).subarray(1, -1),
   ];
   for (const copy of copies) assert(EcPrivateKey.fromDer(copy).equals(key));
@@ -843,7 +843,7 @@ test('draws any buffer, and as it is asked to', () => {
   const [{ input, shown }] = drawnByHand();
   const text = `${shown.join('\n')}\n`;
   const copies = [
-    new DataView(input.buffer, input.byteOffset, input.length),
+    new DataView(new Uint8Array([9, ...input, 9]).buffer, 1, input.length),
     new Uint8Array([9, ...input, 9]).subarray(1, -1).slice().buffer,
     new Uint8Array([9, ...input, 9]).subarray(1, -1),
   ];
