@@ -523,6 +523,7 @@ fn arrays_are_made_and_printed() {
     borrowed[31] = 9;
     assert_eq!((bytes[30], bytes[31]), (1, 9));
     assert!(<&mut Array<u8, U32>>::try_from(&mut bytes[1..]).is_err());
+    assert!(<&mut Array<u8, U32>>::try_from(&mut [1; 33][..]).is_err());
 }
 
 /// Compares values that all differ, each with each, and with its clone.
