@@ -1,7 +1,7 @@
 //! Reading and writing values of any type, by their whole DER encoding.
 ghost use Rattle.std.specs.Prelude.{◌≡◌, ◌⊎◌, ◌<◌, ◌≤◌, ◌+◌, ◌++◌, ℕ, List, length, drop, ⊤};
-ghost use Rattle.std.specs.Prelude.{Option, Some, None, IsOk, IsOkAnd, IsSome};
-ghost use Rattle.std.specs.Prelude.{IsSomeAnd, MatchOption, MatchResult, IsTrue};
+ghost use Rattle.std.specs.Prelude.{Some, None, IsOk, IsOkAnd, IsSome};
+ghost use Rattle.std.specs.Prelude.{IsSomeAnd, MatchResult, IsTrue};
 ghost use Rattle.sec1_der.specs.Elements.{max_length, element_of, is_tag};
 ghost use Rattle.sec1_der.specs.Readers.{ReadsElement};
 ghost use Rattle.sec1_der.specs.Elements.{IsProperPrefix};
@@ -67,7 +67,7 @@ pub fn read_der<'a, T: DecodeValue<'a> + Tagged + UniqueContent + Drop>(
 /// # Errors
 ///
 /// Overlength if the value has no content, or one that is longer than 268,435,455 bytes.
-// Inlined, so that what is called returns an option, which fits in registers.
+// Inlined, so that the length is returned in a register, and not as a result through memory.
 #[inline(always)]
 pub fn encoded_len<T: EncodeValue + Tagged>(value: &T) -> Result<usize>
     ensures { MatchResult result
@@ -76,23 +76,8 @@ pub fn encoded_len<T: EncodeValue + Tagged>(value: &T) -> Result<usize>
         (λ e. (e.kind ≡ ErrorKind.Overlength)
         × (element_of T.tag_byte (T.content value.now) ≡ None)) }
 {
-    match element_len(value) {
-        Some(total) => Ok(total),
-        None => Err(ErrorKind::Overlength.into()),
-    }
-}
-
-/// Returns the length of the value's element in bytes; `None` if the value has no encoding. As a
-/// `Result` it would be returned through memory.
-fn element_len<T: EncodeValue + Tagged>(value: &T) -> Option<usize>
-    ensures { MatchOption result (element_of T.tag_byte (T.content value.now) ≡ None)
-        (λ n. IsTrue (is_tag T.tag_byte) × (n ≤ max_length + 6)
-        × IsSomeAnd (element_of T.tag_byte (T.content value.now)) (λ bytes. n ≡ length bytes)) }
-{
-    match element_header(value) {
-        Ok(header) => Some(header.encoded_len() + header.length.get()),
-        Err(_) => None,
-    }
+    let header = element_header(value)?;
+    Ok(header.encoded_len() + header.length.get())
 }
 
 /// Returns the length in bytes of the DER encoding of a value that has one, as each value has that

@@ -70,8 +70,7 @@ pub fn whole_elements()
 {}
 
 /// An element whose content has no fault is refused as TrailingData if bytes follow it, where
-/// nothing
-/// may.
+/// nothing may.
 #[tactic(auto, using(crate::proofs::ElementFaultLemmas::trailing_fault))]
 pub fn longer_elements()
     ensures element { (inside : Fault) (tag : ℕ) (content bytes : List ℕ)

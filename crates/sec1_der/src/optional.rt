@@ -51,6 +51,8 @@ impl<A: EncodeValue + Tagged> EncodePart for Optional<A> {
         }
     }
 
+    // Inlined, so that an absent part is written without a call.
+    #[inline(always)]
     fn prepend_part(&self, writer: &mut BackWriter) {
         if let Some(value) = &self.0 {
             writer.prepend_element(value);
