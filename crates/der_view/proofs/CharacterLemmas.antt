@@ -1,14 +1,12 @@
 -- The first character of bytes.
 use Rattle.std.proofs.Common.{◌≡◌, ℕ, ◌+◌, ◌-◌, ◌*◌, ◌%◌, ◌<◌, ◌≤◌, List, [], ◌∷◌, length}
-use Rattle.std.proofs.Common.{true, false, refl, sym, ◌∙◌, ap, arith, inl, inr, ◌⊎◌, take, drop, get_or}
+use Rattle.std.proofs.Common.{true, false, refl, ◌∙◌, ap, arith, inl, inr, ◌⊎◌}
 use Rattle.std.specs.Prelude.{Bool, nat_lt, nat_le, ◌==◌, ◌&&◌, Option, Some, None}
 use Rattle.std.specs.Str.{chars, chars_after, continuation_len, lead_bits}
 use Rattle.std.specs.Char.Utf16.{is_high_surrogate, is_low_surrogate, lone_unit_char, utf16_chars}
 use Rattle.std.proofs.lemmas.Bool.{cases_lt}
-use Rattle.der_view.specs.Characters.{before_none, is_utf16, is_utf32, scalar_or_none, units_of, utf32_chars}
+use Rattle.der_view.specs.Characters.{before_none, is_utf16, units_of}
 use Rattle.std.proofs.lemmas.Bool.Decides.{nat_tests}
-use Rattle.std.proofs.lemmas.List.{length-drop, length-take, take_all}
-use Rattle.sec1_der.specs.Elements.{number_of}
 
 pub empty : (bytes : List ℕ) → length bytes ≡ 0 → bytes ≡ []
 empty [] e = refl
@@ -185,44 +183,3 @@ unfolding utf16_chars
 utf16-few [] few = (refl, refl)
 utf16-few (b ∷ []) few = (refl, refl)
 utf16-few (b ∷ c ∷ bytes) few = absurd (omega arith)
-
--- ---- UTF-32
-
--- the number of the first four bytes, and the bytes after them
-abbrev first_number : List ℕ → ℕ
-first_number bytes = number_of (get_or bytes 0 0 ∷ get_or bytes 1 0 ∷ get_or bytes 2 0 ∷ get_or bytes 3 0 ∷ [])
-
-abbrev after_four : List ℕ → List ℕ
-after_four bytes = take (length bytes - 4) (drop 4 bytes)
-
-utf32-first : (bytes : List ℕ) → 4 ≤ length bytes
-    → utf32_chars bytes ≡ scalar_or_none (first_number bytes) ∷ utf32_chars (after_four bytes)
-utf32-first [] four = absurd (omega arith)
-utf32-first (a ∷ []) four = absurd (omega arith)
-utf32-first (a ∷ b ∷ []) four = absurd (omega arith)
-utf32-first (a ∷ b ∷ c ∷ []) four = absurd (omega arith)
-utf32-first (a ∷ b ∷ c ∷ d ∷ rest) four =
-    let whole : take (length (a ∷ b ∷ c ∷ d ∷ rest) - 4) rest ≡ rest = take_all _ rest (omega arith) in
-    ap (λ (bytes : List ℕ). scalar_or_none (number_of (a ∷ b ∷ c ∷ d ∷ [])) ∷ utf32_chars bytes) (sym whole)
-
-pub utf32-some : (bytes : List ℕ) (code : ℕ) → 4 ≤ length bytes → code ≡ first_number bytes
-    → scalar_or_none code ≡ Some code
-    → (before_none (utf32_chars bytes) ≡ code ∷ before_none (utf32_chars (after_four bytes)))
-    × (is_utf32 bytes ≡ is_utf32 (after_four bytes))
-utf32-some bytes code four is scalar =
-    let first : utf32_chars bytes ≡ Some code ∷ utf32_chars (after_four bytes) =
-    utf32-first bytes four
-    ∙ ap (λ (o : Option ℕ). o ∷ utf32_chars (after_four bytes)) (ap scalar_or_none (sym is) ∙ scalar) in
-    let size : length (after_four bytes) ≡ length bytes - 4 = omega (arith, length-take {A = ℕ}, length-drop {A = ℕ}) in
-    let same : length bytes % 4 ≡ length (after_four bytes) % 4 = omega arith in
-    (rw first refl, rw (first, same) refl)
-
-pub utf32-none : (bytes : List ℕ) (code : ℕ) → 4 ≤ length bytes → code ≡ first_number bytes
-    → scalar_or_none code ≡ None
-    → (before_none (utf32_chars bytes) ≡ []) × (is_utf32 bytes ≡ (length bytes == 0))
-utf32-none bytes code four is none =
-    let first : utf32_chars bytes ≡ None ∷ utf32_chars (after_four bytes) =
-    utf32-first bytes four
-    ∙ ap (λ (o : Option ℕ). o ∷ utf32_chars (after_four bytes)) (ap scalar_or_none (sym is) ∙ none) in
-    let full : (length bytes == 0) ≡ false = grind (arith, nat_tests) in
-    (rw first refl, rw (first, full) (and-false (length bytes % 4 == 0)))

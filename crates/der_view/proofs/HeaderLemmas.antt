@@ -10,7 +10,7 @@ use Rattle.der_view.specs.Headers.{max_content_len}
 use Rattle.der_view.specs.Headers.{number_after, one_byte_more, tag_at, tag_of}
 use Rattle.der_view.specs.declared.header.Header.{Header}
 use Rattle.der_view.specs.declared.header.Tag.{Tag}
-use Rattle.der_view.specs.declared.mark.ElementFault.{ElementFault}
+use Rattle.der_view.specs.declared.header.ElementFault.{ElementFault}
 
 -- a number in one byte, or in one more than another
 number_step : (test : Bool) (n size : ℕ) (r s : Result (ℕ × ℕ) ElementFault) (p : ℕ × ℕ)

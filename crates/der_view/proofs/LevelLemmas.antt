@@ -1,88 +1,294 @@
--- The levels around a row.
-use Rattle.std.proofs.Common.{◌≡◌, ℕ, ◌+◌, ◌-◌, ◌<◌, ◌≤◌, List, [], ◌∷◌, length, refl, sym, ◌∙◌, ap, arith}
-use Rattle.std.proofs.Common.{Bool, true, false, take, get_or}
-use Rattle.std.proofs.lemmas.List.{length-reverse, length-take-le, reverse-append, take_more, take_more_set}
-use Rattle.std.specs.Prelude.{nat_lt, reverse, slice_get, slice_set, Option, Some, None, ◌||◌}
-use Rattle.std.proofs.lemmas.Bool.Decides.{nat_tests}
-use Rattle.der_view.specs.Levels.{followed, is_unended, levels_view, still_open}
-use Rattle.der_view.specs.declared.level.Level.{Level}
-use Rattle.der_view.specs.declared.levels.Levels.{Levels}
+-- The rows of a level are those of its mask, whatever as many bytes come after it.
+use Rattle.std.proofs.Common.{◌≡◌, ℕ, Bool, true, false, List, [], ◌++◌, length, take}
+use Rattle.std.proofs.Common.{refl, sym, ap, ◌∙◌, Option, Some, None, arith, subst, append-nil, length-append}
+use Rattle.std.specs.Option.{is_some}
+use Rattle.std.specs.Prelude.{if◌then◌else◌, is_none}
+use Rattle.der_view.specs.Contents.{is_shown, is_whole, shown_in, shown_len}
+use Rattle.der_view.specs.Grammar.{Component, components}
+use Rattle.der_view.specs.Masks.{content_mask, masked, masked_content, step_mask, zeros}
+use Rattle.der_view.specs.Rows.{Step, admits, after_inside}
+use Rattle.der_view.specs.Rows.{inside_loose, is_followed, is_open}
+use Rattle.der_view.specs.Rows.{opened_in, opened_of, rest_after, rest_of}
+use Rattle.der_view.specs.declared.grammar.Content.{Content}
+use Rattle.der_view.specs.declared.grammar.Content.TheVariants as contents
+use Rattle.der_view.specs.declared.grammar.Structure.{Structure}
+use Rattle.der_view.specs.declared.header.Header.{Header}
+use Rattle.der_view.proofs.MaskLemmas.{IsMasked, IsRows, IsTaken, MasksRest, again, closed_content, content_shown}
+use Rattle.der_view.proofs.MaskLemmas.{kept_fits}
+use Rattle.der_view.proofs.MaskLemmas.{kept_misfits, left, none_shown, opened_rows, opened_same, rest_closed}
+use Rattle.der_view.proofs.MaskLemmas.{step_again}
+use Rattle.der_view.proofs.MaskLemmas.{tail_len, zeros_followed}
+use Rattle.der_view.proofs.StepLemmas.{Stays, step_like}
 
-pub length-levels_view : (levels : Levels) → length (levels_view levels) ≡ levels.count
-length-levels_view levels =
-    length-reverse (take levels.count levels.table)
-    ∙ length-take-le levels.count levels.table (omega (arith, levels.sized, levels.bounded))
+-- ---- one element
 
--- the innermost of some levels, and those around it
-pub levels-step : (table : List Level) (count : ℕ) (d : Level) → 0 < count → count ≤ length table
-    → reverse (take count table) ≡ get_or table (count - 1) d ∷ reverse (take (count - 1) table)
-levels-step table count d some within =
-    let i : ℕ = count - 1 in
-    let next : count ≡ i + 1 = omega arith in
-    let inside : i < length table = omega arith in
-    ap (λ n. reverse (take n table)) next
-    ∙ (ap (λ (xs : List Level). reverse xs) (take_more table i d inside)
-    ∙ reverse-append (take i table) (get_or table i d ∷ []))
+-- an element whose content is masked, with others for the bytes after it
+pub record MasksStep (loose small : Bool) (most depth : ℕ) (step next : Step) (m t : List ℕ) : Type 0 where
+  pub like : next ≡ step_like step next.content next.rest
+  pub stays : Stays step next.content
+  pub rest_len : length next.rest ≡ length step.rest
+  pub opened : opened_of loose most depth next ≡ opened_of loose most depth step
+  pub after : rest_after loose most depth next ≡ again t (rest_after loose most depth step)
+  pub parts : m ++ t ≡ next.content ++ next.rest
+  pub shown : take (shown_len small step.header step.component.2 next.content) next.content
+      ≡ take (shown_len small step.header step.component.2 step.content) step.content
 
--- one more level
-pub levels-open : (table : List Level) (count : ℕ) (level : Level) → count < length table
-    → reverse (take (count + 1) (slice_set table count level)) ≡ level ∷ reverse (take count table)
-levels-open table count level room =
-    ap (λ (xs : List Level). reverse xs) (take_more_set table count level room)
-    ∙ reverse-append (take count table) (level ∷ [])
+pub taken_fits : (step : Step) → IsTaken step → admits step.header step.component.2 step.content ≡ true
+unfolding admits
+taken_fits step taken = by_test step.follows refl
+  where
+    by_test : (test : Bool) → step.follows ≡ test → admits step.header step.component.2 step.content ≡ true
+    by_test true is = taken.admitted is
+    by_test false is = ap (λ (c : Component). admits step.header c.2 step.content) (taken.free is)
 
--- another innermost level
-pub levels-again : (table : List Level) (count : ℕ) (level : Level) → 0 < count → count ≤ length table
-    → reverse (take count (slice_set table (count - 1) level)) ≡ followed (Some level) (reverse (take count table))
-levels-again table count level some within =
-    let i : ℕ = count - 1 in
-    let next : i + 1 ≡ count = omega arith in
-    let inside : i < length table = omega arith in
-    let set : reverse (take count (slice_set table i level)) ≡ level ∷ reverse (take i table) =
-    rw next at (levels-open table i level inside) in
-    set ∙ sym (ap (followed (Some level)) (levels-step table count level some within))
+free_kind : (step : Step) → IsTaken step → step.follows ≡ false → step.component.2 ≡ contents.Free
+free_kind step taken is = ap (λ (c : Component). c.2) (taken.free is)
 
--- the innermost level is closed
-pub levels-closed : (table : List Level) (count : ℕ) (d : Level) → 0 < count → count ≤ length table
-    → reverse (take (count - 1) table) ≡ followed None (reverse (take count table))
-levels-closed table count d some within = sym (ap (followed None) (levels-step table count d some within))
+whole_none : (whole : Structure → List ℕ → Bool) (loose : Bool) (header : Header) (k : Content) (x : List ℕ)
+    (s : Structure) → k ≡ contents.Whole s → opened_in whole loose header k x ≡ None → whole s x ≡ false
+unfolding opened_in
+whole_none whole loose header k x s e is =
+    by_test (whole s x) (subst (λ (c : Content). opened_in whole loose header c x ≡ None) e is)
+  where
+    by_test : (test : Bool) → ◌≡◌ {A = Option Structure} (if test then Some s else None) None → test ≡ false
+    by_test true known = absurd (cc known)
+    by_test false known = refl
 
--- no more levels than before
-pub length-followed : (level : Option Level) (levels : List Level) → length (followed level levels) ≤ length levels
-length-followed None [] = omega arith
-length-followed (Some level) [] = omega arith
-length-followed None (first ∷ levels) = omega arith
-length-followed (Some level) (first ∷ levels) = omega arith
+whole_some : (whole : Structure → List ℕ → Bool) (loose : Bool) (header : Header) (k : Content) (x : List ℕ)
+    (s t : Structure) → k ≡ contents.Whole s → opened_in whole loose header k x ≡ Some t → s ≡ t
+unfolding opened_in
+whole_some whole loose header k x s t e is =
+    by_test (whole s x) (subst (λ (c : Content). opened_in whole loose header c x ≡ Some t) e is)
+  where
+    by_test : (test : Bool) → ◌≡◌ {A = Option Structure} (if test then Some s else None) (Some t) → s ≡ t
+    by_test true known = cc
+    by_test false known = absurd (cc known)
 
--- the innermost level isn't over, or there is none
-pub still_open-first : (left : ℕ) (level : Level) (levels : List Level) → slice_get levels 0 ≡ Some level
-    → level.rest < left → (still_open left levels ≡ levels) × (is_unended left levels ≡ false)
-still_open-first left level [] first more = cc
-still_open-first left level (one ∷ levels) first more =
-    let same : one ≡ level = cc in
-    let test : nat_lt one.rest left ≡ true = rw same (grind (arith, nat_tests)) in
-    (rw test refl, rw test refl)
+whole_zeros : (small : Bool) (header : Header) (k : Content) (x : List ℕ) (s : Structure) → k ≡ contents.Whole s
+    → masked_content (shown_len small header k x) x ≡ zeros x
+unfolding shown_len shown_in is_shown
+whole_zeros small header k x s e =
+    subst (λ (c : Content). masked_content (shown_len small header c x) x ≡ zeros x) (sym e)
+    (ap (λ (n : ℕ). masked_content n x) (none_shown (is_whole header x)))
 
-pub still_open-none : (left : ℕ) (levels : List Level) → slice_get levels 0 ≡ None
-    → (still_open left levels ≡ levels) × (is_unended left levels ≡ false)
-still_open-none left [] none = (refl, refl)
-still_open-none left (level ∷ levels) none = cc
+none_masks : (loose small : Bool) (most depth : ℕ) (step : Step) (t : List ℕ) → IsTaken step
+    → opened_of loose most depth step ≡ None → length t ≡ length step.rest
+    → MasksStep loose small most depth step
+    (step_like step (masked_content (shown_len small step.header step.component.2 step.content) step.content) t)
+    (masked_content (shown_len small step.header step.component.2 step.content) step.content) t
+none_masks loose small most depth step t taken none size =
+    let k : Content = step.component.2 in
+    let x : List ℕ = step.content in
+    let m : List ℕ = masked_content (shown_len small step.header k x) x in
+    let seen : IsMasked small step.header k x m = content_shown small step.header k x in
+    let next : Step = step_like step m t in
+    let whole : Structure → List ℕ → Bool = λ s y. is_followed most depth s y in
+    let kept : opened_of loose most depth next ≡ None =
+    opened_same whole loose step.header k x m (λ s e.
+    let not_whole : whole s x ≡ false = whole_none whole loose step.header k x s e none in
+    ap (λ (y : List ℕ). whole s y) (whole_zeros small step.header k x s e)
+    ∙ (zeros_followed most depth s x not_whole ∙ sym not_whole)) ∙ none in
+    record {
+      like = refl;
+      stays = record {
+        len = seen.len;
+        follows = λ e. kept_fits small step.header k x (taken.admitted e);
+        misfits = λ e c misfit.
+            subst (λ (j : Content). admits step.header c (masked_content (shown_len small step.header j x) x) ≡ false)
+            (sym (free_kind step taken e)) (kept_misfits small step.header c x misfit);
+      };
+      rest_len = size;
+      opened = kept ∙ sym none;
+      after = rw (kept, none) refl;
+      parts = refl;
+      shown = seen.shown;
+    }
 
--- the innermost level is over
-pub still_open-over : (left : ℕ) (level : Level) (levels : List Level) → slice_get levels 0 ≡ Some level
-    → left ≤ level.rest
-    → (still_open left levels ≡ still_open left (followed None levels))
-    × (is_unended left levels ≡ (level.indefinite || is_unended left (followed None levels)))
-still_open-over left level [] first over = cc
-still_open-over left level (one ∷ levels) first over =
-    let same : one ≡ level = cc in
-    let test : nat_lt one.rest left ≡ false = rw same (grind (arith, nat_tests)) in
-    (rw test refl, rw test (rw same refl))
+never_whole : (header : Header) (u : Structure) (x : List ℕ) → admits header (contents.Whole u) x ≡ true
+    → is_none header.content_len ≡ false
+unfolding opened_in
+never_whole header u x fits =
+    closed_content (λ (v : Structure) (y : List ℕ). false) true header (contents.Whole u) x refl fits
 
-pub or_assoc : (a b c : Bool) → ((a || b) || c) ≡ (a || (b || c))
-or_assoc true b c = refl
-or_assoc false b c = refl
+whole_definite : (step : Step) (u : Structure) → IsTaken step → step.component.2 ≡ contents.Whole u
+    → is_open step ≡ false
+whole_definite step u taken e =
+    never_whole step.header u step.content
+    (subst (λ (c : Content). admits step.header c step.content ≡ true) e (taken_fits step taken))
 
-pub or_false : (a : Bool) → (a || false) ≡ a
-or_false true = refl
-or_false false = refl
+-- a content that is rows
+rows_stay : (step : Step) (m : List ℕ) → IsTaken step → IsRows step.header step.component.2
+    → length m ≡ length step.content → Stays step m
+rows_stay step m taken rows size = record {
+  len = size;
+  follows = λ e. rows.alike m step.content ∙ taken.admitted e;
+  misfits = λ e c misfit. rows.free (free_kind step taken e) c m step.content ∙ misfit;
+}
+
+rows_shown : (small : Bool) (header : Header) (k : Content) (x m : List ℕ) → IsRows header k
+    → take (shown_len small header k m) m ≡ take (shown_len small header k x) x
+rows_shown small header k x m rows = rw (rows.shown small m, rows.shown small x) refl
+
+whole_same : (most depth : ℕ) (loose : Bool) (s t : Structure) (m x : List ℕ) → loose ≡ false → s ≡ t
+    → rest_of loose most depth false (components t) m ≡ again [] (rest_of loose most depth false (components t) x)
+    → is_followed most depth s m ≡ is_followed most depth s x
+whole_same most depth loose s t m x strict same is =
+    let known : rest_of false most depth false (components s) m
+    ≡ again [] (rest_of false most depth false (components s) x) =
+    subst (λ (u : Structure). rest_of false most depth false (components u) m
+    ≡ again [] (rest_of false most depth false (components u) x)) (sym same)
+    (subst (λ (b : Bool). rest_of b most depth false (components t) m
+    ≡ again [] (rest_of b most depth false (components t) x)) strict is) in
+    ap (λ (o : Option (List ℕ)). is_some o) known ∙ some_again (rest_of false most depth false (components s) x)
+  where
+    some_again : (o : Option (List ℕ)) → is_some (again [] o) ≡ is_some o
+    some_again None = refl
+    some_again (Some r) = refl
+
+pub closed_left : (loose : Bool) (most depth : ℕ) (some : List Component) (bytes : List ℕ)
+    → left (rest_of loose most depth false some bytes) ≡ 0
+closed_left loose most depth some bytes = by_rest (rest_of loose most depth false some bytes) refl
+  where
+    by_rest : (o : Option (List ℕ)) → rest_of loose most depth false some bytes ≡ o → left o ≡ 0
+    by_rest None is = refl
+    by_rest (Some r) is = ap length (rest_closed loose most depth some bytes r is)
+
+closed_masks : (loose small : Bool) (most depth : ℕ) (step : Step) (t : List ℕ) (s : Structure) → IsTaken step
+    → opened_of loose most depth step ≡ Some s → is_open step ≡ false
+    → MasksRest (inside_loose step.component.2 loose) small most depth false (components s) step.content
+    → length t ≡ length step.rest
+    → MasksStep loose small most depth step
+    (step_like step (masked (inside_loose step.component.2 loose) small most depth false (components s) step.content) t)
+    (masked (inside_loose step.component.2 loose) small most depth false (components s) step.content) t
+closed_masks loose small most depth step t s taken some definite inner size =
+    let k : Content = step.component.2 in
+    let x : List ℕ = step.content in
+    let inside' : Bool = inside_loose k loose in
+    let m : List ℕ = masked inside' small most depth false (components s) x in
+    let rest : Option (List ℕ) = rest_of inside' most depth false (components s) x in
+    let none : left rest ≡ 0 = closed_left inside' most depth (components s) x in
+    let len : length m ≡ length x = omega (arith, inner.len, none) in
+    let same : rest_of inside' most depth false (components s) m ≡ again [] rest =
+    ap (λ (y : List ℕ). rest_of inside' most depth false (components s) y) (sym (append-nil m))
+    ∙ inner.same [] (sym none) in
+    let next : Step = step_like step m t in
+    let whole : Structure → List ℕ → Bool = λ u y. is_followed most depth u y in
+    let rows : IsRows step.header k = opened_rows whole loose step.header k x s some in
+    let kept : opened_of loose most depth next ≡ Some s =
+    opened_same whole loose step.header k x m (λ u e.
+    whole_same most depth inside' u s m x (strict k u e) (whole_some whole loose step.header k x u s e some) same)
+    ∙ some in
+    record {
+      like = refl;
+      stays = rows_stay step m taken rows len;
+      rest_len = size;
+      opened = kept ∙ sym some;
+      after = rw (kept, some, definite, same) (after_same rest);
+      parts = refl;
+      shown = rows_shown small step.header k x m rows;
+    }
+  where
+    strict : (k : Content) (u : Structure) → k ≡ contents.Whole u → inside_loose k loose ≡ false
+    strict k u e = ap (λ (c : Content). inside_loose c loose) e
+
+    after_same : (o : Option (List ℕ)) → after_inside false t (again [] o) ≡ again t (after_inside false step.rest o)
+    after_same None = refl
+    after_same (Some r) = refl
+
+open_masks : (loose small : Bool) (most depth : ℕ) (step : Step) (t : List ℕ) (s : Structure) → IsTaken step
+    → opened_of loose most depth step ≡ Some s → is_open step ≡ true
+    → MasksRest (inside_loose step.component.2 loose) small most depth true (components s) step.content
+    → length t ≡ left (rest_of (inside_loose step.component.2 loose) most depth true (components s) step.content)
+    → MasksStep loose small most depth step
+    (step_like step (masked (inside_loose step.component.2 loose) small most depth true (components s) step.content
+    ++ t) [])
+    (masked (inside_loose step.component.2 loose) small most depth true (components s) step.content) t
+open_masks loose small most depth step t s taken some indefinite inner size =
+    let k : Content = step.component.2 in
+    let x : List ℕ = step.content in
+    let inside' : Bool = inside_loose k loose in
+    let m : List ℕ = masked inside' small most depth true (components s) x in
+    let rest : Option (List ℕ) = rest_of inside' most depth true (components s) x in
+    let len : length (m ++ t) ≡ length x = omega (arith, length-append m t, inner.len, size) in
+    let same : rest_of inside' most depth true (components s) (m ++ t) ≡ again t rest = inner.same t size in
+    let next : Step = step_like step (m ++ t) [] in
+    let whole : Structure → List ℕ → Bool = λ u y. is_followed most depth u y in
+    let rows : IsRows step.header k = opened_rows whole loose step.header k x s some in
+    let kept : opened_of loose most depth next ≡ Some s =
+    opened_same whole loose step.header k x (m ++ t)
+    (λ u e. absurd (cc (sym indefinite ∙ whole_definite step u taken e))) ∙ some in
+    record {
+      like = refl;
+      stays = rows_stay step (m ++ t) taken rows len;
+      rest_len = sym (ap length (taken.last (no_len step.header.content_len indefinite)));
+      opened = kept ∙ sym some;
+      after = rw (kept, some, indefinite, same) (after_same rest);
+      parts = sym (append-nil (m ++ t));
+      shown = rows_shown small step.header k x (m ++ t) rows;
+    }
+  where
+    no_len : (o : Option ℕ) → is_none o ≡ true → o ≡ None
+    no_len None is = refl
+    no_len (Some n) is = absurd (cc is)
+
+    after_same : (o : Option (List ℕ)) → after_inside true [] (again t o) ≡ again t (after_inside true step.rest o)
+    after_same None = refl
+    after_same (Some r) = refl
+
+pub opened_masks : (loose small : Bool) (most depth : ℕ) (step : Step) (t : List ℕ) → IsTaken step
+    → ((inside' marked : Bool) (d : ℕ) (cs : List Component) (x : List ℕ)
+    → MasksRest inside' small most d marked cs x)
+    → length t ≡ tail_len step (rest_after loose most depth step)
+    → MasksStep loose small most depth step (step_again (is_open step) step (step_mask loose small most depth step) t)
+    (step_mask loose small most depth step) t
+opened_masks loose small most depth step t taken inner size =
+    by_opened (opened_of loose most depth step) (is_open step) refl refl
+  where
+    inside' : Bool
+    inside' = inside_loose step.component.2 loose
+
+    rest_at : Bool → Structure → Option (List ℕ)
+    rest_at marked s = rest_of inside' most depth marked (components s) step.content
+
+    mask_at : Bool → Option Structure → List ℕ
+    mask_at marked o =
+        content_mask small (λ s. masked inside' small most depth marked (components s) step.content) o step
+
+    closed_tail : (o : Option (List ℕ)) → tail_len step (after_inside false step.rest o) ≡ length step.rest
+    closed_tail None = refl
+    closed_tail (Some r) = refl
+
+    open_tail : (o : Option (List ℕ)) → step.rest ≡ [] → tail_len step (after_inside true step.rest o) ≡ left o
+    open_tail None last = ap length last
+    open_tail (Some r) last = refl
+
+    no_len : (o : Option ℕ) → is_none o ≡ true → o ≡ None
+    no_len None is = refl
+    no_len (Some n) is = absurd (cc is)
+
+    by_opened : (o : Option Structure) (b : Bool) → opened_of loose most depth step ≡ o → is_open step ≡ b
+        → MasksStep loose small most depth step (step_again b step (mask_at b o) t) (mask_at b o) t
+    by_opened None true none indefinite =
+        let definite = closed_content (λ s y. is_followed most depth s y) loose step.header step.component.2
+        step.content
+        none (taken_fits step taken) in
+        absurd (cc (sym indefinite ∙ definite))
+    by_opened None false none definite =
+        let after' : rest_after loose most depth step ≡ Some step.rest = rw none refl in
+        let len : length t ≡ length step.rest = size ∙ ap (λ (o : Option (List ℕ)). tail_len step o) after' in
+        none_masks loose small most depth step t taken none len
+    by_opened (Some s) false some definite =
+        let after' : rest_after loose most depth step ≡ after_inside false step.rest (rest_at false s) =
+        rw (some, definite) refl in
+        let len : length t ≡ length step.rest =
+        size ∙ (ap (λ (o : Option (List ℕ)). tail_len step o) after' ∙ closed_tail (rest_at false s)) in
+        closed_masks loose small most depth step t s taken some definite
+        (inner inside' false depth (components s) step.content) len
+    by_opened (Some s) true some indefinite =
+        let last : step.rest ≡ [] = taken.last (no_len step.header.content_len indefinite) in
+        let after' : rest_after loose most depth step ≡ after_inside true step.rest (rest_at true s) =
+        rw (some, indefinite) refl in
+        let len : length t ≡ left (rest_at true s) =
+        size ∙ (ap (λ (o : Option (List ℕ)). tail_len step o) after' ∙ open_tail (rest_at true s) last) in
+        open_masks loose small most depth step t s taken some indefinite
+        (inner inside' true depth (components s) step.content) len

@@ -1,12 +1,15 @@
 -- What a line keeps of a text that is appended in pieces.
-use Rattle.std.proofs.Common.{◌≡◌, ℕ, ◌+◌, ◌-◌, ◌≤◌, ◌<◌, List, [], ◌++◌, length, take}
+use Rattle.std.proofs.Common.{◌≡◌, ℕ, ◌+◌, ◌-◌, ◌≤◌, ◌<◌, List, [], ◌∷◌, ◌++◌, length, take}
 use Rattle.std.proofs.Common.{append-nil, refl, sym, ◌∙◌, ap, arith, append_assoc, length-append, inl, inr, ◌⊎◌}
 use Rattle.std.proofs.Math.Seq.{take-append-add}
-use Rattle.std.proofs.lemmas.Bool.{cases_lt, lt-leb}
-use Rattle.std.proofs.lemmas.List.{take_all, take-append-le, take-take, length-take, length-take-le}
+use Rattle.std.proofs.lemmas.List.Folds.{list_all-append}
+use Rattle.std.proofs.lemmas.Bool.{cases_lt}
+use Rattle.std.proofs.lemmas.List.{take_all, take-append-le, take-take, length-take-le, length-map}
 use Rattle.std.proofs.lemmas.List.{replicate-append-replicate, length-replicate}
-use Rattle.std.specs.Prelude.{false, codes, min, nat_le, replicate}
-use Rattle.der_view.specs.Lines.{kept, shown}
+use Rattle.std.specs.Prelude.{Bool, true, false, codes, map, min, nat_le, replicate, if◌then◌else◌}
+use Rattle.std.specs.List.{list_all}
+use Rattle.std.proofs.lemmas.Bool.Decides.{nat_tests}
+use Rattle.der_view.specs.Lines.{IsLine, is_printable, kept, printed, shown}
 
 -- a text that fits is kept
 pub kept-short : (old text : List ℕ) → length old + length text ≤ 101 → kept (old ++ text) ≡ old ++ text
@@ -52,6 +55,45 @@ kept-spaces_by old n y (inl many) =
 pub kept-spaces : (old : List ℕ) (n y : ℕ) → kept (old ++ replicate (min n 101) y) ≡ kept (old ++ replicate n y)
 kept-spaces old n y = kept-spaces_by old n y (cases_lt 101 n)
 
+prints : (c : ℕ) (is : Bool) → is_printable c ≡ is → is_printable (if is then c else 0x3F) ≡ true
+prints c true e = e
+prints c false e = refl
+
+all_print : (text : List ℕ) → list_all is_printable (map printed text) ≡ true
+all_print [] = refl
+all_print (c ∷ text) = rw (prints c (is_printable c) refl, all_print text) refl
+
+-- what is shown is a line
+pub shown-line : (text : List ℕ) → IsLine (shown text)
+unfolding shown
+shown-line text = by (cases_lt 100 (length text))
+  where
+    by : (100 < length text) ⊎ (length text ≤ 100) → IsLine (shown text)
+    by (inr few) =
+        let whole : nat_le (length text) 100 ≡ true = grind (arith, nat_tests) in
+        rw whole (record { short = omega (arith, length-map text printed); printable = all_print text })
+    by (inl many) =
+        let cut : nat_le (length text) 100 ≡ false = grind (arith, nat_tests) in
+        let front : List ℕ = map printed (take 97 text) in
+        rw cut (record {
+          short = omega (
+            arith,
+            length-append front (codes "..."),
+            length-map (take 97 text) printed,
+            length-take-le 97
+                text (omega arith),
+          );
+          printable = list_all-append is_printable front (codes "...") ∙ rw (all_print (take 97 text)) refl;
+        })
+
+pub shown-short : (text : List ℕ) → length text ≤ 100 → map printed text ≡ shown text
+unfolding shown
+shown-short text few = let whole : nat_le (length text) 100 ≡ true = grind (arith, nat_tests) in rw whole refl
+
+pub shown-long : (text : List ℕ) → 100 < length text → map printed (take 97 text) ++ codes "..." ≡ shown text
+unfolding shown
+shown-long text many = let cut : nat_le (length text) 100 ≡ false = grind (arith, nat_tests) in rw cut refl
+
 pub ruleset kept_by_room = (kept-short, kept-cut)
 
 pub ruleset kept_spaces = (kept-spaces)
@@ -93,18 +135,6 @@ kept-last text rest short last =
 -- nothing that follows a full line is kept
 pub kept-over : (text rest : List ℕ) → length text ≤ 101 → 100 < length text → text ≡ kept (text ++ rest)
 kept-over text rest short long = sym (kept-full text rest (omega arith) ∙ take_all 101 text short)
-
-shown_by : (text : List ℕ) → ((100 < length text) ⊎ (length text ≤ 100)) → shown (kept text) ≡ shown text
-shown_by text (inr short) = ap (λ (t : List ℕ). shown t) (take_all 101 text (omega arith))
-shown_by text (inl long) =
-    let whole : nat_le (length text) 100 ≡ false = lt-leb (length text) 100 long in
-    let cut : nat_le (length (kept text)) 100 ≡ false =
-    lt-leb (length (kept text)) 100 (omega (arith, length-take 101 text)) in
-    rw (whole, cut) (ap (λ (t : List ℕ). t ++ codes "...") (take-take 97 101 text (omega arith)))
-
--- a line shows a text as it is shown
-pub shown-kept : (text : List ℕ) → shown (kept text) ≡ shown text
-shown-kept text = shown_by text (cases_lt 100 (length text))
 
 -- seven pieces of a new line
 pub kept-seven : (old a b c d e f g t u v w x y z : List ℕ) → old ≡ [] → t ≡ kept (old ++ a) → u ≡ kept (t ++ b)

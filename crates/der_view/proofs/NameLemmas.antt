@@ -1,33 +1,22 @@
--- The curve of an identifier.
-use Rattle.std.proofs.Common.{◌≡◌, ℕ, List, [], ◌∷◌, Bool, false, true, refl}
-use Rattle.std.specs.Prelude.{find, Some, None}
+-- The first entry of a table of names.
+use Rattle.std.proofs.Common.{◌≡◌, ℕ, zero, suc, ◌-◌, ◌<◌, List, [], ◌∷◌, length, take, drop, refl, arith}
+use Rattle.std.specs.Prelude.{Some, None, if◌then◌else◌}
 use Rattle.std.specs.Str.{bytes_eq}
-use Rattle.std.proofs.lemmas.Slice.Eq.{bytes_eq-Decides}
-use Rattle.curves.proofs.CurveLemmas.{find-has_content, has_content}
-use Rattle.curves.specs.Curves.{curve_content}
-use Rattle.curves.specs.declared.curve.Curve.{Curve}
-use Rattle.curves.specs.declared.curve.TheConstants.Curve.{ALL}
-use Rattle.der_view.specs.Names.{curve_by}
+use Rattle.der_view.specs.Names.{name_in}
 
--- the curve with this content is found
-pub curve_by-some : (curve : Curve) (content : List ℕ) → curve_content curve ≡ content
-    → curve_by content ≡ Some curve
-unfolding has_content
-curve_by-some curve content same =
-    let own : curve_by (curve_content curve) ≡ Some curve = find-has_content curve in rw same at own
+-- where there is one
+pub name_in-entry : (most : ℕ) (table content after : List ℕ) (count : ℕ) → 0 < most
+    → drop (length content) table ≡ count ∷ after
+    → name_in most table content
+    ≡ (if bytes_eq (take (length content) table) content then Some (take count after)
+    else name_in (most - 1) (drop count after) content)
+name_in-entry zero table content after count some is = absurd (omega arith)
+name_in-entry (suc most) table content after count some is =
+    let before : suc most - 1 ≡ most = omega arith in
+    rw (is, before) refl
 
-is-false : (test : Bool) → (test ≡ true → ⊥) → test ≡ false
-is-false true never = absurd (never refl)
-is-false false never = refl
-
-none-found : (p : Curve → Bool) (curves : List Curve) → ((curve : Curve) → p curve ≡ false) → find p curves ≡ None
-none-found p [] none = refl
-none-found p (curve ∷ curves) none = rw (none curve) (none-found p curves none)
-
--- no curve is found if none has this content
-pub curve_by-none : (content : List ℕ) → ((curve : Curve) → curve_content curve ≡ content → ⊥)
-    → curve_by content ≡ None
-curve_by-none content none =
-    none-found (λ curve. bytes_eq (curve_content curve) content) ALL
-    (λ curve. is-false (bytes_eq (curve_content curve) content)
-    (λ same. none curve ((bytes_eq-Decides (curve_content curve) content).0 same)))
+-- where there is none
+pub name_in-none : (most : ℕ) (table content : List ℕ) → drop (length content) table ≡ []
+    → name_in most table content ≡ None
+name_in-none zero table content is = refl
+name_in-none (suc most) table content is = rw is refl

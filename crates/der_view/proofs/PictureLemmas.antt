@@ -1,91 +1,54 @@
--- The rows of a picture, and one more of them.
-use Rattle.std.proofs.Common.{◌≡◌, ℕ, List, [], ◌∷◌, ◌++◌, Option, refl, sym, ap, ◌∙◌, append_assoc, append-nil}
-use Rattle.std.proofs.Common.{◌+◌, ◌<◌, length, take, get_or, add-zero, arith}
-use Rattle.std.proofs.lemmas.List.{length-take-le, take_more}
-use Rattle.std.proofs.lemmas.Grind.{flat_map-append}
-use Rattle.std.specs.List.{flat_map}
-use Rattle.der_view.specs.Facts.{with_row, with_rows}
-use Rattle.der_view.specs.declared.picture.facts.Facts.{Facts}
-use Rattle.std.proofs.Common.{codes}
-use Rattle.der_view.specs.RowLines.{row_line}
-use Rattle.der_view.specs.Rows.{content_bytes}
-use Rattle.der_view.specs.declared.mark.Mark.{Mark}
-use Rattle.der_view.specs.Lines.{shown}
-use Rattle.der_view.specs.Verdicts.{VerdictView}
-use Rattle.der_view.specs.Pictures.{AreRowsOf, command_text, lead_text, verdict_text, mark_text, content_piece}
-use Rattle.der_view.specs.Pictures.{content_text, row_text}
-use Rattle.der_view.specs.Rows.{IsNext, IsOpen, Undrawn}
-use Rattle.der_view.specs.declared.row.OpenRow.{OpenRow}
+-- What bytes are, and their picture.
+use Rattle.std.proofs.Common.{◌≡◌, ◌+◌, ◌-◌, ◌<◌, ◌^◌, ℕ, List, [], ◌∷◌, ◌++◌, length, refl, Some, None, Bool, false}
+use Rattle.std.proofs.Common.{arith}
+use Rattle.std.proofs.Common.{append-nil, ◌≢◌}
+use Rattle.der_view.specs.Grammar.{Component}
+use Rattle.der_view.specs.Pictures.{capped, ended_by, first_place, is_complete, rest_rows, root_step, rows_as, whole_as}
+use Rattle.der_view.specs.Rows.{How, NotDrawn, Step, given_part, rest_after, step_rows}
 
--- one more row
-pub AreRowsOf-snoc : (rows : List OpenRow) (row : OpenRow) (old mid new : Undrawn) → AreRowsOf rows old mid
-    → IsNext mid row new → IsOpen mid.all mid.plan.guarded mid.left row → AreRowsOf (rows ++ row ∷ []) old new
-AreRowsOf-snoc [] row old mid new same next is =
-    rw same (new, next, is, refl)
-AreRowsOf-snoc (first ∷ rows) row old mid new (between, one, seen, more) next is =
-    (between, one, seen, AreRowsOf-snoc rows row between mid new more next is)
+-- of bytes that don't begin with a root
+pub rows_missing : (how : How) (root : Component) (is_public : Bool) (bytes : List ℕ) → root_step root bytes ≡ None
+    → rows_as how root is_public bytes
+    ≡ NotDrawn (first_place is_public (length bytes)) (root ∷ []) (length bytes) (given_part how.given 0 (length bytes))
+    ∷ []
+unfolding rows_as
+rows_missing how root is_public bytes is = rw is refl
 
--- and what it tells
-pub with_rows-snoc : (facts : Facts) (rows : List OpenRow) (row : OpenRow)
-    → with_rows facts (rows ++ row ∷ []) ≡ with_row (with_rows facts rows) row
-with_rows-snoc facts [] row = refl
-with_rows-snoc facts (first ∷ rows) row = with_rows-snoc (with_row facts first) rows row
+-- of bytes that do, and whose rows end in the root or not
+pub rows_ended : (how : How) (root : Component) (is_public : Bool) (bytes : List ℕ) (step : Step)
+    → root_step root bytes ≡ Some step → rest_after how.loose (length bytes) 1 step ≡ None
+    → rows_as how root is_public bytes
+    ≡ step_rows how (length bytes) (first_place is_public (length bytes)) (root ∷ []) step
+unfolding rows_as
+rows_ended how root is_public bytes step is none =
+    rw (is, none) (append-nil (step_rows how (length bytes) (first_place is_public (length bytes)) (root ∷ []) step))
 
--- one more byte of a content
-pub content_text-snoc : (count : ℕ) (bytes : List ℕ) (byte : ℕ) → content_text count (bytes ++ byte ∷ [])
-    ≡ content_text count bytes ++ content_piece (count + length bytes) byte
-content_text-snoc count [] byte =
-    append-nil (content_piece count byte) ∙ ap (λ (n : ℕ). content_piece n byte) (sym (add-zero count))
-content_text-snoc count (first ∷ bytes) byte =
-    ap (λ (text : List ℕ). content_piece count first ++ text)
-    (content_text-snoc (count + 1) bytes byte
-    ∙ ap (λ (n : ℕ). content_text (count + 1) bytes ++ content_piece n byte) (omega arith))
-    ∙ sym (append_assoc (content_piece count first) (content_text (count + 1) bytes)
-    (content_piece (count + length (first ∷ bytes)) byte))
+pub rows_after : (how : How) (root : Component) (is_public : Bool) (bytes rest : List ℕ) (step : Step)
+    → root_step root bytes ≡ Some step → rest_after how.loose (length bytes) 1 step ≡ Some rest
+    → rows_as how root is_public bytes
+    ≡ step_rows how (length bytes) (first_place is_public (length bytes)) (root ∷ []) step
+    ++ rest_rows how (record (first_place is_public (length bytes)) { offset = length bytes - length rest }) rest
+unfolding rows_as
+rows_after how root is_public bytes rest step is some = rw (is, some) refl
 
--- what is written in pieces
-module _ {W : Type 0} (Writes : W → W → List ℕ → Type 0)
-    (joined : (a b c : W) (first second : List ℕ) → Writes a b first → Writes b c second → Writes a c (first ++ second))
-  where
-    -- rows whose texts are written, and one more of them
-    pub rows_written : (f : OpenRow → List ℕ) (a b c : W) (rows : List OpenRow) (row : OpenRow)
-        → Writes a b (flat_map f rows) → Writes b c (f row) → Writes a c (flat_map f (rows ++ row ∷ []))
-    rows_written f a b c rows row first next =
-        rw (flat_map-append f rows (row ∷ []), append-nil (f row)) (joined a b c (flat_map f rows) (f row) first next)
+pub whole_missing : (loose : Bool) (root : Component) (bytes : List ℕ) → root_step root bytes ≡ None
+    → whole_as loose root bytes ≡ false
+unfolding whole_as
+whole_missing loose root bytes is = rw is refl
 
-    -- a content, and one more byte of it
-    pub content_written : (a b c : W) (content : List ℕ) (i : ℕ) → i < length content
-        → Writes a b (content_text 0 (take i content)) → Writes b c (content_piece i (get_or content i 0))
-        → Writes a c (content_text 0 (take (i + 1) content))
-    content_written a b c content i within first next =
-        let size : length (take i content) ≡ i = length-take-le i content (omega arith) in
-        let whole : content_text 0 (take (i + 1) content)
-        ≡ content_text 0 (take i content) ++ content_piece i (get_or content i 0) =
-        ap (λ (bytes : List ℕ). content_text 0 bytes) (take_more content i 0 within)
-        ∙ (content_text-snoc 0 (take i content) (get_or content i 0)
-        ∙ ap (λ (n : ℕ). content_text 0 (take i content) ++ content_piece n (get_or content i 0)) (omega arith)) in
-        rw whole (joined a b c (content_text 0 (take i content)) (content_piece i (get_or content i 0)) first next)
+pub whole_found : (loose : Bool) (root : Component) (bytes : List ℕ) (step : Step) → root_step root bytes ≡ Some step
+    → whole_as loose root bytes ≡ ended_by step (rest_after loose (length bytes) 1 step)
+unfolding whole_as
+whole_found loose root bytes step is = rw is refl
 
-    -- the lines of a row, from its pieces
-    pub row_written : (a b c d e : W) (row : OpenRow) (text content : List ℕ) (first second : Option Mark)
-        → text ≡ row_line row → content ≡ content_bytes row → first ≡ row.marks.first → second ≡ row.marks.second
-        → Writes a b text → Writes b c (content_text 0 content) → Writes c d (codes "\n")
-        → Writes d e (mark_text first ++ mark_text second) → Writes a e (row_text row)
-    row_written a b c d e row text content first second line bytes one two wa wb wc wd =
-        rw (sym line, sym bytes, sym one, sym two)
-        (joined a b e text _ wa
-        (joined b c e (content_text 0 content) _ wb
-        (joined c d e (codes "\n") (mark_text first ++ mark_text second) wc wd)))
+pub ended_none : (step : Step) (rest : List ℕ) → length rest ≡ 0 → ended_by step (Some rest) ≡ is_complete step
+ended_none step [] none = refl
+ended_none step (byte ∷ rest) none = absurd (omega (arith, none))
 
-    -- what is said, from its lines
-    pub verdict_written : (a b c d : W) (words lead : List ℕ) (command : Option (List ℕ))
-        → Writes a b (shown words ++ codes "\n") → Writes b c (lead_text lead) → Writes c d (command_text command)
-        → Writes a d (shown words ++ (codes "\n" ++ (lead_text lead ++ command_text command)))
-    verdict_written a b c d words lead command wa wb wc =
-        rw (sym (append_assoc (shown words) (codes "\n") (lead_text lead ++ command_text command)))
-        (joined a b d (shown words ++ codes "\n") _ wa
-        (joined b c d (lead_text lead) (command_text command) wb wc))
+pub ended_left : (step : Step) (rest : List ℕ) → length rest ≢ 0 → ended_by step (Some rest) ≡ false
+ended_left step [] some = absurd (some refl)
+ended_left step (byte ∷ rest) some = refl
 
-    -- what is said, written
-    pub verdict_as : (a b : W) (v w : VerdictView) → v ≡ w → Writes a b (verdict_text v) → Writes a b (verdict_text w)
-    verdict_as a b v w e h = rw e at h
+-- a number that is counted as a usize
+pub counted : (n m : ℕ) → n < 2 ^ 64 → capped n ≡ capped (0 + m) → n ≡ capped m
+counted n m fits same = omega (arith, fits, same)

@@ -1,116 +1,103 @@
--- The rows of bytes, and the bytes.
-use Rattle.std.proofs.Common.{◌≡◌, ℕ, List, [], ◌∷◌, ◌++◌, take, drop, length, refl, sym, ap, ◌∙◌}
-use Rattle.std.proofs.Common.{append-nil, append_assoc, Bool, true, false, ◌+◌, All}
-use denote.Bor.{Bor}
-use Rattle.std.proofs.lemmas.List.{take-append-drop, drop-drop}
-use Rattle.std.proofs.lemmas.List.Elements.{All-cons, All-nil}
-use Rattle.std.specs.Prelude.{Option, option_map, unwrap_or}
-use Rattle.der_view.proofs.SameLemmas.{ContentsAlike, Looks, SameState, next_same}
-use Rattle.der_view.specs.Pictures.{AreRows, AreRowsOf}
-use Rattle.der_view.specs.Plans.{plan_of}
-use Rattle.der_view.specs.Rows.{IsNext, IsOpen, Undrawn, bytes_of_rows, content_bytes, content_of}
-use Rattle.der_view.specs.Rows.{own_content_of, place_of, row_len}
-use Rattle.der_view.specs.RowLaws.{HidesContent, IsSameRow, content_at}
-use Rattle.der_view.specs.declared.field.Field.{Field}
-use Rattle.der_view.specs.declared.level.Level.{Level}
-use Rattle.der_view.specs.declared.place.Place.{Place}
-use Rattle.der_view.specs.declared.row.Kind.{Kind}
-use Rattle.der_view.specs.declared.row.Kind.TheVariants as kinds
-use Rattle.der_view.specs.declared.row.OpenRow.{OpenRow}
+-- The rows of bytes, one element at a time.
+use Rattle.std.proofs.Common.{◌≡◌, ◌<◌, ◌-◌, ◌+◌, ◌≤◌, ℕ, zero, suc, List, [], ◌∷◌, ◌++◌, refl, arith, Bool, true}
+use Rattle.std.proofs.Common.{false}
+use Rattle.std.proofs.Common.{Some, None, drop, subst}
+use Rattle.std.proofs.lemmas.Bool.Decides.{nat_tests}
+use Rattle.std.specs.Prelude.{nat_lt}
+use Rattle.der_view.specs.Grammar.{Component, components}
+use Rattle.der_view.specs.Rows.{Element, How, NotDrawn, Step, after, end_at, end_rows, given_part, inside, inside_rules}
+use Rattle.der_view.specs.Rows.{is_open, next_rows, opened_of, rest_after, rest_next, rest_of, rows_of, step_at}
+use Rattle.der_view.specs.Rows.{step_by}
+use Rattle.der_view.specs.Rows.{step_rows, view}
+use Rattle.der_view.specs.declared.grammar.Structure.{Structure}
+use Rattle.der_view.specs.declared.walk.Place.{Place}
 
--- what is left before rows is their bytes, and what is left after them
-pub drawn_bytes : (input : List ℕ) (rows : List OpenRow) (old new : Undrawn) → AreRowsOf rows old new
-    → old.left ≡ drop old.offset input → old.left ≡ bytes_of_rows input rows ++ new.left
-drawn_bytes input [] old new d at = ap (λ (u : Undrawn). u.left) d
-drawn_bytes input (row ∷ rows) old new (between, is, seen, more) at =
-    let n = row_len row in
-    let rest : drop n old.left ≡ drop between.offset input =
-    rw (at, is.offset) (drop-drop n old.offset input) in
-    let after : between.left ≡ bytes_of_rows input rows ++ new.left =
-    drawn_bytes input rows between new more (is.left ∙ rest) in
-    let own : take n (drop row.offset input) ≡ take n old.left = rw (is.at, at) refl in
-    sym (take-append-drop n old.left)
-    ∙ rw (own, append_assoc (take n old.left) (bytes_of_rows input rows) new.left)
-    (ap (λ tail. take n old.left ++ tail) (sym is.left ∙ after))
+pub step_deep : (loose : Bool) (depth : ℕ) (some : List Component) (bytes : List ℕ) → 64 ≤ depth
+    → step_at loose depth some bytes ≡ None
+unfolding step_at
+step_deep loose depth some bytes deep =
+    let test : nat_lt depth 64 ≡ false = grind (arith, nat_tests) in
+    rw test refl
 
-pub rows_are_input : (all : Bool) (input : List ℕ) (rows : List OpenRow) → AreRows all input rows
-    → input ≡ bytes_of_rows input rows
-rows_are_input all input rows are =
-    let at : are.first.left ≡ drop are.first.offset input = rw are.offset are.left in
-    let bytes : are.first.left ≡ bytes_of_rows input rows ++ are.last.left =
-    drawn_bytes input rows are.first are.last are.drawn at in
-    sym are.left ∙ (bytes ∙ rw are.ended (append-nil (bytes_of_rows input rows)))
+pub step_here : (loose : Bool) (depth : ℕ) (some : List Component) (bytes : List ℕ) → depth < 64
+    → step_at loose depth some bytes ≡ step_by loose loose some bytes
+unfolding step_at
+step_here loose depth some bytes few =
+    let test : nat_lt depth 64 ≡ true = grind (arith, nat_tests) in
+    rw test refl
 
--- the bytes that two rows have of their contents
-same_content : (all guarded : Bool) (left : List ℕ) (a b : OpenRow) → IsOpen all guarded left a
-    → IsOpen all guarded left b → a.own_len ≡ b.own_len → a.header.now ≡ b.header.now
-    → content_bytes a ≡ content_bytes b
-same_content true guarded left a b x y own header =
-    let bytes : own_content_of a left ≡ own_content_of b left =
-    λ i. take (own i) (drop (length (header i)) left) in
-    x.whole refl ∙ (bytes ∙ sym (y.whole refl))
-same_content false guarded left a b x y own header =
-    ap (λ (content : Option (Bor (List ℕ))). unwrap_or (option_map (λ (c : Bor (List ℕ)). c.now) content) [])
-    (x.hidden refl ∙ sym (y.hidden refl))
+-- ---- the bytes after a level
 
--- a content is like itself
-like_itself : (place : Place) (level : Level) (field : Option Field) (kind : Kind) (content : List ℕ)
-    → ContentsAlike place level field kind content content
-like_itself place level field (kinds.Element tag) content = λ leaf. (refl, refl)
-like_itself place level field kinds.EndOfContents content = tt
-like_itself place level field kinds.NoElement content = refl
-like_itself place level field kinds.NotDrawn content = tt
+pub rest_end : (loose : Bool) (most depth : ℕ) (marked : Bool) (some : List Component) (bytes : List ℕ) (n : ℕ)
+    → 0 < most → end_at loose marked some bytes ≡ Some n
+    → rest_of loose most depth marked some bytes ≡ Some (drop n bytes)
+rest_end loose zero depth marked some bytes n positive is = absurd (omega (arith, positive))
+rest_end loose (suc most) depth marked some bytes n positive is = rw is refl
 
-pub next_is_one : (old : Undrawn) (a b : OpenRow) (x y : Undrawn) → IsNext old a x → IsNext old b y
-    → IsOpen old.all old.plan.guarded old.left a → IsOpen old.all old.plan.guarded old.left b
-    → IsSameRow a b × (x ≡ y)
-next_is_one old a b x y p q open_a open_b =
-    let state : SameState old old =
-    record { offset = refl; levels = refl; all = refl; plan = refl; left = refl } in
-    let looks : (level : Level) → Looks (place_of old) level old.left old.left a =
-    λ level. record {
-      header = sym p.bytes.header;
-      content = like_itself (place_of old) level a.field a.kind (content_of a old.left);
-    } in
-    let next : IsSameRow a b × SameState x y = next_same old old a b x y state looks p q
-    (λ own header. same_content old.all old.plan.guarded old.left a b open_a open_b own header) in
-    let same = next.1 in
-    let left : x.left ≡ y.left =
-    p.left ∙ ((λ i. drop (length (next.0.header i) + next.0.own_len i) old.left) ∙ sym q.left) in (
-      next.0,
-      λ i. record {
-        offset = same.offset i;
-        left = left i;
-        levels = same.levels i;
-        all = same.all i;
-        plan = same.plan i;
-      },
-    )
+pub rest_stop : (loose : Bool) (most depth : ℕ) (marked : Bool) (some : List Component) (bytes : List ℕ)
+    → end_at loose marked some bytes ≡ None → step_at loose depth some bytes ≡ None
+    → rest_of loose most depth marked some bytes ≡ None
+rest_stop loose zero depth marked some bytes is none = refl
+rest_stop loose (suc most) depth marked some bytes is none = rw (is, none) refl
 
--- the content of a row is that of the input there
-content_here : (input left : List ℕ) (offset : ℕ) (row : OpenRow) → left ≡ drop offset input → row.offset ≡ offset
-    → content_of row left ≡ content_at input row
-content_here input left offset row at same =
-    rw (at, same, drop-drop (length row.header.now) offset input) refl
+pub rest_step : (loose : Bool) (most depth : ℕ) (marked : Bool) (some : List Component) (bytes : List ℕ) (step : Step)
+    → 0 < most → end_at loose marked some bytes ≡ None → step_at loose depth some bytes ≡ Some step
+    → rest_of loose most depth marked some bytes
+    ≡ rest_next (λ rest. rest_of loose (most - 1) depth marked step.others rest)
+    (rest_after loose (most - 1) (depth + 1) step)
+rest_step loose zero depth marked some bytes step positive is at = absurd (omega (arith, positive))
+rest_step loose (suc most) depth marked some bytes step positive is at =
+    let one : suc most - 1 ≡ most = omega arith in
+    rw (one, is, at) refl
 
-hidden_rows : (input : List ℕ) (rows : List OpenRow) (old new : Undrawn) → AreRowsOf rows old new
-    → old.left ≡ drop old.offset input → old.all ≡ false → All (HidesContent old.plan.guarded input) rows
-hidden_rows input [] old new d at none = All-nil (HidesContent old.plan.guarded input)
-hidden_rows input (row ∷ rows) old new (between, is, seen, more) at none =
-    let n = row_len row in
-    let rest : between.left ≡ drop between.offset input =
-    is.left ∙ rw (at, is.offset) (drop-drop n old.offset input) in
-    let here = content_here input old.left old.offset row at is.at in
-    let tail : All (HidesContent between.plan.guarded input) rows =
-    hidden_rows input rows between new more rest (is.all ∙ none) in
-    All-cons (HidesContent old.plan.guarded input) row rows
-    (record { content = seen.hidden none; shown = rw here at seen.shown })
-    (rw is.plan at tail)
+pub rest_none : (loose : Bool) (most depth : ℕ) (marked : Bool) (some : List Component) (bytes : List ℕ) → most ≡ 0
+    → rest_of loose most depth marked some bytes ≡ None
+rest_none loose zero depth marked some bytes none = refl
+rest_none loose (suc most) depth marked some bytes none = absurd (omega (arith, none))
 
-pub contents_are_hidden : (input : List ℕ) (rows : List OpenRow) → AreRows false input rows
-    → All (HidesContent (plan_of input).guarded input) rows
-contents_are_hidden input rows are =
-    let at : are.first.left ≡ drop are.first.offset input = rw are.offset are.left in
-    let hidden : All (HidesContent are.first.plan.guarded input) rows =
-    hidden_rows input rows are.first are.last are.drawn at are.shows in
-    rw are.plan at hidden
+-- ---- rows
+
+pub rows_none : (how : How) (most : ℕ) (marked : Bool) (place : Place) (some : List Component) (bytes : List ℕ)
+    → most ≡ 0 → rows_of how most marked place some bytes
+    ≡ NotDrawn place some (place.end - place.offset)
+    (given_part how.given place.offset (place.end - place.offset)) ∷ []
+rows_none how zero marked place some bytes none = refl
+rows_none how (suc most) marked place some bytes none = absurd (omega (arith, none))
+
+-- of an element whose content is rows: its own, and those inside it
+pub opened_rows : (how : How) (most : ℕ) (place : Place) (some : List Component) (step : Step) (structure : Structure)
+    → opened_of how.loose most (place.depth + 1) step ≡ Some structure
+    → step_rows how most place some step
+    ≡ Element place (view how place some true step)
+    ∷ rows_of (inside_rules how step.component.2) most (is_open step) (inside place step) (components structure)
+    step.content
+opened_rows how most place some step structure opened = rw opened refl
+
+pub rows_end : (how : How) (most : ℕ) (marked : Bool) (place : Place) (some : List Component) (bytes : List ℕ) (n : ℕ)
+    → 0 < most → end_at how.loose marked some bytes ≡ Some n
+    → rows_of how most marked place some bytes ≡ end_rows place some n
+rows_end how zero marked place some bytes n positive is = absurd (omega (arith, positive))
+rows_end how (suc most) marked place some bytes n positive is = rw is refl
+
+pub rows_stop : (how : How) (most : ℕ) (marked : Bool) (place : Place) (some : List Component) (bytes : List ℕ)
+    → end_at how.loose marked some bytes ≡ None → step_at how.loose place.depth some bytes ≡ None
+    → rows_of how most marked place some bytes
+    ≡ NotDrawn place some (place.end - place.offset)
+    (given_part how.given place.offset (place.end - place.offset)) ∷ []
+rows_stop how zero marked place some bytes is none = refl
+rows_stop how (suc most) marked place some bytes is none = rw (is, none) refl
+
+pub rows_step : (how : How) (most : ℕ) (marked : Bool) (place : Place) (some : List Component) (bytes : List ℕ)
+    (step : Step) → 0 < most → end_at how.loose marked some bytes ≡ None
+    → step_at how.loose place.depth some bytes ≡ Some step
+    → rows_of how most marked place some bytes
+    ≡ step_rows how (most - 1) place some step
+    ++ next_rows (λ (rest : List ℕ). rows_of how (most - 1) marked (after place bytes rest) step.others rest)
+    (rest_after how.loose (most - 1) (place.depth + 1) step)
+rows_step how zero marked place some bytes step positive is at = absurd (omega (arith, positive))
+rows_step how (suc most) marked place some bytes step positive is at =
+    let one : most ≡ suc most - 1 = omega arith in
+    subst (λ (n : ℕ). rows_of how (suc most) marked place some bytes
+    ≡ step_rows how n place some step
+    ++ next_rows (λ (rest : List ℕ). rows_of how n marked (after place bytes rest) step.others rest)
+    (rest_after how.loose n (place.depth + 1) step)) one (rw (is, at) refl)

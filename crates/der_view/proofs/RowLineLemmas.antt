@@ -9,16 +9,17 @@ use Rattle.std.proofs.lemmas.Bool.Decides.{nat_tests}
 use Rattle.std.specs.Option.{option_map}
 use Rattle.std.specs.Prelude.{max, nat_le, nat_lt, replicate, true}
 use Rattle.std.specs.Fmt.{decimal}
-use Rattle.der_view.specs.Lines.{shown}
-use Rattle.der_view.specs.declared.row.OpenRow.{OpenRow}
+use Rattle.der_view.specs.Facts.{RowView}
 use Rattle.der_view.specs.RowLines.{columns, indent, label, note_by, row_line}
-use Rattle.der_view.specs.RowLines.{bytes_text, hex_words, label_by, level_text, shown_text, unshown_text, with_note}
-use Rattle.der_view.specs.Values.{ValueView, type_name, value_text, value_view}
-use Rattle.der_view.specs.declared.row.Shown.{Shown}
+use Rattle.der_view.specs.Marks.{bytes_text}
+use Rattle.der_view.specs.Types.{type_name}
+use Rattle.der_view.specs.RowLines.{hex_words, label_by, level_text, shown_text, unshown_text, with_note}
+use Rattle.der_view.specs.Values.{ValueView, value_text, value_view}
+use Rattle.der_view.specs.declared.facts.Shown.{Shown}
 use Rattle.der_view.specs.declared.values.Value.{Value}
 use Rattle.der_view.specs.declared.header.Tag.{Tag}
-use Rattle.der_view.specs.declared.row.Kind.{Kind}
-use Rattle.der_view.specs.declared.row.Kind.TheVariants as kinds
+use Rattle.der_view.specs.declared.facts.Kind.{Kind}
+use Rattle.der_view.specs.declared.facts.Kind.TheVariants as kinds
 
 hex_words-snoc : (bytes : List ℕ) (byte : ℕ)
     → hex_words (bytes ++ byte ∷ []) ≡ hex_words bytes ++ (codes " " ++ encode_upper (byte ∷ []))
@@ -46,10 +47,6 @@ label_element old text x y kind tag len is ex ey = rw is (kept-next old (type_na
 pub label_end : (old text x : List ℕ) (kind : Kind) (len : ℕ) → kind ≡ kinds.EndOfContents
     → x ≡ kept (old ++ codes "end-of-contents") → x ≡ kept (old ++ label_by kind len text)
 label_end old text x kind len is ex = rw is ex
-
-pub label_none : (old text x y : List ℕ) (kind : Kind) (len : ℕ) → kind ≡ kinds.NoElement
-    → x ≡ kept (old ++ codes "no element: ") → y ≡ kept (x ++ bytes_text len) → y ≡ kept (old ++ label_by kind len text)
-label_none old text x y kind len is ex ey = rw is (kept-next old (codes "no element: ") (bytes_text len) x y ex ey)
 
 pub label_not_drawn : (old text x y : List ℕ) (kind : Kind) (len : ℕ) → kind ≡ kinds.NotDrawn
     → x ≡ kept (old ++ bytes_text len) → y ≡ kept (x ++ codes " not drawn") → y ≡ kept (old ++ label_by kind len text)
@@ -86,11 +83,11 @@ note_fits old note x y start some fits ex ey =
     rw (there, room) (kept-next old (replicate (max 2 (start + 29 - length old)) 0x20) note x y ex ey)
 
 -- the line of a row, from its pieces
-pub row_line_of : (row : OpenRow) (x y z w v note : List ℕ) (start : ℕ) → x ≡ kept (columns row)
-    → y ≡ kept (x ++ indent row.depth) → z ≡ kept (y ++ label row) → start ≡ length x
-    → note ≡ kept (note_by row.shown row.field row.secret) → w ≡ kept (with_note start z note) → v ≡ shown w
-    → v ≡ row_line row
-row_line_of row x y z w v note start ex ey ez es en ew ev =
-    let text : z ≡ kept (columns row ++ (indent row.depth ++ label row)) =
-    kept-three [] (columns row) (indent row.depth) (label row) x y z ex ey ez in
-    rw (ev, ew, es, en, text, ex) refl
+pub row_line_of : (row : RowView) (x y z w note : List ℕ) (start : ℕ) → x ≡ kept (columns row)
+    → y ≡ kept (x ++ indent row.place.depth) → z ≡ kept (y ++ label row) → start ≡ length x
+    → note ≡ kept (note_by row.shown row.name row.secret) → w ≡ kept (with_note start z note)
+    → w ≡ row_line row
+row_line_of row x y z w note start ex ey ez es en ew =
+    let text : z ≡ kept (columns row ++ (indent row.place.depth ++ label row)) =
+    kept-three [] (columns row) (indent row.place.depth) (label row) x y z ex ey ez in
+    rw (ew, es, en, text, ex) refl

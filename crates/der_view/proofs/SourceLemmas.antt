@@ -1,28 +1,19 @@
--- The sources of an input, and their pictures.
+-- The sources of an input: they are within it, and one more block.
 use Rattle.std.proofs.Common.{◌≡◌, ℕ, zero, suc, ◌+◌, ◌≤◌, Bool, true, false, cond, not, List, [], ◌∷◌, ◌++◌, length}
 use Rattle.std.proofs.Common.{take, drop, Option, Some, None, refl, sym, ap, ◌∙◌, arith, append_assoc, length-append}
-use Rattle.std.proofs.Common.{length-drop, codes, nat_eq, append-nil, Result, Ok, Err, IfOk, ◌||◌, ◌&&◌, subst}
-use Rattle.std.proofs.Math.Bool.{or-false, or_assoc}
+use Rattle.std.proofs.Common.{length-drop, codes, nat_eq, ◌||◌, ◌&&◌, subst}
 use Rattle.std.proofs.lemmas.Bool.{false≢true}
-use Rattle.std.proofs.lemmas.List.{length-take-le}
-use Rattle.std.proofs.lemmas.Option.{same_Some}
 use Rattle.std.proofs.lemmas.Slice.Eq.{bytes_eq-Decides}
 use Rattle.std.specs.List.{after_first, before_first, concat, ends_with, position_or_len}
-use Rattle.std.specs.Option.{option_map}
 use Rattle.std.specs.Str.{bytes_eq}
 use Rattle.der_view.proofs.BlockLemmas.{concat-lines_of}
-use Rattle.der_view.proofs.LineLemmas.{shown-kept}
 use Rattle.der_view.specs.Blocks.{BlockView, begins_with_headers, block_before, blocks_in, body_of, is_boundary}
 use Rattle.der_view.specs.Blocks.{is_empty_line, is_key_of_openssl, is_label_of_openssl, is_of_private_key, label_of}
 use Rattle.der_view.specs.Blocks.{line_text, lines_of, with_block}
-use Rattle.der_view.specs.Headings.{Decoded, decoded_or, FoundView, found_in, heading_line, heading_of, said_text}
-use Rattle.der_view.specs.Inputs.{AreTexts, IsPictureOfText, reading_of}
-use Rattle.der_view.specs.Lines.{kept, shown}
-use Rattle.der_view.specs.Pictures.{IsPicture}
-use Rattle.der_view.specs.Sources.{AreWithin, Pem, SourceView, is_text, or_text, pem_sources}
-use Rattle.der_view.specs.Sources.{text_len, text_sources, without_mark}
-use Rattle.der_view.specs.declared.picture.verdict.Reading.{Reading}
-use Rattle.der_view.specs.declared.text.Encoding.{Encoding}
+use Rattle.der_view.specs.Sources.{AreWithin, Der, Pem, SourceView, Text, Wide, blocks_or, or_source, pem_sources}
+use Rattle.der_view.specs.Sources.{has_begin, is_der, is_text, source_len, sources_by, sources_of, text_len, wide_note}
+use Rattle.der_view.specs.Sources.{without_mark}
+use Rattle.der_view.specs.declared.sentences.Sentence.{Sentence}
 
 concat_split : (n : ℕ) (lines : List (List ℕ)) → concat (take n lines) ++ concat (drop n lines) ≡ concat lines
 concat_split zero lines = refl
@@ -77,15 +68,16 @@ blocks_within most number (line ∷ lines) fits reads =
     with_within (label_of (line_text line)) most (number + 1) lines (blocks_in (number + 1) lines) reads less
     (blocks_within most (number + 1) lines less)
 
-or_text_within : (most : ℕ) (text : List ℕ) (sources : List SourceView) → length text ≤ most
-    → AreWithin most sources → AreWithin most (or_text text sources)
-or_text_within most text [] fits are = (fits, tt)
-or_text_within most text (source ∷ sources) fits are = are
+or_within : (most : ℕ) (other : SourceView) (sources : List SourceView) → source_len other ≤ most
+    → AreWithin most sources → AreWithin most (or_source other sources)
+or_within most other [] fits are = (fits, tt)
+or_within most other (source ∷ sources) fits are = are
 
-text_within : (most : ℕ) (text : List ℕ) → length text ≤ most → AreWithin most (text_sources text)
-text_within most text fits =
+text_within : (most : ℕ) (other : SourceView) (text : List ℕ) → length text ≤ most → source_len other ≤ most
+    → AreWithin most (blocks_or other text)
+text_within most other text fits one =
     let whole : length (concat (lines_of text)) ≡ length text = ap (λ (t : List ℕ). length t) (concat-lines_of text) in
-    or_text_within most text _ fits (blocks_within most 0 (lines_of text) (omega arith) _)
+    or_within most other _ one (blocks_within most 0 (lines_of text) (omega arith) _)
 
 mark_within : (text : List ℕ) → length (without_mark text) ≤ length text
 mark_within text =
@@ -93,11 +85,20 @@ mark_within text =
     as (λ (v : Bool). length (cond v (drop 3 text) text) ≤ length text)
     [ true ↦ omega (arith, length-drop 3 text) | false ↦ omega arith ]
 
--- the sources of a text are within it
-pub sources_within : (input text : List ℕ) (sources : List SourceView) → is_text input ≡ true
-    → text ≡ without_mark input → sources ≡ text_sources text → AreWithin (text_len input) sources
-sources_within input text sources is rest are =
-    rw (are, rest, is) (text_within (length input) (without_mark input) (mark_within input))
+by_within : (is_der is_text begins : Bool) (told : Option Sentence) (input : List ℕ)
+    → AreWithin (cond (is_text || begins) (length input) 0) (sources_by is_der is_text begins told input)
+by_within true is_text begins told input = (omega arith, tt)
+by_within false true begins told input =
+    text_within (length input) (Text (without_mark input)) (without_mark input) (mark_within input) (mark_within input)
+by_within false false begins (Some told) input = (omega arith, tt)
+by_within false false true None input =
+    text_within (length input) (Der input) input (omega arith) (omega arith)
+by_within false false false None input = (omega arith, tt)
+
+-- the sources of an input are within what may be text in it
+pub sources_within : (input : List ℕ) → AreWithin (text_len input) (sources_of input)
+unfolding sources_of
+sources_within input = by_within (is_der input) (is_text input) (has_begin input) (wide_note input) input
 
 -- a key that OpenSSL reads has a label of private keys
 ends_so : (label whole : List ℕ) → bytes_eq label whole ≡ true → ends_with nat_eq whole (codes "PRIVATE KEY") ≡ true
@@ -134,74 +135,3 @@ pub pem_sources-cons : (reads : Bool) (block : BlockView) (blocks : List BlockVi
     → pem_sources reads (block ∷ blocks)
     ≡ Pem block (reads && is_key_of_openssl block) ∷ pem_sources (reads && not (is_of_private_key block)) blocks
 pem_sources-cons reads block blocks = read_by (is_of_private_key block) reads block blocks refl
-
--- one more source, and its text
-pub AreTexts-snoc : (IsText : SourceView → List ℕ → Bool → Type 0) (sources : List SourceView) (source : SourceView)
-    (text more : List ℕ) (has_key is_key : Bool) → AreTexts IsText sources text has_key → IsText source more is_key
-    → AreTexts IsText (sources ++ source ∷ []) (text ++ more) (has_key || is_key)
-AreTexts-snoc IsText [] source text more has_key is_key (none, never) is = (
-  more,
-  [],
-  is_key,
-  false,
-  is,
-  (refl, refl),
-  (ap (λ (t : List ℕ). t ++ more) none ∙ sym (append-nil more)),
-  (ap (λ (b : Bool). b || is_key) never ∙ sym (or-false is_key)),
-)
-AreTexts-snoc IsText (first ∷ sources) source text more has_key is_key
-    (one, rest, key, others, drawn, are, whole, any) is = (
-      one,
-      rest ++ more,
-      key,
-      others || is_key,
-      drawn,
-      AreTexts-snoc IsText sources source rest more others is_key are is,
-      (ap (λ (t : List ℕ). t ++ more) whole ∙ append_assoc one rest more),
-      (ap (λ (b : Bool). b || is_key) any ∙ or_assoc key others is_key),
-    )
-
--- so many bytes were decoded
-pub decoded : (encoding : Encoding) (found : Option (List ℕ)) (len : ℕ) (memory : List ℕ) (other : FoundView)
-    → found ≡ Some (take len memory) → len ≤ length memory
-    → Decoded encoding len ≡ decoded_or encoding found other
-decoded encoding found len memory other is fits =
-    rw is (ap (λ (n : ℕ). Decoded encoding n) (sym (length-take-le len memory fits)))
-
--- the line of a heading that is kept
-pub heading_is : (heading : Option (List ℕ)) (line : List ℕ) → Some line ≡ option_map kept heading
-    → heading_line heading ≡ shown line ++ codes "\n"
-heading_is None line is = cc
-heading_is (Some heading) line is =
-    ap (λ (t : List ℕ). t ++ codes "\n")
-    (sym (ap (λ (t : List ℕ). shown t) (same_Some line (kept heading) is) ∙ shown-kept heading))
-
--- what is written of a text
-module _ {W : Type 0} (Writes : W → W → List ℕ → Type 0)
-    (joined : (a b c : W) (first second : List ℕ) → Writes a b first → Writes b c second → Writes a c (first ++ second))
-  where
-    -- a picture after a heading
-    pub text_drawn : {E : Type 0} (a b c : W) (all : Bool) (source : SourceView) (reading : Reading)
-        (found : FoundView) (bytes : Option (List ℕ)) (part : List ℕ) (r : Result Bool E) → reading ≡ reading_of source
-        → found ≡ found_in source → bytes ≡ Some part → Writes a b (heading_line (heading_of source found))
-        → IfOk r (λ is_key. (text : List ℕ) × Writes b c text × IsPicture all reading part text is_key)
-        → IfOk r (λ has_key. (text : List ℕ) × Writes a c text × IsPictureOfText all source bytes text has_key)
-    text_drawn a b c all source reading found bytes part (Ok key) same is encoded first (text, wrote, drawn) =
-        let heading : List ℕ = heading_line (heading_of source found) in (
-          heading ++ text,
-          joined a b c heading text first wrote,
-          rw (encoded, sym same, sym is) (text, drawn, refl),
-        )
-    text_drawn a b c all source reading found bytes part (Err e) same is encoded first drawn = drawn
-
-    -- a text that encodes nothing
-    pub text_none : (a b c : W) (all : Bool) (source : SourceView) (found : FoundView)
-        (bytes : Option (List ℕ)) → found ≡ found_in source → bytes ≡ None
-        → Writes a b (heading_line (heading_of source found)) → Writes b c (said_text found)
-        → (text : List ℕ) × Writes a c text × IsPictureOfText all source bytes text false
-    text_none a b c all source found bytes is none first next =
-        let heading : List ℕ = heading_line (heading_of source found) in (
-          heading ++ said_text found,
-          joined a b c heading (said_text found) first next,
-          rw (none, sym is) (refl, refl),
-        )

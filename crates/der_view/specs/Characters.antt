@@ -1,43 +1,28 @@
 -- The characters of strings, and how they are shown.
-use Rattle.std.specs.Prelude.{◌==◌, ℕ, ◌+◌, ◌*◌, ◌%◌, nat_le, nat_lt, Bool, true, ◌&&◌, ◌||◌}
+use Rattle.std.specs.Prelude.{◌==◌, ℕ, ◌+◌, ◌*◌, ◌%◌, nat_le, Bool, true, ◌&&◌, ◌||◌}
 use Rattle.std.specs.Prelude.{if◌then◌else◌, List, [], ◌∷◌, ◌++◌, codes, length, Option, Some, None}
 use Rattle.std.specs.Prelude.{is_some}
 use Rattle.std.specs.Char.Utf16.{utf16_chars}
 use Rattle.std.specs.Fmt.{digits}
 use Rattle.std.specs.List.{flat_map, list_all}
 use Rattle.std.specs.Str.{chars, is_utf8}
-use Rattle.sec1_der.specs.Elements.{number_of}
 use Rattle.der_types.specs.Strings.{is_ia5, is_numeric_string, is_printable, is_visible}
-use Rattle.der_view.specs.declared.values.characters.Characters.{Characters}
-use Rattle.der_view.specs.declared.values.characters.Encoding.{Encoding}
-use Rattle.der_view.specs.declared.values.characters.Encoding.TheVariants as encodings
+use Rattle.der_view.specs.declared.characters.Characters.{Characters}
+use Rattle.der_view.specs.declared.characters.Encoding.{Encoding}
+use Rattle.der_view.specs.declared.characters.Encoding.TheVariants as encodings
 
 -- X.690 section 8.23.8: units of 16 bits, in two bytes each, the most significant first
 abbrev pub units_of : List ℕ → List ℕ
 units_of (high ∷ low ∷ bytes) = (0x100 * high + low) ∷ units_of bytes
 units_of _ = []
 
--- ISO/IEC 10646 section 9.4: the character with this code, if there is one: none is above 10FFFF,
--- or that of a surrogate
-abbrev pub scalar_or_none : ℕ → Option ℕ
-scalar_or_none code =
-    if (nat_le 0xD800 code && nat_lt code 0xE000) || nat_le 0x110000 code then None else Some code
-
--- X.690 section 8.23.7: characters in four bytes each, the most significant first
-abbrev pub utf32_chars : List ℕ → List (Option ℕ)
-utf32_chars (a ∷ b ∷ c ∷ d ∷ bytes) =
-    scalar_or_none (number_of (a ∷ b ∷ c ∷ d ∷ [])) ∷ utf32_chars bytes
-utf32_chars _ = []
-
--- the bytes are characters in UTF-16 (ISO/IEC 10646 section 9.4), or in UTF-32
+-- the bytes are characters in UTF-16 (ISO/IEC 10646 section 9.4)
 abbrev pub is_utf16 : List ℕ → Bool
 is_utf16 bytes = length bytes % 2 == 0 && list_all is_some (utf16_chars (units_of bytes))
 
-abbrev pub is_utf32 : List ℕ → Bool
-is_utf32 bytes = length bytes % 4 == 0 && list_all is_some (utf32_chars bytes)
-
 -- X.680 section 41: whether the bytes are characters of the string type with this tag number.
--- TeletexString, VideotexString, GraphicString and GeneralString take any.
+-- TeletexString, VideotexString, GraphicString and GeneralString take any. UniversalString isn't
+-- read here.
 abbrev pub are_characters : ℕ → List ℕ → Bool
 are_characters number bytes =
     if number == 12 then is_utf8 bytes
@@ -45,8 +30,7 @@ are_characters number bytes =
     else (if number == 19 then is_printable bytes
     else (if number == 22 then is_ia5 bytes
     else (if number == 26 then is_visible bytes
-    else (if number == 28 then is_utf32 bytes
-    else (if number == 30 then is_utf16 bytes else true))))))
+    else (if number == 30 then is_utf16 bytes else true)))))
 
 -- the characters before what is none
 abbrev pub before_none : List (Option ℕ) → List ℕ
@@ -57,7 +41,6 @@ before_none _ = []
 abbrev pub codes_by : Encoding → List ℕ → List ℕ
 codes_by encodings.Utf8 bytes = chars bytes
 codes_by encodings.Utf16 bytes = before_none (utf16_chars (units_of bytes))
-codes_by encodings.Utf32 bytes = before_none (utf32_chars bytes)
 codes_by encodings.Latin1 bytes = bytes
 
 -- the codes of the characters that are left
@@ -71,8 +54,7 @@ encoding_of number =
     if number == 12 then Some encodings.Utf8
     else (if (nat_le 18 number && nat_le number 22) || (nat_le 25 number && nat_le number 27)
     then Some encodings.Latin1
-    else (if number == 28 then Some encodings.Utf32
-    else (if number == 30 then Some encodings.Utf16 else None)))
+    else (if number == 30 then Some encodings.Utf16 else None))
 
 abbrev pub string_codes_by : Option Encoding → Bool → List ℕ → Option (List ℕ)
 string_codes_by (Some encoding) true bytes = Some (codes_by encoding bytes)

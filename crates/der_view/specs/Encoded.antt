@@ -1,10 +1,14 @@
 -- What hexadecimal and base64 encode.
-use Rattle.std.specs.Prelude.{◌≡◌, ℕ, ◌==◌, ◌||◌, ◌&&◌, not, Bool, List, [], ◌∷◌, filter, length}
+use Rattle.std.specs.Prelude.{◌≡◌, ℕ, ◌==◌, ◌||◌, ◌&&◌, not, Bool, false, List, [], ◌∷◌, filter}
+use Rattle.std.specs.Prelude.{length, nat_le, ◌+◌}
 use Rattle.std.specs.Prelude.{take, ◌≤◌}
 use Rattle.std.specs.Prelude.{if◌then◌else◌, Option, Some, None, Result, Ok, Err}
-use Rattle.base64.specs.Engines.{standard}
+use Rattle.std.specs.Char.{is_ascii_alphanumeric}
+use Rattle.base64.specs.Engines.{standard, standard_no_pad}
 use Rattle.base64.specs.GeneralPurpose.{decode_of as base64_decode_of}
 use Rattle.hex.specs.Hex.{decode_of as hex_decode_of}
+use Rattle.std.specs.Str.{bytes_eq}
+use Rattle.der_view.specs.Pictures.{plan_of}
 
 -- a space, a tab, a carriage return or a line feed
 abbrev pub is_blank : ℕ → Bool
@@ -27,13 +31,14 @@ base64_bytes text = found_of (base64_decode_of standard (stripped text))
 abbrev pub is_separator : ℕ → Bool
 is_separator byte = is_blank byte || (byte == 0x3A || byte == 0x2C)
 
--- the text with no separator in it, and without each 0x
+-- the digits in a text: two by two, with separators and `0x` between
 abbrev pub hex_digits : List ℕ → List ℕ
 hex_digits [] = []
 hex_digits (byte ∷ []) = if is_separator byte then [] else byte ∷ []
 hex_digits (byte ∷ next ∷ text) =
-    if byte == 0x30 && next == 0x78 then hex_digits text
-    else (if is_separator byte then hex_digits (next ∷ text) else byte ∷ hex_digits (next ∷ text))
+    if byte == 0x30 && (next == 0x78 || next == 0x58) then hex_digits text
+    else (if is_separator byte then hex_digits (next ∷ text)
+    else byte ∷ next ∷ hex_digits text)
 
 -- bytes, of which there are some
 abbrev pub some_bytes : Option (List ℕ) → Option (List ℕ)
@@ -43,6 +48,59 @@ some_bytes _ = None
 -- the bytes that hexadecimal digits encode, one or more; None if these aren't such digits
 abbrev pub hex_bytes : List ℕ → Option (List ℕ)
 hex_bytes text = some_bytes (found_of (hex_decode_of (hex_digits text)))
+
+-- whether a text begins with another
+abbrev pub begins_with : List ℕ → List ℕ → Bool
+begins_with text other =
+    nat_le (length other) (length text) && bytes_eq (take (length other) text) other
+
+-- the first place from this one on at which a text has another
+abbrev pub place_from : ℕ → List ℕ → List ℕ → Option ℕ
+place_from place [] other = None
+place_from place (byte ∷ bytes) other =
+    if begins_with (byte ∷ bytes) other then Some place else place_from (place + 1) bytes other
+
+-- the first place at which a text has another
+unfoldable pub place_of : List ℕ → List ℕ → Option ℕ
+place_of text other = place_from 0 text other
+
+-- ---- base64 that is no such
+
+-- a digit of base64 or base64url (RFC 4648 sections 4 and 5)
+abbrev pub is_digit : ℕ → Bool
+is_digit byte =
+    is_ascii_alphanumeric byte
+    || (byte == 0x2B || (byte == 0x2F || (byte == 0x2D || byte == 0x5F)))
+
+-- that of base64
+abbrev pub standard_digit : ℕ → ℕ
+standard_digit byte =
+    if byte == 0x2D then 0x2B else (if byte == 0x5F then 0x2F else byte)
+
+abbrev pub with_digit : ℕ → List ℕ → List ℕ
+with_digit byte text = if is_digit byte then standard_digit byte ∷ text else text
+
+-- bytes begin with the letter of an end of a line
+abbrev pub is_escape : List ℕ → Bool
+is_escape [] = false
+is_escape (byte ∷ bytes) = byte == 0x6E || byte == 0x72
+
+-- the digits in a text, without padding and without ends of lines that are written as a backslash
+-- and a letter
+abbrev pub mended_digits : List ℕ → List ℕ
+mended_digits [] = []
+mended_digits (byte ∷ []) = with_digit byte []
+mended_digits (byte ∷ next ∷ text) =
+    if byte == 0x5C && (next == 0x6E || next == 0x72) then mended_digits text
+    else with_digit byte (mended_digits (next ∷ text))
+
+abbrev pub tree_in : Option (List ℕ) → Option (List ℕ)
+tree_in None = None
+tree_in (Some bytes) = if (plan_of bytes).is_tree then Some bytes else None
+
+-- the bytes that such digits encode, if these are one whole element
+unfoldable pub mended_bytes : List ℕ → Option (List ℕ)
+mended_bytes text = tree_in (found_of (base64_decode_of standard_no_pad (mended_digits text)))
 
 -- these bytes are at the front of the memory, so many of them, or there are none
 abbrev pub IsDecoded : Option (List ℕ) → Option ℕ → List ℕ → Type 0

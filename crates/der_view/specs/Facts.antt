@@ -1,121 +1,264 @@
--- What the rows of bytes have that tells what the bytes are.
-use Rattle.std.specs.Prelude.{ℕ, ◌+◌, ◌-◌, ◌^◌, ◌==◌, ◌&&◌, ◌||◌, min, nat_lt, Bool, true, false}
-use Rattle.std.specs.Prelude.{if◌then◌else◌, List, [], ◌∷◌, length, Option, Some, None}
-use denote.Bor.{Bor}
-use Rattle.der_view.specs.declared.field.Field.{Field}
-use Rattle.der_view.specs.declared.field.Field.TheVariants as fields
+-- What is printed of a row.
+use Rattle.std.specs.Prelude.{ℕ, ◌-◌, ◌/◌, ◌%◌, ◌==◌, ◌&&◌, ◌||◌, not, nat_lt, Bool, true, false}
+use Rattle.std.specs.Prelude.{if◌then◌else◌, List, [], ◌∷◌, length, Option, Some, None, is_some}
+use Rattle.der_view.specs.Grammar.{Component, Form}
+use Rattle.der_view.specs.Headers.{is_type}
+use Rattle.der_view.specs.Marks.{content_fault, length_fault, string_fault, tag_fault}
+use Rattle.der_view.specs.Marks.{unused_number_fault}
+use Rattle.der_view.specs.Rows.{ElementView, Row, Element, EndOfContents, NotDrawn}
+use Rattle.der_view.specs.declared.facts.Kind.{Kind}
+use Rattle.der_view.specs.declared.facts.Kind.TheVariants as kinds
+use Rattle.der_view.specs.declared.facts.Point.{Point}
+use Rattle.der_view.specs.declared.facts.Point.TheVariants as points
+use Rattle.der_view.specs.declared.facts.RowFacts.{RowFacts}
+use Rattle.der_view.specs.declared.facts.Shown.{Shown}
+use Rattle.der_view.specs.declared.facts.Shown.TheVariants as shows
+use Rattle.der_view.specs.declared.grammar.Content.{Content}
+use Rattle.der_view.specs.declared.grammar.Content.TheVariants as contents
+use Rattle.der_view.specs.declared.grammar.forms.Secrecy.{Secrecy}
+use Rattle.der_view.specs.declared.grammar.forms.Secrecy.TheVariants as secrecies
+use Rattle.der_view.specs.declared.grammar.name.Name.{Name}
+use Rattle.der_view.specs.declared.grammar.name.Name.TheVariants as names
 use Rattle.der_view.specs.declared.header.Class.{Class}
-use Rattle.der_view.specs.declared.header.Class.TheVariants.{Universal}
-use Rattle.der_view.specs.declared.mark.Mark.{Mark}
-use Rattle.der_view.specs.declared.mark.Mark.TheVariants as marks
-use Rattle.der_view.specs.declared.mark.Part.{Part}
-use Rattle.der_view.specs.declared.mark.Part.TheVariants as parts
-use Rattle.der_view.specs.declared.picture.facts.Facts.{Facts}
-use Rattle.der_view.specs.declared.row.Kind.{Kind}
-use Rattle.der_view.specs.declared.row.Kind.TheVariants.{Element}
-use Rattle.der_view.specs.declared.row.OpenRow.{OpenRow}
-use Rattle.der_view.specs.declared.row.Shown.{Shown}
-use Rattle.der_view.specs.declared.row.Shown.TheVariants.{Value}
+use Rattle.der_view.specs.declared.header.Class.TheVariants as classes
+use Rattle.der_view.specs.declared.header.Tag.{Tag}
+use Rattle.der_view.specs.declared.marks.Fault.{Fault}
+use Rattle.der_view.specs.declared.marks.Mark.{Mark}
+use Rattle.der_view.specs.declared.marks.Mark.TheVariants as marks
+use Rattle.der_view.specs.declared.plan.Plan.{Plan}
+use Rattle.der_view.specs.declared.walk.Place.{Place}
 
--- what is known before the first row
-abbrev pub no_facts : Facts
-no_facts = record {
-  marked = None;
-  whole_len = None;
-  root_marked = false;
-  end_marked = false;
-  parameters_marked = false;
-  others_marked = false;
-  curve = None;
-  algorithm = None;
-  inner_key = false;
-  explicit = false;
-  last = None;
+-- all that is printed of a row
+pub record RowView : Type 0 where
+  pub place : Place
+  pub kind : Kind
+  pub head : List ℕ
+  pub announced : Option ℕ
+  pub len : ℕ
+  pub opened : Bool
+  pub name : Name
+  pub secret : Bool
+  pub shown : Shown
+  pub value : List ℕ
+  pub marks : List (Option Mark)
+  pub expected : List Component
+  pub content : List ℕ
+
+-- the same in the code
+abbrev pub row_view : RowFacts → RowView
+row_view row = record {
+  place = row.place;
+  kind = row.kind;
+  head = row.head.now;
+  announced = row.announced;
+  len = row.len;
+  opened = row.opened;
+  name = row.name;
+  secret = row.is_secret;
+  shown = row.shown;
+  value = row.value.now;
+  marks = row.marks;
+  expected = row.expected.now;
+  content = row.content.now;
 }
 
--- a mark that tells nothing but that the bytes are damaged
-abbrev pub with_other : Facts → Facts
-with_other facts = record facts { others_marked = true }
+-- ---- names
 
--- the greatest number of a usize
-abbrev pub capped : ℕ → ℕ
-capped n = min n (2 ^ 64 - 1)
+-- a private key's form
+abbrev pub is_secrecy : Secrecy → Bool
+is_secrecy secrecies.Private = true
+is_secrecy _ = false
 
-abbrev pub with_expected : Part → Facts → Facts
-with_expected parts.End facts = record facts { end_marked = true }
-with_expected parts.Parameters facts = record facts { parameters_marked = true }
-with_expected part facts = with_other facts
+abbrev pub is_private : Option Form → Bool
+is_private None = false
+is_private (Some form) = is_secrecy form.1
 
--- what a mark of a row with this offset and this length of its header tells
-abbrev pub with_mark : ℕ → ℕ → Mark → Facts → Facts
-with_mark offset header_len (marks.Missing missing announced) facts =
-    if offset == 0 then record facts { whole_len = Some (capped (header_len + announced)) }
-    else with_other facts
-with_mark offset header_len marks.Length facts =
-    if offset == 0 then record facts { root_marked = true } else with_other facts
-with_mark offset header_len marks.Indefinite facts =
-    if offset == 0 then record facts { root_marked = true } else with_other facts
-with_mark offset header_len (marks.Expected part) facts = with_expected part facts
-with_mark offset header_len (marks.Rest damaged) facts =
-    if facts.end_marked then facts else with_other facts
-with_mark offset header_len mark facts = with_other facts
+-- names are printed where the form is followed to its end, or cut, or has no private key
+abbrev pub shows_names : Plan → Bool
+shows_names plan = plan.is_whole || plan.is_cut || not (is_private plan.form)
 
-abbrev pub with_mark_if : ℕ → ℕ → Option Mark → Facts → Facts
-with_mark_if offset header_len None facts = facts
-with_mark_if offset header_len (Some mark) facts = with_mark offset header_len mark facts
+abbrev pub shown_name : Plan → Name → Name
+shown_name plan name = if shows_names plan then name else names.Nothing
 
--- the content that is shown as a value
-abbrev pub value_in : Shown → Option (Bor (List ℕ))
-value_in (Value content) = Some content
-value_in _ = None
+-- the components with private bytes
+abbrev pub is_private_name : Name → Bool
+is_private_name names.PrivateKey = true
+is_private_name names.TheKey = true
+is_private_name names.PrivateExponent = true
+is_private_name names.Prime1 = true
+is_private_name names.Prime2 = true
+is_private_name names.Exponent1 = true
+is_private_name names.Exponent2 = true
+is_private_name names.Coefficient = true
+is_private_name names.OtherPrimeInfos = true
+is_private_name names.X = true
+is_private_name _ = false
 
--- what the field of a row tells
-abbrev pub with_field : Option Field → ℕ → Option (Bor (List ℕ)) → Facts → Facts
-with_field (Some fields.NamedCurve) depth value facts = record facts { curve = value }
-with_field (Some fields.Algorithm) depth value facts = record facts { algorithm = value }
-with_field (Some fields.EcPrivateKey) depth value facts =
-    if nat_lt 0 depth then record facts { inner_key = true } else facts
-with_field _ depth value facts = facts
+-- ---- contents
 
--- whether a tag is that of a SEQUENCE
-abbrev pub is_sequence_in : Class → ℕ → Bool
-is_sequence_in Universal number = number == 16
-is_sequence_in _ number = false
+abbrev pub is_count : Shown → Bool
+is_count shows.Count = true
+is_count _ = false
 
-abbrev pub is_sequence : Kind → Bool
-is_sequence (Element tag) = is_sequence_in tag.class tag.number
-is_sequence _ = false
+abbrev pub announces : Option ℕ → ℕ → Bool
+announces (Some announced) len = announced == len
+announces None len = false
 
--- the fields that a SEQUENCE after gives the parameters of a curve
-abbrev pub is_before_curve : Option Field → Bool
-is_before_curve (Some fields.Parameters) = true
-is_before_curve (Some fields.Algorithm) = true
-is_before_curve _ = false
+abbrev pub is_point : Content → Bool
+is_point contents.Point = true
+is_point _ = false
 
--- the offset of the first row with a mark
-abbrev pub first_marked : Option ℕ → ℕ → Option Mark → Option ℕ
-first_marked (Some offset) next mark = Some offset
-first_marked None next None = None
-first_marked None next (Some mark) = Some next
+-- SEC1 v2.0 section 2.3.3: the form of the point that begins with this byte, before so many others
+abbrev pub point_of : ℕ → ℕ → Point
+point_of form size =
+    if size == 0 then (if form == 0x00 then points.Infinity else points.None)
+    else (if form == 0x02 || form == 0x03 then points.Compressed size
+    else (if form == 0x04 && size % 2 == 0 then points.Uncompressed (size / 2)
+    else (if form == 0x05 then points.Compact size
+    else (if (form == 0x06 || form == 0x07) && size % 2 == 0 then points.Hybrid (size / 2)
+    else points.None))))
 
--- a SEQUENCE may be the parameters of a curve
-abbrev pub with_sequence : Kind → Option Field → Facts → Facts
-with_sequence kind field facts = record facts {
-  explicit = facts.explicit || (is_sequence kind && is_before_curve facts.last);
-  last = field;
+abbrev pub bits_point : ℕ → List ℕ → Point
+bits_point len [] = points.None
+bits_point len (form ∷ rest) = point_of form (len - 2)
+
+-- a point is the content of an OCTET STRING, or in a BIT STRING, after the number of unused bits
+abbrev pub point_shown : Tag → ℕ → List ℕ → Shown
+point_shown tag len [] = shows.Count
+point_shown tag len (first ∷ rest) =
+    if is_type tag 4 then shows.Point (point_of first (len - 1))
+    else (if first == 0x00 then shows.Point (bits_point len rest) else shows.Unused first)
+
+-- a primitive element, of which all is there and shown
+abbrev pub is_all : ElementView → Bool
+is_all element =
+    not element.header.tag.constructed
+    && announces element.header.content_len (length element.shown)
+
+abbrev pub shown_by : ElementView → Shown
+shown_by element =
+    if element.opened then shows.Nothing
+    else (if is_point element.component.2
+    then point_shown element.header.tag element.len element.shown
+    else (if is_all element then shows.Value else shows.Count))
+
+-- ---- marks
+
+abbrev pub says_expected : Plan → Bool
+says_expected plan = is_private plan.form && not plan.is_cut
+
+abbrev pub missing_mark : Option ℕ → ℕ → Option Mark
+missing_mark None len = None
+missing_mark (Some announced) len =
+    if nat_lt len announced then Some (marks.Missing (announced - len) announced) else None
+
+abbrev pub fault_mark : Option Fault → Option Mark
+fault_mark None = None
+fault_mark (Some fault) = Some (marks.Fault fault)
+
+-- X.690 section 8.6.2.2: of a BIT STRING of which not all is shown, the number of unused bits
+abbrev pub first_fault : ℕ → List ℕ → Option Fault
+first_fault number [] = None
+first_fault number (first ∷ rest) = if number == 3 then unused_number_fault first else None
+
+abbrev pub type_fault : ℕ → Bool → List ℕ → Option Fault
+type_fault number all shown = if all then content_fault number shown else first_fault number shown
+
+abbrev pub class_fault : Class → ℕ → Bool → List ℕ → Option Fault
+class_fault classes.Universal number all shown = type_fault number all shown
+class_fault _ number all shown = None
+
+abbrev pub shown_fault : ElementView → Option Fault
+shown_fault element =
+    class_fault element.header.tag.class element.header.tag.number (is_all element) element.shown
+
+abbrev pub misfit_mark : Plan → Bool → Option Mark
+misfit_mark plan follows = if says_expected plan && not follows then Some marks.Expected else None
+
+abbrev pub element_marks : Plan → ElementView → List (Option Mark)
+element_marks plan element =
+    missing_mark element.header.content_len element.len
+    ∷ fault_mark (tag_fault element.head element.header.tag.number)
+    ∷ fault_mark (length_fault element.header.content_len
+    (element.header.len - element.header.tag_len))
+    ∷ fault_mark (string_fault element.header.tag)
+    ∷ fault_mark (shown_fault element)
+    ∷ misfit_mark plan element.follows ∷ []
+
+abbrev pub not_drawn_mark : Plan → Place → Option Mark
+not_drawn_mark plan place =
+    if place.depth == 0 && nat_lt 0 place.offset then Some marks.AfterRoot
+    else (if says_expected plan then Some marks.Expected else None)
+
+-- ---- rows
+
+abbrev pub element_row : Plan → Bool → Place → ElementView → RowView
+element_row plan all place element = record {
+  place = place;
+  kind = kinds.Element element.header.tag;
+  head = element.head;
+  announced = element.header.content_len;
+  len = element.len;
+  opened = element.opened;
+  name = shown_name plan element.component.3;
+  secret = not all && is_private_name (shown_name plan element.component.3)
+      && is_count (shown_by element);
+  shown = shown_by element;
+  value = element.shown;
+  marks = element_marks plan element;
+  expected = element.expected;
+  content = element.content;
 }
 
--- what is known after one more row
-abbrev pub with_row : Facts → OpenRow → Facts
-with_row facts row =
-    let header_len = length row.header.now in
-    with_sequence row.kind row.field
-    (with_field row.field row.depth (value_in row.shown)
-    (with_mark_if row.offset header_len row.marks.second
-    (with_mark_if row.offset header_len row.marks.first
-    (record facts { marked = first_marked facts.marked row.offset row.marks.first }))))
+abbrev pub end_row : Place → RowView
+end_row place = record {
+  place = place;
+  kind = kinds.EndOfContents;
+  head = 0 ∷ 0 ∷ [];
+  announced = Some 0;
+  len = 0;
+  opened = false;
+  name = names.Nothing;
+  secret = false;
+  shown = shows.Nothing;
+  value = [];
+  marks = None ∷ None ∷ None ∷ None ∷ None ∷ None ∷ [];
+  expected = [];
+  content = [];
+}
 
--- what is known of rows, in order, after these facts
-abbrev pub with_rows : Facts → List OpenRow → Facts
-with_rows facts [] = facts
-with_rows facts (row ∷ rows) = with_rows (with_row facts row) rows
+abbrev pub not_drawn_row : Plan → Place → List Component → ℕ → List ℕ → RowView
+not_drawn_row plan place expected len content = record {
+  place = place;
+  kind = kinds.NotDrawn;
+  head = [];
+  announced = Some len;
+  len = len;
+  opened = false;
+  name = names.Nothing;
+  secret = false;
+  shown = shows.Nothing;
+  value = [];
+  marks = not_drawn_mark plan place ∷ None ∷ None ∷ None ∷ None ∷ None ∷ [];
+  expected = expected;
+  content = content;
+}
+
+-- all that is printed of a row by a plan, with all contents or without
+abbrev pub row_of : Plan → Bool → Row → RowView
+row_of plan all (Element place element) = element_row plan all place element
+row_of plan all (EndOfContents place) = end_row place
+row_of plan all (NotDrawn place expected len content) =
+    not_drawn_row plan place expected len content
+
+-- a row of no bytes is told only if it has a mark
+abbrev pub has_first : List (Option Mark) → Bool
+has_first [] = false
+has_first (mark ∷ others) = is_some mark
+
+abbrev pub is_told_by : Kind → ℕ → List (Option Mark) → Bool
+is_told_by kinds.NotDrawn len row_marks = nat_lt 0 len || has_first row_marks
+is_told_by _ len row_marks = true
+
+abbrev pub is_told : RowView → Bool
+is_told row = is_told_by row.kind row.len row.marks

@@ -1,18 +1,19 @@
 -- The place of a refusal: the offset of the first fault from left to right, and its kind.
-use Rattle.std.specs.Prelude.{◌==◌, ℕ, zero, suc, ◌+◌, ◌-◌, not, nat_lt, bit_and, if◌then◌else◌}
-use Rattle.std.specs.Prelude.{Bool, false}
-use Rattle.std.specs.Prelude.{List, [], ◌∷◌, length, Option, Some, None}
-use Rattle.std.specs.Prelude.{Result, Ok, Err}
+use Rattle.std.specs.Prelude.{ℕ, zero, suc, ◌-◌, Bool, List, [], ◌∷◌, length, Option, Some, None}
+use Rattle.std.specs.Prelude.{if◌then◌else◌, Result, Ok, Err, true, false}
 use Rattle.std.specs.Option.{option_or}
-use Rattle.sec1_der.specs.Contents.{byte_fault, identifier_fault, bit_string_fault}
+use Rattle.der_view.specs.FaultRules.{Component, fits, inside_of, own_fault}
+use Rattle.der_view.specs.declared.faults.Position.{Position}
+use Rattle.der_view.specs.declared.faults.table.Expected.TheVariants as tags
+use Rattle.der_view.specs.declared.faults.table.Rule.{Rule}
+use Rattle.der_view.specs.declared.faults.table.Rule.TheVariants as rules
+use Rattle.der_view.specs.declared.faults.table.Expected.{Expected}
+use Rattle.der_view.specs.declared.grammar.Presence.{Presence}
+use Rattle.der_view.specs.declared.grammar.Presence.TheVariants.{Needed, Optional, Many}
 use Rattle.sec1_der.specs.Contents.{whole_bits_fault}
-use Rattle.sec1_der.specs.Elements.{is_tag}
-use Rattle.sec1_der.specs.Faults.{no_fault, content_at}
-use Rattle.sec1_der.specs.Faults as faults
-use Rattle.sec1_der.specs.Trees.{max_tree_depth}
+use Rattle.sec1_der.specs.Faults.{Fault, content_at, end_fault, no_fault}
 use Rattle.sec1_der.specs.declared.error.ErrorKind.{ErrorKind}
 use Rattle.sec1_der.specs.declared.error.ErrorKind.TheVariants.{Truncated, Tag, Depth}
-use Rattle.der_view.specs.declared.faults.Position.{Position}
 
 -- The place at which bytes are refused, or None if they aren't, from the offset of their end.
 abbrev pub Place : Type 0
@@ -29,12 +30,8 @@ placed end left (Some None) = None
 placed end left (Some (Some kind)) = Some (before end left kind)
 
 -- at the first byte, by a kind of the whole; for a rule that says its kinds
-abbrev pub at_first : faults.Fault → Place
+abbrev pub at_first : Fault → Place
 at_first fault end bytes = placed end bytes (fault bytes)
-
--- at the first byte after the end
-abbrev pub end_place : Place
-end_place = at_first faults.end_fault
 
 -- at the length, in the content, or in the bytes after it, in this order
 abbrev pub parts_place : Place → Place → ℕ → List ℕ
@@ -43,63 +40,108 @@ parts_place content rest end bytes (Err kind) = Some (before end bytes kind)
 parts_place content rest end bytes (Ok x) =
     option_or (content (end - length x.1) x.0) (rest end x.1)
 
--- X.690 section 8.1.1: at the tag, or in the parts after it
-abbrev pub element_place : ℕ → Place → Place → Place
-element_place tag content rest end [] = Some (before end [] Truncated)
-element_place tag content rest end (byte ∷ bytes) =
-    if byte == tag then parts_place content rest end bytes (content_at bytes)
-    else Some (before end (byte ∷ bytes) Tag)
+-- the tag of an element that may have it
+abbrev pub tag_of : Expected → ℕ → ℕ
+tag_of (tags.One expected) tag = expected
+tag_of _ tag = tag
 
--- whether this byte is next
-abbrev is_next : ℕ → List ℕ → Bool
-is_next tag [] = false
-is_next tag (byte ∷ bytes) = byte == tag
-
--- the same of an element that may be absent
-abbrev pub optional_place : ℕ → Place → Place → Place
-optional_place tag content rest end bytes =
-    if is_next tag bytes then element_place tag content rest end bytes else rest end bytes
-
--- the same of an element of any tag
-abbrev pub any_place : (ℕ → Place) → Place → Place
-any_place content rest end [] = Some (before end [] Truncated)
-any_place content rest end (tag ∷ bytes) =
-    if is_tag tag then parts_place (content tag) rest end bytes (content_at bytes)
+-- X.690 section 8.1.1: at the tag, if it isn't one of these, or in the parts after it
+abbrev pub element_place : Expected → (ℕ → Place) → Place → Place
+element_place expected content rest end [] = Some (before end [] Truncated)
+element_place expected content rest end (tag ∷ bytes) =
+    if fits expected tag
+    then parts_place (content (tag_of expected tag)) rest end bytes (content_at bytes)
     else Some (before end (tag ∷ bytes) Tag)
 
--- X.690 section 8.1.2.5: in the content of a constructed element
-abbrev pub nested_place : Place → ℕ → Place
-nested_place row tag content-end content =
-    if not (bit_and tag 0x20 == 0) then row content-end content else None
+-- whether an element with one of these tags comes, or has to
+abbrev pub comes : Presence → Expected → List ℕ → Bool
+comes Needed expected bytes = true
+comes _ expected [] = false
+comes Optional expected (tag ∷ bytes) = fits expected tag
+comes Many expected (tag ∷ bytes) = true
 
--- elements in a row at this level, as in forest_fault
-abbrev pub forest_place : ℕ → ℕ → Place
-forest_place zero level end bytes = None
-forest_place (suc most) level end [] = None
-forest_place (suc most) level end (byte ∷ bytes) =
-    if nat_lt max_tree_depth level then Some (before end (byte ∷ bytes) Depth)
-    else any_place (nested_place (forest_place most (level + 1))) (forest_place most level) end
-    (byte ∷ bytes)
+-- in elements up to the end, at most so many
+abbrev pub many_place : Expected → (ℕ → Place) → ℕ → Place
+many_place expected content zero end bytes = None
+many_place expected content (suc most) end bytes =
+    if comes Many expected bytes
+    then element_place expected content (many_place expected content most) end bytes else None
 
--- one tree that isn't too deep
-abbrev pub tree_place : List ℕ → Option Position
-tree_place bytes =
-    any_place (nested_place (forest_place (length bytes) 2)) end_place (length bytes) bytes
+-- in a component, or in what follows it
+abbrev pub component_place : Presence → Expected → (ℕ → Place) → Place → Place
+component_place Many expected content rest =
+    λ end bytes. many_place expected content (length bytes) end bytes
+component_place presence expected content rest =
+    λ end bytes. if comes presence expected bytes
+    then element_place expected content rest end bytes else rest end bytes
 
--- X.690 section 8.14: in the explicit field around a bit string without unused bits
-abbrev pub whole_bits_field_place : Place
-whole_bits_field_place end bytes =
-    option_or (element_place 0x03 (at_first bit_string_fault) end_place end bytes)
-    (element_place 0x03 (at_first whole_bits_fault) (at_first no_fault) end bytes)
+-- in components, or after them
+abbrev pub row_place : (Rule → ℕ → Place) → List Component → Place
+row_place content [] = at_first end_fault
+row_place content (component ∷ others) =
+    component_place component.1 component.0 (content component.2) (row_place content others)
 
--- RFC 5915 section 3: in the components of an ECPrivateKey, or after them
-abbrev pub components_place : Place
-components_place =
-    element_place 0x02 (at_first (byte_fault 1))
-    (element_place 0x04 (at_first no_fault)
-    (optional_place 0xA0 (element_place 0x06 (at_first identifier_fault) end_place)
-    (optional_place 0xA1 whole_bits_field_place end_place)))
+-- the components that may come after one: it and the others again, or the others
+abbrev pub after : Presence → List Component → List Component → List Component
+after Many again others = again
+after _ again others = others
 
--- SEC1 v2.0 Appendix C.4: in the SEQUENCE of these components, or after it
+-- in the components of a content, if it has some
+abbrev pub inside_place : (List Component → Place) → Option (List Component) → Place
+inside_place row None = at_first no_fault
+inside_place row (Some components) = row components
+
+-- X.690 section 8.14: at the content of a BIT STRING if it has unused bits
+abbrev pub whole_place : Place
+whole_place =
+    element_place (tags.One 0x03) (λ tag. at_first whole_bits_fault) (at_first no_fault)
+
+-- in a content as a whole
+abbrev pub own_place : Rule → ℕ → Place
+own_place rules.Point tag = whole_place
+own_place rule tag = at_first (own_fault rule tag)
+
+-- in the components of a content, or else in the whole of it
+abbrev pub content_place : (List Component → Place) → Rule → ℕ → Place
+content_place row rule tag end content =
+    option_or (inside_place row (inside_of rule tag content) end content)
+    (own_place rule tag end content)
+
+-- any byte is below the greatest depth
+abbrev pub depth_fault : Fault
+depth_fault [] = None
+depth_fault (byte ∷ bytes) = Some (Some Depth)
+
+-- in components that have at most so many levels
+abbrev pub level_place : ℕ → List Component → Place
+level_place zero row = at_first depth_fault
+level_place (suc levels) row = row_place (content_place (level_place levels)) row
+
+-- in all bytes, which are one element with one of these tags, whose content meets the rule
+abbrev pub place_of : Expected → Rule → List ℕ → Option Position
+place_of expected rule bytes =
+    level_place 64 ((expected, Needed, rule) ∷ []) (length bytes) bytes
+
+-- RFC 5915 section 3: an EC private key
 abbrev pub key_place : List ℕ → Option Position
-key_place bytes = element_place 0x30 components_place end_place (length bytes) bytes
+key_place = place_of (tags.One 0x30) rules.EcPrivateKey
+
+-- one tree with at most 64 levels
+abbrev pub tree_place : List ℕ → Option Position
+tree_place = place_of tags.Any rules.Tree
+
+-- RFC 3279 section 2.2.3: an ECDSA signature
+abbrev pub signature_place : List ℕ → Option Position
+signature_place = place_of (tags.One 0x30) rules.Signature
+
+-- RFC 5280 section 4.1: a public key with its algorithm
+abbrev pub public_key_place : List ℕ → Option Position
+public_key_place = place_of (tags.One 0x30) rules.PublicKeyInfo
+
+-- RFC 5958 section 2: a private key with its algorithm
+abbrev pub container_place : List ℕ → Option Position
+container_place = place_of (tags.One 0x30) rules.Container
+
+-- RFC 5280 section 4.1: a certificate
+abbrev pub certificate_place : List ℕ → Option Position
+certificate_place = place_of (tags.One 0x30) rules.Certificate

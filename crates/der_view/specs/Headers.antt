@@ -8,8 +8,8 @@ use Rattle.der_view.specs.declared.header.Class.{Class}
 use Rattle.der_view.specs.declared.header.Class.TheVariants as classes
 use Rattle.der_view.specs.declared.header.Header.{Header}
 use Rattle.der_view.specs.declared.header.Tag.{Tag}
-use Rattle.der_view.specs.declared.mark.ElementFault.{ElementFault}
-use Rattle.der_view.specs.declared.mark.ElementFault.TheVariants as faults
+use Rattle.der_view.specs.declared.header.ElementFault.{ElementFault}
+use Rattle.der_view.specs.declared.header.ElementFault.TheVariants as faults
 
 -- X.690 section 8.1.2.2, table 1: the class, in bits 8 and 7 of the first byte
 abbrev pub class_of : ℕ → Class

@@ -1,110 +1,200 @@
--- The picture of bytes: the lines of their rows, and what is said of them.
-use Rattle.std.specs.Prelude.{◌≡◌, ◌↔◌, ℕ, ◌+◌, ◌%◌, ◌==◌, Bool, false, IsTrue, List, [], ◌∷◌}
-use Rattle.std.specs.Prelude.{◌++◌, length, if◌then◌else◌, codes, Option, Some, None}
-use Rattle.std.specs.List.{flat_map}
-use Rattle.hex.specs.Hex.{encode_upper}
-use Rattle.sec1.specs.Keys.{Key, IsKeyOf}
-use Rattle.der_view.specs.Facts.{no_facts, with_rows}
-use Rattle.der_view.specs.Levels.{input_level}
-use Rattle.der_view.specs.Lines.{shown}
-use Rattle.der_view.specs.Marks.{mark_words}
-use Rattle.der_view.specs.Plans.{plan_of, plan_with}
-use Rattle.der_view.specs.RowLines.{row_line, spaces}
-use Rattle.der_view.specs.Rows.{IsNext, IsOpen, Undrawn, content_bytes}
-use Rattle.der_view.specs.Verdicts.{VerdictView, kept_verdict, verdict_of}
-use Rattle.der_view.specs.declared.mark.Mark.{Mark}
-use Rattle.der_view.specs.declared.picture.verdict.Reading.{Reading}
-use Rattle.der_view.specs.declared.picture.verdict.Subject.{Subject}
-use Rattle.der_view.specs.declared.row.OpenRow.{OpenRow}
+-- What bytes are, and their picture.
+use Rattle.std.specs.Prelude.{ℕ, ◌+◌, ◌-◌, ◌^◌, ◌==◌, ◌&&◌, ◌||◌, not, nat_lt, nat_le, min}
+use Rattle.std.specs.Prelude.{if◌then◌else◌, Bool, true, false, List, [], ◌∷◌, ◌++◌, length}
+use Rattle.std.specs.Prelude.{Option, Some, None}
+use Rattle.der_view.specs.Grammar.{Component, Form}
+use Rattle.der_view.specs.Rows.{Element, EndOfContents, How, NotDrawn, Row, Step, given_part}
+use Rattle.der_view.specs.Rows.{next_rows, rest_after, step_by, step_rows}
+use Rattle.der_view.specs.declared.grammar.TheConstants as elements
+use Rattle.der_view.specs.declared.grammar.forms.Secrecy.{Secrecy}
+use Rattle.der_view.specs.declared.grammar.forms.Secrecy.TheVariants as secrecies
+use Rattle.der_view.specs.declared.grammar.forms.TheConstants as tables
+use Rattle.der_view.specs.declared.plan.Plan.{Plan}
+use Rattle.der_view.specs.declared.plan.Way.{Way}
+use Rattle.der_view.specs.declared.plan.Way.TheVariants as ways
+use Rattle.der_view.specs.declared.walk.Place.{Place}
 
--- a byte of a content that so many bytes are before: each 16th begins a line
-abbrev pub line_front : ℕ → List ℕ
-line_front count = if count % 16 == 0 then codes "\n" ++ spaces 25 else []
+-- ---- the rows of a root
 
-abbrev pub content_piece : ℕ → ℕ → List ℕ
-content_piece count byte = line_front count ++ (codes " " ++ encode_upper (byte ∷ []))
+-- the root that bytes begin with, which may be cut
+unfoldable pub root_step : Component → List ℕ → Option Step
+root_step root bytes = step_by true false (root ∷ []) bytes
 
--- a content, after so many bytes of it
-abbrev pub content_text : ℕ → List ℕ → List ℕ
-content_text count [] = []
-content_text count (byte ∷ bytes) = content_piece count byte ++ content_text (count + 1) bytes
+-- the beginning of an input of so many bytes
+abbrev pub first_place : Bool → ℕ → Place
+first_place is_public len =
+    record { offset = 0; depth = 0; end = len; is_public = is_public }
 
--- the line of a mark, if there is one
-abbrev pub mark_text : Option Mark → List ℕ
-mark_text None = []
-mark_text (Some mark) = codes "     ^ " ++ (mark_words mark ++ codes "\n")
+-- the bytes after a root
+abbrev pub rest_rows : How → Place → List ℕ → List Row
+rest_rows how place [] = []
+rest_rows how place (byte ∷ bytes) =
+    NotDrawn place [] (length (byte ∷ bytes))
+    (given_part how.given place.offset (length (byte ∷ bytes))) ∷ []
 
--- the lines of a row: its own, those of its content if that is shown, and its marks
-abbrev pub row_text : OpenRow → List ℕ
-row_text row =
-    row_line row
-    ++ (content_text 0 (content_bytes row)
-    ++ (codes "\n" ++ (mark_text row.marks.first ++ mark_text row.marks.second)))
+abbrev pub rows_from : How → Component → Place → ℕ → Option Step → List Row
+rows_from how root place len None =
+    NotDrawn place (root ∷ []) len (given_part how.given 0 len) ∷ []
+rows_from how root place len (Some step) =
+    step_rows how len place (root ∷ []) step
+    ++ next_rows (λ rest. rest_rows how (record place { offset = len - length rest }) rest)
+    (rest_after how.loose len 1 step)
 
--- the lines of rows
-abbrev pub rows_text : List OpenRow → List ℕ
-rows_text rows = flat_map row_text rows
+-- the rows of bytes whose root is this component
+unfoldable pub rows_as : How → Component → Bool → List ℕ → List Row
+rows_as how root is_public bytes =
+    rows_from how root (first_place is_public (length bytes)) (length bytes) (root_step root bytes)
 
--- these are all rows of the bytes that have none yet, each of the next bytes, and with no byte of a
--- content but those that may be shown
-abbrev pub AreRowsOf : List OpenRow → Undrawn → Undrawn → Type 0
-AreRowsOf [] old new = old ≡ new
-AreRowsOf (row ∷ rows) old new =
-    (between : Undrawn) × IsNext old row between × IsOpen old.all old.plan.guarded old.left row
-    × AreRowsOf rows between new
+-- whether a content isn't longer than what is there of it
+abbrev pub complete_by : Option ℕ → ℕ → Bool
+complete_by None len = true
+complete_by (Some announced) len = announced == len
 
--- all rows of some bytes, with the contents or without
-pub record AreRows (all : Bool) (bytes : List ℕ) (rows : List OpenRow) : Type 0 where
-  pub first : Undrawn
-  pub last : Undrawn
-  pub left : first.left ≡ bytes
-  pub offset : first.offset ≡ 0
-  pub levels : first.levels ≡ input_level first.plan.root ∷ []
-  pub shows : first.all ≡ all
-  pub plan : first.plan ≡ plan_with all (plan_of bytes)
-  pub drawn : AreRowsOf rows first last
-  pub ended : last.left ≡ []
+abbrev pub is_complete : Step → Bool
+is_complete step = complete_by step.header.content_len (length step.content)
 
--- the line of a lead, if there is one
-abbrev pub lead_text : List ℕ → List ℕ
-lead_text lead = if length lead == 0 then [] else lead ++ codes "\n"
+abbrev pub ended_by : Step → Option (List ℕ) → Bool
+ended_by step None = false
+ended_by step (Some []) = is_complete step
+ended_by step (Some (byte ∷ rest)) = false
 
--- the line of a command, if there is one
-abbrev pub command_text : Option (List ℕ) → List ℕ
-command_text None = []
-command_text (Some command) = codes "  " ++ (command ++ codes "\n")
+abbrev pub whole_by : Bool → ℕ → Option Step → Bool
+whole_by loose len None = false
+whole_by loose len (Some step) = ended_by step (rest_after loose len 1 step)
 
--- what is said of bytes, and the command that helps
-abbrev pub verdict_text : VerdictView → List ℕ
-verdict_text verdict =
-    shown verdict.words
-    ++ (codes "\n" ++ (lead_text verdict.lead ++ command_text verdict.command))
+-- whether they follow it, and no bytes come after it
+unfoldable pub whole_as : Bool → Component → List ℕ → Bool
+whole_as loose root bytes = whole_by loose (length bytes) (root_step root bytes)
 
--- whether bytes are those of a key (RFC 5915 section 3)
-abbrev pub IsKey : List ℕ → Bool → Type 0
-IsKey bytes is_key = IsTrue is_key ↔ ((key : Key) × IsKeyOf key bytes)
+abbrev pub cut_by : Option Step → Bool
+cut_by None = false
+cut_by (Some step) = not (is_complete step)
 
--- what is known of bytes that OpenSSL reads so
-pub record IsSubject (bytes : List ℕ) (reading : Reading) (subject : Subject) : Type 0 where
-  pub rows : List OpenRow
-  pub are_rows : AreRows false bytes rows
-  pub read : subject.reading ≡ reading
-  pub len : subject.len ≡ length bytes
-  pub plan : subject.plan ≡ plan_of bytes
-  pub facts : subject.facts ≡ with_rows no_facts rows
+-- whether the content of the root is longer than what is there of it
+unfoldable pub is_cut : List ℕ → Bool
+is_cut bytes = cut_by (root_step elements.ELEMENT bytes)
 
--- what is said of it, if it is a key or not
-abbrev pub verdict_on : Subject → Bool → VerdictView
-verdict_on subject is_key =
-    kept_verdict
-    (verdict_of subject.reading subject.len is_key subject.plan subject.facts)
+-- ---- what bytes are
 
--- the picture of bytes: the lines of their rows, and what is said of them
-pub record IsPicture (all : Bool) (reading : Reading) (bytes text : List ℕ)
-    (is_key : Bool) : Type 0 where
-  pub rows : List OpenRow
-  pub subject : Subject
-  pub are_rows : AreRows all bytes rows
-  pub is_subject : IsSubject bytes reading subject
-  pub key : IsKey bytes is_key
-  pub whole : text ≡ rows_text rows ++ verdict_text (verdict_on subject is_key)
+-- the rows up to the first that doesn't follow
+abbrev pub strictly : How
+strictly = record { loose = false; small = false; given = [] }
+
+-- the number of bytes that aren't drawn
+abbrev pub left_in : List Row → ℕ
+left_in [] = 0
+left_in (Element place element ∷ rows) = left_in rows
+left_in (EndOfContents place ∷ rows) = left_in rows
+left_in (NotDrawn place expected len content ∷ rows) = len + left_in rows
+
+-- the number of elements that are in the root alone
+abbrev pub parts_in : List Row → ℕ
+parts_in [] = 0
+parts_in (Element place element ∷ rows) =
+    if place.depth == 1 then 1 + parts_in rows else parts_in rows
+parts_in (EndOfContents place ∷ rows) = parts_in rows
+parts_in (NotDrawn place expected len content ∷ rows) = parts_in rows
+
+-- a number, as a usize has it
+abbrev pub capped : ℕ → ℕ
+capped n = min n (2 ^ 64 - 1)
+
+unfoldable pub left_as : Component → List ℕ → ℕ
+left_as root bytes = capped (left_in (rows_as strictly root false bytes))
+
+unfoldable pub parts_as : Component → List ℕ → ℕ
+parts_as root bytes = capped (parts_in (rows_as strictly root false bytes))
+
+-- whether fewer bytes are left by a form than by another; or as many, and it alone is followed to
+-- its end
+abbrev pub is_nearer : ℕ → Bool → ℕ → Bool → Bool
+is_nearer left whole other_left other_whole =
+    nat_lt left other_left || (left == other_left && (whole && not other_whole))
+
+-- the nearer of two forms; the first, if none is
+unfoldable pub better : List ℕ → Form → Form → Form
+better bytes first second =
+    if is_nearer (left_as second.0 bytes) (whole_as false second.0 bytes) (left_as first.0 bytes)
+    (whole_as false first.0 bytes) then second else first
+
+unfoldable pub best : List ℕ → Form → List Form → Form
+best bytes first [] = first
+best bytes first (second ∷ others) = best bytes (better bytes first second) others
+
+-- the form that the fewest bytes don't follow
+unfoldable pub nearest : List ℕ → Form
+nearest bytes = best bytes tables.FIRST tables.OTHERS
+
+-- bytes are known by two parts of the root, or by all of them
+unfoldable pub known_as : Form → List ℕ → Option Form
+known_as form bytes =
+    if whole_as false form.0 bytes || nat_le 2 (parts_as form.0 bytes) then Some form else None
+
+-- one element, in which each header of BER fits, and no bytes after it
+unfoldable pub is_tree : List ℕ → Bool
+is_tree bytes = whole_as false elements.ELEMENT bytes
+
+-- how bytes are drawn: strictly a private key's form, unless they are a whole tree that doesn't
+-- follow it, and one that can hold a private key, unless they are a whole tree
+abbrev pub is_strict : Secrecy → Bool → Bool → Bool
+is_strict secrecies.Private whole rooted = whole || not rooted
+is_strict secrecies.Closed whole rooted = not rooted
+is_strict secrecies.Public whole rooted = false
+
+abbrev pub way_of : Option Form → Bool → Bool → Way
+way_of None whole rooted = if rooted then ways.Loose else ways.Nothing
+way_of (Some form) whole rooted =
+    if is_strict form.1 whole rooted then ways.Strict else ways.Loose
+
+abbrev pub plan_as : Form → List ℕ → Plan
+plan_as form bytes = record {
+  form = known_as form bytes;
+  way = way_of (known_as form bytes) (whole_as false form.0 bytes) (is_tree bytes);
+  is_whole = whole_as false form.0 bytes;
+  is_tree = is_tree bytes;
+  is_cut = is_cut bytes;
+  len = length bytes;
+}
+
+-- what bytes are, and how they are drawn
+unfoldable pub plan_of : List ℕ → Plan
+plan_of bytes = plan_as (nearest bytes) bytes
+
+-- ---- their picture
+
+abbrev pub root_of : Option Form → Component
+root_of None = elements.ELEMENT
+root_of (Some form) = form.0
+
+abbrev pub holds_no_key : Option Form → Bool
+holds_no_key (Some (root, secrecies.Public)) = true
+holds_no_key _ = false
+
+-- no part can hold a private key
+abbrev pub is_public : Plan → Bool
+is_public plan = holds_no_key plan.form && (plan.is_whole && plan.is_tree)
+
+abbrev pub is_loose : Way → Bool → Bool
+is_loose ways.Loose all = true
+is_loose _ all = all
+
+abbrev pub rules_by : Plan → Bool → List ℕ → How
+rules_by plan all bytes = record {
+  loose = is_loose plan.way all;
+  small = is_loose plan.way all && plan.is_tree;
+  given = if all then bytes else [];
+}
+
+abbrev pub rows_by_way : Way → Plan → Bool → List ℕ → List Row
+rows_by_way ways.Nothing plan all bytes =
+    rest_rows (rules_by plan all bytes) (first_place false (length bytes)) bytes
+rows_by_way _ plan all bytes =
+    rows_as (rules_by plan all bytes) (root_of plan.form) (is_public plan) bytes
+
+-- the rows of bytes by a plan
+unfoldable pub rows_by : Plan → Bool → List ℕ → List Row
+rows_by plan all bytes = rows_by_way plan.way plan all bytes
+
+-- the picture of bytes
+unfoldable pub picture : Bool → List ℕ → List Row
+picture all bytes = rows_by (plan_of bytes) all bytes

@@ -1,33 +1,31 @@
--- What the laws of rows say of a row.
-use Rattle.std.specs.Prelude.{◌≡◌, List, ℕ, ◌+◌, Bool, length, take, drop, None}
-use Rattle.der_view.specs.Rows.{IsSeen, content_bytes}
-use Rattle.der_view.specs.Seen.{open_len, shown_view}
-use Rattle.der_view.specs.declared.row.OpenRow.{OpenRow}
+-- The bytes that rows are of.
+use Rattle.std.specs.Prelude.{◌≡◌, ℕ, ◌+◌, List, [], ◌∷◌, if◌then◌else◌, true}
+use Rattle.der_view.specs.Rows.{Element, EndOfContents, NotDrawn, Row}
 
--- the rows have the same members, and the same bytes at whatever places
-pub record IsSameRow (a b : OpenRow) : Type 0 where
-  pub offset : a.offset ≡ b.offset
-  pub depth : a.depth ≡ b.depth
-  pub kind : a.kind ≡ b.kind
-  pub header : a.header.now ≡ b.header.now
-  pub len : a.len ≡ b.len
-  pub announced : a.announced ≡ b.announced
-  pub own_len : a.own_len ≡ b.own_len
-  pub opened : a.opened ≡ b.opened
-  pub field : a.field ≡ b.field
-  pub secret : a.secret ≡ b.secret
-  pub marks : a.marks ≡ b.marks
-  pub shown : shown_view a.shown ≡ shown_view b.shown
-  pub content : content_bytes a ≡ content_bytes b
+-- the number of bytes that a row is of: a header, and a content unless that is rows
+abbrev pub row_len : Row → ℕ
+row_len (Element place element) =
+    element.header.len + (if element.opened then 0 else element.len)
+row_len (EndOfContents place) = 2
+row_len (NotDrawn place expected len content) = len
 
--- the bytes of the input that are the content of a row
-abbrev pub content_at : List ℕ → OpenRow → List ℕ
-content_at input row = take row.len (drop (row.offset + length row.header.now) input)
+abbrev pub rows_len : List Row → ℕ
+rows_len [] = 0
+rows_len (row ∷ rows) = row_len row + rows_len rows
 
--- The row has no content, and of the bytes that are its content it shows as many first ones as may
--- be seen, at most: none of an OCTET STRING, as a private key is, and none of a long INTEGER.
-pub record HidesContent (guarded : Bool) (input : List ℕ) (row : OpenRow) : Type 0 where
-  pub content : row.content ≡ None
-  pub shown :
-      IsSeen row.kind row.shown (λ tag. open_len guarded tag row.field (content_at input row))
-      (content_at input row)
+abbrev pub offset_of : Row → ℕ
+offset_of (Element place element) = place.offset
+offset_of (EndOfContents place) = place.offset
+offset_of (NotDrawn place expected len content) = place.offset
+
+-- the first row begins here, and each other one where those before it end
+abbrev pub AreAt : ℕ → List Row → Type 0
+AreAt offset [] = Unit {0}
+AreAt offset (row ∷ rows) = (offset_of row ≡ offset) × AreAt (offset + row_len row) rows
+
+-- each element is one of the components which could come there, and all bytes are drawn
+abbrev pub AllFollow : List Row → Type 0
+AllFollow [] = Unit {0}
+AllFollow (Element place element ∷ rows) = (element.follows ≡ true) × AllFollow rows
+AllFollow (EndOfContents place ∷ rows) = AllFollow rows
+AllFollow (NotDrawn place expected len content ∷ rows) = ⊥

@@ -1,49 +1,37 @@
 -- The line of a row.
-use Rattle.std.specs.Prelude.{ℕ, ◌+◌, ◌-◌, ◌*◌, ◌==◌, ◌&&◌, max, min, nat_lt, nat_le, Bool, false}
+use Rattle.std.specs.Prelude.{ℕ, ◌+◌, ◌-◌, ◌*◌, ◌&&◌, max, min, nat_lt, nat_le, ◌==◌, Bool, true}
+use Rattle.std.specs.Prelude.{false}
 use Rattle.std.specs.Prelude.{if◌then◌else◌, List, [], ◌∷◌, ◌++◌, length, codes, replicate}
 use Rattle.std.specs.Prelude.{Option, Some, None}
 use Rattle.std.specs.Fmt.{decimal}
 use Rattle.hex.specs.Hex.{encode_upper}
-use Rattle.der_view.specs.Fields.{field_name}
-use Rattle.der_view.specs.Lines.{kept, shown}
-use Rattle.der_view.specs.Values.{ValueView, count_text, type_name, unused_text, value_by}
+use Rattle.der_view.specs.Facts.{RowView}
+use Rattle.der_view.specs.Lines.{kept}
+use Rattle.der_view.specs.Marks.{bytes_text}
+use Rattle.der_view.specs.Types.{type_name}
+use Rattle.der_view.specs.Values.{ValueView, Count, Bits, count_text, unused_text, value_by}
 use Rattle.der_view.specs.Values.{value_text}
-use Rattle.der_view.specs.declared.field.Field.{Field}
+use Rattle.der_view.specs.Words.{name_text}
+use Rattle.der_view.specs.declared.facts.Kind.{Kind}
+use Rattle.der_view.specs.declared.facts.Kind.TheVariants as kinds
+use Rattle.der_view.specs.declared.facts.Point.{Point}
+use Rattle.der_view.specs.declared.facts.Point.TheVariants as points
+use Rattle.der_view.specs.declared.facts.Shown.{Shown}
+use Rattle.der_view.specs.declared.facts.Shown.TheVariants as shows
+use Rattle.der_view.specs.declared.grammar.name.Name.{Name}
 use Rattle.der_view.specs.declared.header.Class.{Class}
 use Rattle.der_view.specs.declared.header.Class.TheVariants as classes
-use Rattle.der_view.specs.declared.row.Kind.{Kind}
-use Rattle.der_view.specs.declared.row.Kind.TheVariants as kinds
-use Rattle.der_view.specs.declared.row.OpenRow.{OpenRow}
-use Rattle.der_view.specs.declared.row.Point.{Point}
-use Rattle.der_view.specs.declared.row.Point.TheVariants as points
-use Rattle.der_view.specs.declared.row.Shown.{Shown}
-use Rattle.der_view.specs.declared.row.Shown.TheVariants as shows
 
 -- this many spaces
 abbrev pub spaces : ℕ → List ℕ
 spaces count = replicate count 0x20
-
--- a number of bytes
-abbrev pub byte_word : ℕ → List ℕ
-byte_word count = if count == 1 then codes " byte" else codes " bytes"
-
-abbrev pub bytes_text : ℕ → List ℕ
-bytes_text count = decimal count ++ byte_word count
 
 -- each byte in two digits, after a space
 abbrev pub hex_words : List ℕ → List ℕ
 hex_words [] = []
 hex_words (byte ∷ bytes) = codes " " ++ (encode_upper (byte ∷ []) ++ hex_words bytes)
 
--- the length that is printed: of the content, as the header says, or of the bytes; None if it is
--- indefinite
-abbrev pub printed_len : Kind → Option ℕ → ℕ → Option ℕ
-printed_len (kinds.Element tag) announced len = announced
-printed_len kinds.EndOfContents announced len = Some 0
-printed_len kinds.NoElement announced len = Some len
-printed_len kinds.NotDrawn announced len = Some len
-
--- the same, or a question mark
+-- a number, or else a question mark
 abbrev pub number_or_mark : Option ℕ → List ℕ
 number_or_mark (Some len) = decimal len
 number_or_mark None = codes "?"
@@ -58,12 +46,11 @@ abbrev pub offset_text : ℕ → List ℕ
 offset_text offset = spaces (4 - length (decimal offset)) ++ decimal offset
 
 -- the offset, the bytes of the header, and the length
-abbrev pub columns : OpenRow → List ℕ
+abbrev pub columns : RowView → List ℕ
 columns row =
-    offset_text row.offset
-    ++ (hex_words row.header.now
-    ++ (length_text (length row.header.now)
-    (number_or_mark (printed_len row.kind row.announced row.len)) ++ spaces 2))
+    offset_text row.place.offset
+    ++ (hex_words row.head
+    ++ (length_text (length row.head) (number_or_mark row.announced) ++ spaces 2))
 
 -- two spaces for each level, at most 16; deeper ones are counted
 abbrev pub level_text : ℕ → List ℕ
@@ -86,7 +73,7 @@ or_len (Some announced) len = announced
 or_len None len = len
 
 -- the number of bytes that is said of a content
-abbrev pub count_of : OpenRow → ℕ
+abbrev pub count_of : RowView → ℕ
 count_of row = len_of row.kind (or_len row.announced row.len)
 
 -- the number of bytes of a BIT STRING, and of its unused bits if it can have as many
@@ -96,19 +83,27 @@ unused_if count unused = if nat_lt 0 count && nat_lt unused 8 then unused_text u
 abbrev pub bit_count : ℕ → ℕ → List ℕ
 bit_count count unused = count_text count ++ unused_if count unused
 
--- whether the header says this length
-abbrev pub announces : Option ℕ → ℕ → Bool
-announces (Some announced) len = announced == len
-announces None len = false
-
 -- the value of a content that is shown and all there
-abbrev pub value_in : Shown → Kind → Option ℕ → Option ValueView
-value_in (shows.Value content) (kinds.Element tag) announced =
-    if announces announced (length content.now) then Some (value_by tag content.now) else None
-value_in _ _ announced = None
+abbrev pub kind_value : Shown → Kind → List ℕ → Option ValueView
+kind_value shows.Value (kinds.Element tag) content = Some (value_by tag content)
+kind_value _ _ content = None
 
-abbrev pub row_value : OpenRow → Option ValueView
-row_value row = value_in row.shown row.kind row.announced
+abbrev pub row_value : RowView → Option ValueView
+row_value row = kind_value row.shown row.kind row.value
+
+-- more than a number of bytes
+abbrev pub is_said_value : ValueView → Bool
+is_said_value (Count count) = false
+is_said_value (Bits count unused) = false
+is_said_value _ = true
+
+abbrev pub is_said_by : Option ValueView → ℕ → Bool
+is_said_by (Some value) len = nat_le len 100 && is_said_value value
+is_said_by None len = false
+
+-- a line of this length has all of the content
+abbrev pub is_said : RowView → ℕ → Bool
+is_said row len = is_said_by (row_value row) len
 
 -- the number of bytes of a content
 abbrev pub unshown_text : Shown → ℕ → List ℕ
@@ -125,10 +120,9 @@ shown_text None shown count = unshown_text shown count
 abbrev pub label_by : Kind → ℕ → List ℕ → List ℕ
 label_by (kinds.Element tag) len text = type_name tag ++ text
 label_by kinds.EndOfContents len text = codes "end-of-contents"
-label_by kinds.NoElement len text = codes "no element: " ++ bytes_text len
 label_by kinds.NotDrawn len text = bytes_text len ++ codes " not drawn"
 
-abbrev pub label : OpenRow → List ℕ
+abbrev pub label : RowView → List ℕ
 label row = label_by row.kind row.len (shown_text (row_value row) row.shown (count_of row))
 
 -- SEC1 v2.0 section 2.3.3: the form and the size of a point
@@ -140,21 +134,18 @@ point_text (points.Uncompressed len) = codes "uncompressed, 2 x " ++ bytes_text 
 point_text (points.Hybrid len) = codes "hybrid, 2 x " ++ bytes_text len
 point_text (points.Compact len) = codes "compact, " ++ bytes_text len
 
--- the name of a field, and whether its content isn't shown
+-- the name of a component, and whether its content isn't shown
 abbrev pub secret_note : Bool → List ℕ
 secret_note secret = if secret then codes ", not shown" else []
 
-abbrev pub field_note : Field → Bool → List ℕ
-field_note field secret = field_name field ++ secret_note secret
+abbrev pub name_note : Name → Bool → List ℕ
+name_note name secret = name_text name ++ secret_note secret
 
-abbrev pub field_if : Option Field → Bool → List ℕ
-field_if (Some field) secret = field_note field secret
-field_if None secret = []
-
--- the last column: the form of a point, or the name of the field
-abbrev pub note_by : Shown → Option Field → Bool → List ℕ
-note_by (shows.Point point) field secret = point_text point
-note_by _ field secret = field_if field secret
+-- the last column: the form of a point, or the name
+abbrev pub note_by : Shown → Name → Bool → List ℕ
+note_by (shows.Point point) name secret = point_text point
+note_by (shows.Unused unused) name secret = []
+note_by _ name secret = name_note name secret
 
 -- a text with a note 29 columns after this one, if there is a note and both fit into a line
 abbrev pub with_note : ℕ → List ℕ → List ℕ → List ℕ
@@ -164,8 +155,8 @@ with_note start text note =
     then text ++ (spaces between ++ note) else text
 
 -- the line of a row
-abbrev pub row_line : OpenRow → List ℕ
+abbrev pub row_line : RowView → List ℕ
 row_line row =
     let front = kept (columns row) in
-    let text = kept (columns row ++ (indent row.depth ++ label row)) in
-    shown (kept (with_note (length front) text (kept (note_by row.shown row.field row.secret))))
+    let text = kept (columns row ++ (indent row.place.depth ++ label row)) in
+    kept (with_note (length front) text (kept (note_by row.shown row.name row.secret)))

@@ -1,116 +1,382 @@
--- The rows of bytes: what they are of, and what they show.
-use Rattle.std.specs.Prelude.{◌≡◌, ℕ, ◌+◌, ◌-◌, ◌<◌, ◌≤◌, nat_lt, Bool, true, false, List, []}
-use Rattle.std.specs.Prelude.{◌∷◌, ◌++◌, if◌then◌else◌, length, take, drop, slice_get}
-use Rattle.std.specs.Prelude.{Some, None, option_map, unwrap_or}
-use Rattle.der_view.specs.Levels.{followed, is_unended, opened_in, still_open}
-use Rattle.der_view.specs.Marks.{marks_with}
-use Rattle.der_view.specs.Places.{IsStep}
-use Rattle.der_view.specs.Seen.{IsFirst, IsShown, open_len}
-use Rattle.der_view.specs.declared.header.Tag.{Tag}
-use Rattle.der_view.specs.declared.level.Level.{Level}
-use Rattle.der_view.specs.declared.mark.ElementFault.TheVariants as faults
-use Rattle.der_view.specs.declared.mark.Mark.TheVariants as marks
-use Rattle.der_view.specs.declared.mark.Marks.{Marks}
-use Rattle.der_view.specs.declared.place.Place.{Place}
-use Rattle.der_view.specs.declared.place.Step.{Step}
-use Rattle.der_view.specs.declared.plan.Plan.{Plan}
-use Rattle.der_view.specs.declared.row.Kind.{Kind}
-use Rattle.der_view.specs.declared.row.Kind.TheVariants as kinds
-use Rattle.der_view.specs.declared.row.OpenRow.{OpenRow}
-use Rattle.der_view.specs.declared.row.Shown.{Shown}
-use Rattle.der_view.specs.declared.row.Shown.TheVariants.{Nothing}
+-- The rows of bytes: elements, in order, as far as they follow a structure of the table, or as far
+-- as they can be read, and the number of bytes that aren't drawn.
+use Rattle.std.specs.Prelude.{ℕ, zero, suc, ◌+◌, ◌-◌, ◌==◌, ◌&&◌, ◌||◌, nat_le, nat_lt, not}
+use Rattle.std.specs.Prelude.{if◌then◌else◌, Bool, true, false, List, [], ◌∷◌, ◌++◌, length, take}
+use Rattle.std.specs.Prelude.{drop, Option, Some, None, Result, Ok, Err, is_none, is_some}
+use Rattle.std.specs.Str.{bytes_eq}
+use Rattle.der_view.specs.Contents.{is_primitive, is_whole, shown_len}
+use Rattle.der_view.specs.Grammar.{Component, components, identifiers}
+use Rattle.der_view.specs.Headers.{header_of}
+use Rattle.der_view.specs.declared.grammar.TheConstants as tables
+use Rattle.der_view.specs.declared.grammar.Content.{Content}
+use Rattle.der_view.specs.declared.grammar.Content.TheVariants as contents
+use Rattle.der_view.specs.declared.grammar.Presence.{Presence}
+use Rattle.der_view.specs.declared.grammar.Presence.TheVariants as presences
+use Rattle.der_view.specs.declared.grammar.Structure.{Structure}
+use Rattle.der_view.specs.declared.grammar.Structure.TheVariants as structures
+use Rattle.der_view.specs.declared.header.ElementFault.{ElementFault}
+use Rattle.der_view.specs.declared.header.Header.{Header}
+use Rattle.der_view.specs.declared.step.Step.{Step as CodeStep}
+use Rattle.der_view.specs.declared.walk.Element.{Element as Told}
+use Rattle.der_view.specs.declared.walk.Place.{Place}
+use Rattle.der_view.specs.declared.walk.Rules.{Rules}
 
--- The bytes that have no row yet, and how many are before them. The elements that are open, the
--- innermost first, and the input. Whether all contents are in the rows, and what is known of the
--- whole input.
-pub record Undrawn : Type 0 where
-  pub offset : ℕ
-  pub left : List ℕ
-  pub levels : List Level
-  pub all : Bool
-  pub plan : Plan
+-- An element, as a row has it: its header and the bytes of it, its component, those that could come
+-- there if it is none of them, whether it is one of them, the length of its content, what is shown
+-- of it, what is given of it, and whether it is rows.
+pub record ElementView : Type 0 where
+  pub header : Header
+  pub head : List ℕ
+  pub component : Component
+  pub expected : List Component
+  pub follows : Bool
+  pub len : ℕ
+  pub shown : List ℕ
+  pub content : List ℕ
+  pub opened : Bool
 
--- the number of bytes that a row is of: its header, and its content unless that has other rows
-abbrev pub row_len : OpenRow → ℕ
-row_len row = length row.header.now + row.own_len
-
--- the bytes begin with those of the row, of which there are some, and with its whole content
-pub record BeginsWith (bytes : List ℕ) (row : OpenRow) : Type 0 where
-  pub header : row.header.now ≡ take (length row.header.now) bytes
-  pub some : 0 < row_len row
-  pub own : row.own_len ≤ row.len
-  pub fits : length row.header.now + row.len ≤ length bytes
-
--- the content of the row that these bytes begin with
-abbrev pub content_of : OpenRow → List ℕ → List ℕ
-content_of row bytes = take row.len (drop (length row.header.now) bytes)
-
--- the bytes of it that have no other row
-abbrev pub own_content_of : OpenRow → List ℕ → List ℕ
-own_content_of row bytes = take row.own_len (drop (length row.header.now) bytes)
-
--- What is shown of an element's content is made of first bytes of it, so many at most. Nothing is
--- shown of another row's.
-abbrev pub IsSeen : Kind → Shown → (Tag → ℕ) → List ℕ → Type 0
-IsSeen (kinds.Element tag) shown most content =
-    (part : List ℕ) × IsFirst (most tag) content part × IsShown (length content) part shown
-IsSeen _ shown most content = shown ≡ Nothing
-
--- the bytes that a row has of its content, beside what is shown of it
-abbrev pub content_bytes : OpenRow → List ℕ
-content_bytes row = unwrap_or (option_map (λ content. content.now) row.content) []
-
--- The row, which the bytes that are left begin with, has no byte of its content but those that may
--- be seen. With all contents it has those that have no other row too.
-pub record IsOpen (all guarded : Bool) (left : List ℕ) (row : OpenRow) : Type 0 where
-  pub hidden : all ≡ false → row.content ≡ None
-  pub whole : all ≡ true → content_bytes row ≡ own_content_of row left
-  pub shown :
-      IsSeen row.kind row.shown (λ tag. open_len guarded tag row.field (content_of row left))
-      (content_of row left)
-
--- where the next row is
-abbrev pub place_of : Undrawn → Place
-place_of state = record {
-  offset = state.offset;
-  depth = length state.levels - 1;
-  has_room = nat_lt (length state.levels) 64;
-  all = state.all;
-  plan = state.plan;
+-- the same in the code
+abbrev pub view_of : Told → ElementView
+view_of element = record {
+  header = element.header;
+  head = element.head.now;
+  component = element.component;
+  expected = element.expected.now;
+  follows = element.follows;
+  len = element.len;
+  shown = element.shown.now;
+  content = element.content.now;
+  opened = element.opened;
 }
 
--- X.690 section 8.1.5: bytes that are drawn are marked if an end-of-contents is missing after them
-abbrev pub ended_marks : Bool → Kind → Marks → Marks
-ended_marks unended kinds.NotDrawn row_marks = row_marks
-ended_marks unended _ row_marks =
-    if unended then marks_with row_marks (Some (marks.Element faults.NoEndOfContents))
-    else row_marks
+-- An element at a place; an end-of-contents; or so many bytes that aren't drawn, the components
+-- that could be there, and what is given of the bytes.
+pub data Row : Type 0 where
+  Element : Place → ElementView → Row
+  EndOfContents : Place → Row
+  NotDrawn : Place → List Component → ℕ → List ℕ → Row
 
--- the levels after a step, with those that are over
-abbrev pub stepped : Step → List Level → List Level
-stepped step levels = opened_in step.opened (followed step.level levels)
+-- How bytes are drawn: whether elements that don't follow are rows all the same, whether small
+-- contents of elements without a component are shown, and the input, if everything is given.
+pub record How : Type 0 where
+  pub loose : Bool
+  pub small : Bool
+  pub given : List ℕ
 
--- the row is of the next bytes, by the header that they begin with, and these are left after it
-pub record IsNext (old : Undrawn) (row : OpenRow) (new : Undrawn) : Type 0 where
-  pub at : row.offset ≡ old.offset
-  pub bytes : BeginsWith old.left row
-  pub step : Step
-  pub is_step : IsStep (place_of old) old.left (slice_get old.levels 0) step
-  pub is_row :
-      row
-      ≡ record step.row {
-        marks =
-            ended_marks (is_unended (length new.left) (stepped step old.levels)) step.row.kind
-            step.row.marks;
-      }
-  pub left : new.left ≡ drop (row_len row) old.left
-  pub offset : new.offset ≡ old.offset + row_len row
-  pub levels : new.levels ≡ still_open (length new.left) (stepped step old.levels)
-  pub all : new.all ≡ old.all
-  pub plan : new.plan ≡ old.plan
+abbrev pub rules_of : Rules → How
+rules_of rules = record {
+  loose = rules.is_loose;
+  small = rules.shows_small;
+  given = rules.given.now;
+}
 
--- the bytes of the input that the rows are of, in their order
-abbrev pub bytes_of_rows : List ℕ → List OpenRow → List ℕ
-bytes_of_rows input [] = []
-bytes_of_rows input (row ∷ rows) =
-    take (row_len row) (drop row.offset input) ++ bytes_of_rows input rows
+-- ---- what comes next
+
+abbrev pub parts_by : Bool → List ℕ → Header → Option ℕ → Option (Header × List ℕ × List ℕ)
+parts_by cut bytes header None = Some (header, drop header.len bytes, [])
+parts_by cut bytes header (Some n) =
+    if nat_lt (length (drop header.len bytes)) n
+    then (if cut then Some (header, drop header.len bytes, []) else None)
+    else Some (header, take n (drop header.len bytes), drop n (drop header.len bytes))
+
+abbrev pub element_by : Bool → List ℕ → Result Header ElementFault
+    → Option (Header × List ℕ × List ℕ)
+element_by cut bytes (Err fault) = None
+element_by cut bytes (Ok header) = parts_by cut bytes header header.content_len
+
+-- X.690 section 8.1: the header and the content of the element that bytes begin with, and the bytes
+-- after it. It may be cut or not. Of an indefinite length the content is all that comes.
+abbrev pub element_at : Bool → List ℕ → Option (Header × List ℕ × List ℕ)
+element_at cut bytes = element_by cut bytes (header_of bytes)
+
+abbrev pub may_be_absent : Presence → Bool
+may_be_absent presences.Needed = false
+may_be_absent presences.Optional = true
+may_be_absent presences.Many = true
+
+abbrev pub comes_again : Presence → Bool
+comes_again presences.Many = true
+comes_again _ = false
+
+-- RFC 5280 section 4.1.2.5: a Time is a UTCTime, 17, or else a GeneralizedTime, 18; and 00 stands
+-- for any tag
+abbrev pub has_tag : ℕ → ℕ → Bool
+has_tag expected tag =
+    expected == tag || (expected == 0x17 && tag == 0x18) || expected == 0x00
+
+-- the first component that an element with this tag can be, and those that may come after it
+abbrev pub fitting : ℕ → List Component → Option (Component × List Component)
+fitting tag [] = None
+fitting tag (component ∷ others) =
+    if has_tag component.0 tag
+    then Some (component, if comes_again component.1 then component ∷ others else others)
+    else (if may_be_absent component.1 then fitting tag others else None)
+
+-- whether none of these has to come
+abbrev pub may_end : List Component → Bool
+may_end [] = true
+may_end (component ∷ others) = may_be_absent component.1 && may_end others
+
+-- where a level ends: at an end-of-contents (X.690 section 8.1.5), or with the bytes
+unfoldable pub end_at : Bool → Bool → List Component → List ℕ → Option ℕ
+end_at loose marked some [] =
+    if loose || (not marked && may_end some) then Some 0 else None
+end_at loose marked some (a ∷ []) = None
+end_at loose marked some (a ∷ b ∷ bytes) =
+    if (a == 0x00 && b == 0x00) && (marked && (loose || may_end some)) then Some 2 else None
+
+-- whether a content begins with these bytes, and has at most 12
+abbrev pub is_of : List ℕ → List ℕ → Bool
+is_of front bytes = nat_le (length bytes) 12 && bytes_eq (take (length front) bytes) front
+
+-- whether a content follows the table
+unfoldable pub admits : Header → Content → List ℕ → Bool
+admits header (contents.Short most) bytes = is_whole header bytes && nat_le (length bytes) most
+admits header contents.Version bytes = is_whole header bytes && length bytes == 1
+admits header (contents.Of family) bytes = is_whole header bytes && is_of (identifiers family) bytes
+admits header contents.Point bytes = is_primitive header
+admits header (contents.Whole structure) bytes = is_primitive header
+admits header _ bytes = true
+
+abbrev pub component_by : Header → List ℕ → Option (Component × List Component)
+    → Option (Component × List Component)
+component_by header content None = None
+component_by header content (Some found) =
+    if admits header found.0.2 content then Some found else None
+
+-- the first component that such an element can be, and those that may come after it
+abbrev pub component_at : ℕ → Header → List ℕ → List Component
+    → Option (Component × List Component)
+component_at tag header content some = component_by header content (fitting tag some)
+
+-- the next element: its header and the bytes of it, its component, those after it, whether it is
+-- one of those that could come, its content, and the bytes after it
+pub record Step : Type 0 where
+  pub header : Header
+  pub head : List ℕ
+  pub component : Component
+  pub others : List Component
+  pub follows : Bool
+  pub content : List ℕ
+  pub rest : List ℕ
+
+-- the same in the code
+abbrev pub step_of : CodeStep → Step
+step_of step = record {
+  header = step.header;
+  head = step.head.now;
+  component = step.component;
+  others = step.others.now;
+  follows = step.follows;
+  content = step.content.now;
+  rest = step.rest.now;
+}
+
+abbrev pub step_made : Bool → List ℕ → Header × List ℕ × List ℕ
+    → Option (Component × List Component) → Option Step
+step_made misfit bytes element (Some found) = Some (record {
+  header = element.0;
+  head = take element.0.len bytes;
+  component = found.0;
+  others = found.1;
+  follows = true;
+  content = element.1;
+  rest = element.2;
+})
+step_made misfit bytes element None =
+    if misfit then Some (record {
+      header = element.0;
+      head = take element.0.len bytes;
+      component = tables.ELEMENT;
+      others = components structures.Any;
+      follows = false;
+      content = element.1;
+      rest = element.2;
+    }) else None
+
+abbrev pub step_with : Bool → ℕ → List Component → List ℕ → Option (Header × List ℕ × List ℕ)
+    → Option Step
+step_with misfit tag some bytes None = None
+step_with misfit tag some bytes (Some element) =
+    step_made misfit bytes element (component_at tag element.0 element.1 some)
+
+-- the next element, which may be cut or not, and be none of these components or not
+unfoldable pub step_by : Bool → Bool → List Component → List ℕ → Option Step
+step_by cut misfit some [] = None
+step_by cut misfit some (tag ∷ bytes) =
+    step_with misfit tag some (tag ∷ bytes) (element_at cut (tag ∷ bytes))
+
+-- the next element of a level at a depth: at most 64 elements are inside each other
+unfoldable pub step_at : Bool → ℕ → List Component → List ℕ → Option Step
+step_at loose depth some bytes =
+    if nat_lt depth 64 then step_by loose loose some bytes else None
+
+-- ---- the bytes after a level
+
+-- whether the length of an element is indefinite
+abbrev pub is_open : Step → Bool
+is_open step = is_none step.header.content_len
+
+-- whether the content of a constructed element is any elements
+abbrev pub is_elements : Bool → Content → Bool
+is_elements loose contents.Free = true
+is_elements loose _ = loose
+
+-- the structure that a content is drawn as
+unfoldable pub opened_in : (Structure → List ℕ → Bool) → Bool → Header → Content → List ℕ
+    → Option Structure
+opened_in whole loose header (contents.Inside structure) bytes = Some structure
+opened_in whole loose header (contents.Whole structure) bytes =
+    if whole structure bytes then Some structure else None
+opened_in whole loose header content bytes =
+    if is_none header.content_len || (header.tag.constructed && is_elements loose content)
+    then Some structures.Any else None
+
+abbrev pub opened_by : (Structure → List ℕ → Bool) → Bool → Step → Option Structure
+opened_by whole loose step = opened_in whole loose step.header step.component.2 step.content
+
+-- a content that follows its structure to the end is drawn so
+abbrev pub inside_loose : Content → Bool → Bool
+inside_loose (contents.Whole structure) loose = false
+inside_loose _ loose = loose
+
+abbrev pub after_inside : Bool → List ℕ → Option (List ℕ) → Option (List ℕ)
+after_inside marked rest None = None
+after_inside true rest (Some after) = Some after
+after_inside false rest (Some after) = Some rest
+
+abbrev pub rest_with : (Structure → Option (List ℕ)) → Option Structure → Step → Option (List ℕ)
+rest_with inside None step = Some step.rest
+rest_with inside (Some structure) step =
+    after_inside (is_open step) step.rest (inside structure)
+
+abbrev pub rest_next : (List ℕ → Option (List ℕ)) → Option (List ℕ) → Option (List ℕ)
+rest_next next None = None
+rest_next next (Some rest) = next rest
+
+abbrev pub rest_by : List ℕ → (Step → Option (List ℕ))
+    → (List Component → List ℕ → Option (List ℕ)) → Option ℕ → Option Step → Option (List ℕ)
+rest_by bytes after next (Some n) step = Some (drop n bytes)
+rest_by bytes after next None None = None
+rest_by bytes after next None (Some step) =
+    rest_next (λ rest. next step.others rest) (after step)
+
+-- The bytes after a level at a depth, which an end-of-contents ends or not, unless its rows end in
+-- it; at most so many elements, one after or inside the other.
+abbrev pub rest_of : Bool → ℕ → ℕ → Bool → List Component → List ℕ → Option (List ℕ)
+rest_of loose zero depth marked some bytes = None
+rest_of loose (suc most) depth marked some bytes =
+    rest_by bytes
+    (λ step. rest_with
+    (λ structure. rest_of (inside_loose step.component.2 loose) most (depth + 1) (is_open step)
+    (components structure) step.content)
+    (opened_by (λ structure content. is_some
+    (rest_of false most (depth + 1) false (components structure) content)) loose step)
+    step)
+    (λ others rest. rest_of loose most depth marked others rest)
+    (end_at loose marked some bytes) (step_at loose depth some bytes)
+
+-- whether a content follows a structure to its end
+abbrev pub is_followed : ℕ → ℕ → Structure → List ℕ → Bool
+is_followed most depth structure content =
+    is_some (rest_of false most depth false (components structure) content)
+
+-- the structure that an element is drawn as, in which elements are at this depth
+abbrev pub opened_of : Bool → ℕ → ℕ → Step → Option Structure
+opened_of loose most depth step =
+    opened_by (λ structure content. is_followed most depth structure content) loose step
+
+-- the bytes after an element
+abbrev pub rest_after : Bool → ℕ → ℕ → Step → Option (List ℕ)
+rest_after loose most depth step =
+    rest_with
+    (λ structure. rest_of (inside_loose step.component.2 loose) most depth (is_open step)
+    (components structure) step.content)
+    (opened_of loose most depth step) step
+
+-- ---- rows
+
+-- so many bytes after these of what is given
+abbrev pub given_part : List ℕ → ℕ → ℕ → List ℕ
+given_part given start len = take len (drop start given)
+
+abbrev pub around : Place → Place
+around place = record place { depth = place.depth - 1 }
+
+-- where a level ends: what is missing, and an end-of-contents
+abbrev pub end_rows : Place → List Component → ℕ → List Row
+end_rows place some len =
+    (if may_end some then [] else NotDrawn place some 0 [] ∷ [])
+    ++ (if nat_lt 0 len then EndOfContents (around place) ∷ [] else [])
+
+abbrev pub inside_rules : How → Content → How
+inside_rules how content = record how { loose = inside_loose content how.loose }
+
+abbrev pub inside : Place → Step → Place
+inside place step =
+    record place { offset = place.offset + step.header.len; depth = place.depth + 1 }
+
+-- the place where so many bytes are left of those at a place
+abbrev pub after : Place → List ℕ → List ℕ → Place
+after place bytes rest = record place { offset = place.offset + (length bytes - length rest) }
+
+-- an element as a row
+abbrev pub view : How → Place → List Component → Bool → Step → ElementView
+view how place some opened step = record {
+  header = step.header;
+  head = step.head;
+  component = step.component;
+  expected = if step.follows then [] else some;
+  follows = step.follows;
+  len = if is_open step then 0 else length step.content;
+  shown = take (shown_len how.small step.header step.component.2 step.content) step.content;
+  content = if opened then []
+      else given_part how.given (place.offset + step.header.len) (length step.content);
+  opened = opened;
+}
+
+abbrev pub inside_rows : (Structure → List Row) → Option Structure → List Row
+inside_rows rows None = []
+inside_rows rows (Some structure) = rows structure
+
+abbrev pub element_rows : How → Place → List Component → (Structure → List Row)
+    → Option Structure → Step → List Row
+element_rows how place some rows opened step =
+    Element place (view how place some (is_some opened) step) ∷ inside_rows rows opened
+
+abbrev pub next_rows : (List ℕ → List Row) → Option (List ℕ) → List Row
+next_rows next None = []
+next_rows next (Some rest) = next rest
+
+abbrev pub rows_with : How → Place → List Component → (Step → List Row)
+    → (Step → Option (List ℕ)) → (List Component → List ℕ → List Row) → Option ℕ → Option Step
+    → List Row
+rows_with how place some element rest next (Some n) step = end_rows place some n
+rows_with how place some element rest next None None =
+    NotDrawn place some (place.end - place.offset)
+    (given_part how.given place.offset (place.end - place.offset)) ∷ []
+rows_with how place some element rest next None (Some step) =
+    element step ++ next_rows (λ after. next step.others after) (rest step)
+
+-- the rows of a level at a place
+abbrev pub rows_of : How → ℕ → Bool → Place → List Component → List ℕ → List Row
+rows_of how zero marked place some bytes =
+    NotDrawn place some (place.end - place.offset)
+    (given_part how.given place.offset (place.end - place.offset)) ∷ []
+rows_of how (suc most) marked place some bytes =
+    rows_with how place some
+    (λ step. element_rows how place some
+    (λ structure. rows_of (inside_rules how step.component.2) most (is_open step)
+    (inside place step) (components structure) step.content)
+    (opened_of how.loose most (place.depth + 1) step) step)
+    (λ step. rest_after how.loose most (place.depth + 1) step)
+    (λ others rest. rows_of how most marked (after place bytes rest) others rest)
+    (end_at how.loose marked some bytes) (step_at how.loose place.depth some bytes)
+
+-- the rows of an element at a place
+abbrev pub step_rows : How → ℕ → Place → List Component → Step → List Row
+step_rows how most place some step =
+    element_rows how place some
+    (λ structure. rows_of (inside_rules how step.component.2) most (is_open step)
+    (inside place step) (components structure) step.content)
+    (opened_of how.loose most (place.depth + 1) step) step

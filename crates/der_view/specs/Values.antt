@@ -12,73 +12,13 @@ use Rattle.der_types.specs.ObjectIdentifiers.{is_object_identifier}
 use Rattle.der_types.specs.Strings.{is_visible}
 use Rattle.der_types.specs.Times.{is_generalized_time, is_utc_time}
 use Rattle.der_view.specs.Characters.{codes_of, escaped_all, string_codes}
-use Rattle.der_view.specs.Names.{NameView, name_by, name_view}
+use Rattle.der_view.specs.Names.{name_by}
 use Rattle.der_view.specs.declared.header.Class.{Class}
 use Rattle.der_view.specs.declared.header.Class.TheVariants as classes
 use Rattle.der_view.specs.declared.header.Tag.{Tag}
 use Rattle.der_view.specs.declared.values.Value.{Value}
 use Rattle.der_view.specs.declared.values.Value.TheVariants as values
 use Rattle.der_view.specs.declared.values.arcs.Arcs.{Arcs}
-
--- X.680 section 8.4, table 1: the type with this tag number
-abbrev pub universal_type : ℕ → Option (List ℕ)
-universal_type number =
-    if number == 1 then Some (codes "BOOLEAN")
-    else (if number == 2 then Some (codes "INTEGER")
-    else (if number == 3 then Some (codes "BIT STRING")
-    else (if number == 4 then Some (codes "OCTET STRING")
-    else (if number == 5 then Some (codes "NULL")
-    else (if number == 6 then Some (codes "OBJECT IDENTIFIER")
-    else (if number == 7 then Some (codes "ObjectDescriptor")
-    else (if number == 8 then Some (codes "EXTERNAL")
-    else (if number == 9 then Some (codes "REAL")
-    else (if number == 10 then Some (codes "ENUMERATED")
-    else (if number == 11 then Some (codes "EMBEDDED PDV")
-    else (if number == 12 then Some (codes "UTF8String")
-    else (if number == 13 then Some (codes "RELATIVE-OID")
-    else (if number == 14 then Some (codes "TIME")
-    else (if number == 16 then Some (codes "SEQUENCE")
-    else (if number == 17 then Some (codes "SET")
-    else (if number == 18 then Some (codes "NumericString")
-    else (if number == 19 then Some (codes "PrintableString")
-    else (if number == 20 then Some (codes "TeletexString")
-    else (if number == 21 then Some (codes "VideotexString")
-    else (if number == 22 then Some (codes "IA5String")
-    else (if number == 23 then Some (codes "UTCTime")
-    else (if number == 24 then Some (codes "GeneralizedTime")
-    else (if number == 25 then Some (codes "GraphicString")
-    else (if number == 26 then Some (codes "VisibleString")
-    else (if number == 27 then Some (codes "GeneralString")
-    else (if number == 28 then Some (codes "UniversalString")
-    else (if number == 29 then Some (codes "CHARACTER STRING")
-    else (if number == 30 then Some (codes "BMPString")
-    else None))))))))))))))))))))))))))))
-
--- X.690 section 8.1.2.2: the class of a tag, before its number
-abbrev pub class_name : Class → List ℕ
-class_name classes.Universal = codes "UNIVERSAL "
-class_name classes.Application = codes "APPLICATION "
-class_name classes.Context = []
-class_name classes.Private = codes "PRIVATE "
-
--- the type of X.680 with this tag, if there is one
-abbrev pub type_by : Class → ℕ → Option (List ℕ)
-type_by classes.Universal number = universal_type number
-type_by classes.Application number = None
-type_by classes.Context number = None
-type_by classes.Private number = None
-
--- the class and the number of a tag in brackets
-abbrev pub in_brackets : Tag → List ℕ
-in_brackets tag = codes "[" ++ (class_name tag.class ++ (decimal tag.number ++ codes "]"))
-
-abbrev pub name_or_class : Option (List ℕ) → Tag → List ℕ
-name_or_class (Some name) tag = name
-name_or_class None tag = in_brackets tag
-
--- the name of the type, or else the class and the number of the tag
-abbrev pub type_name : Tag → List ℕ
-type_name tag = name_or_class (type_by tag.class tag.number) tag
 
 -- the words for one of a thing, or for another number of them
 abbrev pub one_or_more : ℕ → List ℕ → List ℕ → List ℕ
@@ -165,7 +105,7 @@ pub data ValueView : Type 0 where
   Bits : ℕ → ℕ → ValueView
   Text : List ℕ → ValueView
   Time : List ℕ → List ℕ → ValueView
-  Identifier : Option NameView → List ℕ → ValueView
+  Identifier : Option (List ℕ) → List ℕ → ValueView
   String : List ℕ → ValueView
 
 abbrev pub value_view : Value → ValueView
@@ -174,7 +114,8 @@ value_view (values.Count count) = Count count
 value_view (values.Bits count unused) = Bits count unused
 value_view (values.Text text) = Text text.bytes
 value_view (values.Time time end) = Time time end.now
-value_view (values.Identifier name arcs) = Identifier (option_map name_view name) (arcs_view arcs)
+value_view (values.Identifier name arcs) = Identifier (option_map (λ name. name.now) name)
+    (arcs_view arcs)
 value_view (values.String characters) = String (codes_of characters)
 
 -- a text, or else the number of bytes
@@ -193,19 +134,19 @@ abbrev pub identifier_or_count : Option (List ℕ) → List ℕ → ValueView
 identifier_or_count (Some arcs) content = Identifier (name_by content) arcs
 identifier_or_count None content = Count (length content)
 
--- X.690 sections 11.7 and 11.8: a time to the second and what follows it, or the characters of what
--- is no time in DER
-abbrev pub utc_time_or_text : List ℕ → ValueView
-utc_time_or_text content =
+-- X.690 sections 11.7 and 11.8: a time to the second and what follows it, or the number of
+-- bytes of what is no time in DER
+abbrev pub utc_time_or_count : List ℕ → ValueView
+utc_time_or_count content =
     if is_utc_time content
     then Time (time_text (century (slice_index content 0)) (take 12 content)) (drop 12 content)
-    else String content
+    else Count (length content)
 
-abbrev pub generalized_time_or_text : List ℕ → ValueView
-generalized_time_or_text content =
+abbrev pub generalized_time_or_count : List ℕ → ValueView
+generalized_time_or_count content =
     if is_generalized_time content
     then Time (time_text (take 2 content) (take 12 (drop 2 content))) (drop 14 content)
-    else String content
+    else Count (length content)
 
 -- the characters, or else the number of bytes
 abbrev pub string_or_count : Option (List ℕ) → List ℕ → ValueView
@@ -224,13 +165,15 @@ universal_value number content =
     else (if number == 3 then bits_or_count (bit_string_text content) content
     else (if number == 5 then null_value content
     else (if number == 6 then identifier_or_count (arcs_by content) content
-    else (if number == 23 then utc_time_or_text content
-    else (if number == 24 then generalized_time_or_text content
+    else (if number == 23 then utc_time_or_count content
+    else (if number == 24 then generalized_time_or_count content
     else string_or_count (string_codes number content) content))))))
 
--- the characters of a field, if all of them print
+-- the characters of a field, if it has some, and all of them print
 abbrev pub field_value : List ℕ → ValueView
-field_value content = if is_visible content then String content else Count (length content)
+field_value content =
+    if nat_lt 0 (length content) && is_visible content then String content
+    else Count (length content)
 
 abbrev pub class_value : Class → ℕ → List ℕ → ValueView
 class_value classes.Universal number content = universal_value number content
@@ -245,9 +188,9 @@ abbrev pub some_unused : ℕ → List ℕ
 some_unused unused = if unused == 0 then [] else unused_text unused
 
 -- an identifier, after its name if it has one
-abbrev pub identifier_text : Option NameView → List ℕ → List ℕ
+abbrev pub identifier_text : Option (List ℕ) → List ℕ → List ℕ
 identifier_text None arcs = dotted arcs
-identifier_text (Some name) arcs = name.name ++ (codes " (" ++ (dotted arcs ++ codes ")"))
+identifier_text (Some name) arcs = name ++ (codes " (" ++ (dotted arcs ++ codes ")"))
 
 -- what is shown of a content, after the name of its type
 abbrev pub value_text : ValueView → List ℕ

@@ -1,11 +1,29 @@
 //! The header of an element in BER (X.690 section 8.1).
 ghost use Rattle.std.specs.Prelude.{◌≡◌, ◌<◌, ◌≤◌, ◌+◌, ◌*◌, ◌%◌, ◌∷◌, [], length, IfOk};
 ghost use Rattle.sec1_der.specs.Elements.{number_of};
-ghost use Rattle.der_view.specs.Marks.{length_len};
 ghost use Rattle.der_view.specs.Headers.{class_of, header_of, is_type, length_at, number_after};
 ghost use Rattle.der_view.specs.Headers.{tag_at};
 
-use crate::mark::ElementFault;
+/// Why bytes begin with no header.
+#[derive(Clone, Copy)]
+pub enum ElementFault {
+    /// The tag byte is 00 or 20, which is reserved (X.690 section 8.1.5).
+    ReservedTag(u8),
+    /// The bytes end inside the tag.
+    TagCut,
+    /// The tag number is 2^28 or more.
+    TagTooLarge,
+    /// The bytes end inside the length.
+    LengthCut,
+    /// The length byte is FF, which is reserved (X.690 section 8.1.3.5).
+    ReservedLength,
+    /// The length has more than four bytes, as this byte says.
+    LongLength(u8),
+    /// The length is above 16,777,215.
+    LengthTooLarge,
+    /// The length of a primitive element is indefinite (X.690 section 8.1.3.2).
+    IndefinitePrimitive,
+}
 
 /// The class of a tag (X.690 section 8.1.2.2).
 #[derive(Clone, Copy)]
@@ -173,19 +191,4 @@ fn number(a: u8, b: u8, c: u8) -> usize
     ensures { result ≡ number_of (a ∷ b ∷ c ∷ []) }
 {
     (a as usize * 0x100 + b as usize) * 0x100 + c as usize
-}
-
-/// Returns the number of bytes of this length's shortest form (X.690 section 10.1).
-pub(crate) fn length_len(length: usize) -> usize
-    ensures { result ≡ length_len length }
-{
-    if length < 0x80 {
-        1
-    } else if length < 0x100 {
-        2
-    } else if length < 0x1_0000 {
-        3
-    } else {
-        4
-    }
 }

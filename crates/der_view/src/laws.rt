@@ -1,133 +1,144 @@
-//! Laws of the rows, for callers to cite. Each law is the contract of a function, which does
+//! Laws of pictures, for callers to cite. Each law is the contract of a function, which does
 //! nothing else.
-ghost use Rattle.std.specs.Prelude.{◌≡◌, ◌≢◌, ◌≤◌, ◌++◌, All, Bool, List, None, ℕ, drop, false};
-ghost use Rattle.std.specs.Prelude.{length};
-ghost use Rattle.sec1_der.specs.Faults.{tree_fault};
+ghost use Rattle.std.specs.Prelude.{◌≡◌, ◌<◌, ◌≤◌, ◌∷◌, [], ℕ, Bool, false, true, List, length};
+ghost use Rattle.std.specs.Prelude.{IsSomeAnd};
+ghost use Rattle.sec1.specs.Keys.{IsKeyOf, Key};
+ghost use Rattle.der_view.specs.Drawings.{has_key, is_key_of, picture_text};
+ghost use Rattle.der_view.specs.Grammar.{Component, Form};
 ghost use Rattle.der_view.specs.Headers.{max_content_len};
-ghost use Rattle.der_view.specs.Inputs.{ArePictures};
-ghost use Rattle.der_view.specs.OpenLaws.{AreUnseenCut, AreUnseenInside, CutNumbersAreUnseen};
-ghost use Rattle.der_view.specs.OpenLaws.{DifferInKey, DifferUnseen, IsRootBefore, IsRootOfCut};
-ghost use Rattle.der_view.specs.OpenLaws.{KeyIsUnseen, NumbersAreUnseen, OfCurveKeys, OfEcKeys};
-ghost use Rattle.der_view.specs.OpenLaws.{OfNumber, OfNumberKeys, OpenBytesDecide};
-ghost use Rattle.der_view.specs.OpenLaws.{container_bytes, key_bytes, number_bytes};
-ghost use Rattle.der_view.specs.Pictures.{AreRows, AreRowsOf};
-ghost use Rattle.der_view.specs.Plans.{plan_of};
-ghost use Rattle.der_view.specs.RowLaws.{HidesContent, IsSameRow};
-ghost use Rattle.der_view.specs.Rows.{IsNext, IsOpen, Undrawn, bytes_of_rows};
-ghost use Rattle.der_view.specs.Sources.{is_text, is_utf16, sources_of};
-ghost use Rattle.der_view.specs.TreeLaws.{AreWhole, IsBytes, MayBeWhole, outer_rows};
-ghost use Rattle.der_view.specs.declared.row.OpenRow.{OpenRow};
+ghost use Rattle.der_view.specs.Keys.{AreLevels, AreParts, DifferIn, IsContent, container};
+ghost use Rattle.der_view.specs.Keys.{integers, key_bytes, key_in, sequence};
+ghost use Rattle.der_view.specs.Masks.{AreAlike, mask_as, masked};
+ghost use Rattle.der_view.specs.Pictures.{picture, plan_of, rows_as, whole_as};
+ghost use Rattle.der_view.specs.RowLaws.{AllFollow, AreAt, rows_len};
+ghost use Rattle.der_view.specs.Rows.{How};
+ghost use Rattle.der_view.specs.Sources.{Der, has_begin, is_text, sources_of};
+ghost use Rattle.der_view.specs.declared.plan.Way.TheVariants as ways;
+ghost use Rattle.der_view.specs.declared.walk.Place.{Place};
 
-/// The bytes of all rows, in order, are the input, and those of some rows and then those that have
-/// no row yet are what had none before: none is left out, and none is drawn twice.
-pub fn rows_are_input()
-    ensures all { (all : Bool) (input : List ℕ) (rows : List OpenRow) → AreRows all input rows
-        → input ≡ bytes_of_rows input rows }
-    ensures some { (input : List ℕ) (rows : List OpenRow) (old new : Undrawn)
-        → AreRowsOf rows old new → old.left ≡ drop old.offset input
-        → old.left ≡ bytes_of_rows input rows ++ new.left }
+use crate::drawing::is_key;
+use crate::grammar::{Name, Secrecy};
+
+/// The rows of bytes are those of their mask, in which each byte that isn't shown is 0, and each
+/// that isn't drawn FF; and so is whether they follow.
+pub fn rows_are_of_mask()
+    ensures rows { (loose small is_public : Bool) (root : Component) (bytes : List ℕ)
+        → rows_as (record { loose = loose; small = small; given = [] }) root is_public
+        (mask_as loose small root bytes)
+        ≡ rows_as (record { loose = loose; small = small; given = [] }) root is_public bytes }
+    ensures whole { (loose small : Bool) (root : Component) (bytes : List ℕ)
+        → whole_as loose root (mask_as loose small root bytes) ≡ whole_as loose root bytes }
+    ensures len { (loose small : Bool) (root : Component) (bytes : List ℕ)
+        → length (mask_as loose small root bytes) ≡ length bytes }
 {}
 
-/// The next row, and what is left after it, are functions of the bytes that have no row yet, of the
-/// elements that are open, and of what is known of the whole input.
-pub fn next_is_one()
-    ensures { (old : Undrawn) (a b : OpenRow) (x y : Undrawn) → IsNext old a x → IsNext old b y
-        → IsOpen old.all old.plan.guarded old.left a → IsOpen old.all old.plan.guarded old.left b
-        → IsSameRow a b × (x ≡ y) }
+/// Bytes that have the same masks have the same plan and the same picture.
+pub fn pictures_are_of_masks()
+    ensures picture { (a b : List ℕ) → AreAlike a b → picture false a ≡ picture false b }
+    ensures plan { (a b : List ℕ) → AreAlike a b → plan_of a ≡ plan_of b }
 {}
 
-/// Unless all contents are shown, no row has a content, and of its bytes no more is shown than may
-/// be seen: none of an OCTET STRING, as a private key is, and none of a long INTEGER.
-pub fn contents_are_hidden()
-    ensures { (input : List ℕ) (rows : List OpenRow) → AreRows false input rows
-        → All (HidesContent (plan_of input).guarded input) rows }
+/// Private keys that differ in one private number or string alone have the same masks, however the
+/// bytes go on, and wherever they end; those in PKCS #8 if the privateKey around them is whole. A
+/// key with several private numbers, as of RSA, differs in one after the other. A number has more
+/// than 8 bytes: one of fewer is shown in a whole tree that isn't the key.
+pub fn keys_are_unseen()
+    // RFC 5915 section 3: ECPrivateKey
+    ensures ec { (m n : ℕ) (version x y rest : List ℕ) → length version ≤ max_content_len
+        → DifferIn n x y → IsContent m (key_in [] ((0x02, version) ∷ []) 0x04 n x) rest
+        → AreAlike (key_bytes m [] ((0x02, version) ∷ []) 0x04 n x rest)
+        (key_bytes m [] ((0x02, version) ∷ []) 0x04 n y rest) }
+    // RFC 8017 appendix A.1.2: RSAPrivateKey, from the fourth number on; and the sixth of a DSA key
+    ensures number { (m n : ℕ) (numbers : List (List ℕ)) (x y rest : List ℕ)
+        → AreParts (integers numbers) → 3 ≤ length numbers → length numbers ≤ 8 → 8 < n
+        → DifferIn n x y
+        → IsContent m (key_in [] (integers numbers) 0x02 n x) rest
+        → AreAlike (key_bytes m [] (integers numbers) 0x02 n x rest)
+        (key_bytes m [] (integers numbers) 0x02 n y rest) }
+    // RFC 5958 section 2: ECPrivateKey in PKCS #8
+    ensures contained_ec { (m n : ℕ) (version algorithm inner after x y rest : List ℕ)
+        → AreLevels (container version algorithm after ∷ sequence ∷ []) ((0x02, inner) ∷ []) 0x04
+        n x → DifferIn n x y
+        → IsContent m (key_in (container version algorithm after ∷ sequence ∷ [])
+        ((0x02, inner) ∷ []) 0x04 n x) rest
+        → AreAlike (key_bytes m (container version algorithm after ∷ sequence ∷ [])
+        ((0x02, inner) ∷ []) 0x04 n x rest)
+        (key_bytes m (container version algorithm after ∷ sequence ∷ [])
+        ((0x02, inner) ∷ []) 0x04 n y rest) }
+    // RSAPrivateKey in PKCS #8
+    ensures contained_rsa { (m n : ℕ) (version algorithm after : List ℕ)
+        (numbers : List (List ℕ)) (x y rest : List ℕ)
+        → AreLevels (container version algorithm after ∷ sequence ∷ []) (integers numbers) 0x02 n x
+        → 3 ≤ length numbers → length numbers ≤ 8 → 8 < n → DifferIn n x y
+        → IsContent m (key_in (container version algorithm after ∷ sequence ∷ [])
+        (integers numbers) 0x02 n x) rest
+        → AreAlike (key_bytes m (container version algorithm after ∷ sequence ∷ [])
+        (integers numbers) 0x02 n x rest)
+        (key_bytes m (container version algorithm after ∷ sequence ∷ [])
+        (integers numbers) 0x02 n y rest) }
+    // a DSA or Diffie-Hellman key in PKCS #8
+    ensures contained_number { (m n : ℕ) (version algorithm after x y rest : List ℕ)
+        → AreLevels (container version algorithm after ∷ []) [] 0x02 n x → 8 < n → DifferIn n x y
+        → IsContent m (key_in (container version algorithm after ∷ []) [] 0x02 n x) rest
+        → AreAlike (key_bytes m (container version algorithm after ∷ []) [] 0x02 n x rest)
+        (key_bytes m (container version algorithm after ∷ []) [] 0x02 n y rest) }
+    // RFC 8410 section 7: CurvePrivateKey in PKCS #8
+    ensures contained_octets { (m n : ℕ) (version algorithm after x y rest : List ℕ)
+        → AreLevels (container version algorithm after ∷ []) [] 0x04 n x → DifferIn n x y
+        → IsContent m (key_in (container version algorithm after ∷ []) [] 0x04 n x) rest
+        → AreAlike (key_bytes m (container version algorithm after ∷ []) [] 0x04 n x rest)
+        (key_bytes m (container version algorithm after ∷ []) [] 0x04 n y rest) }
 {}
 
-/// Inputs that differ only in bytes which aren't shown have the same picture, and the same status.
-pub fn open_bytes_decide()
-    ensures { OpenBytesDecide }
+/// Keys with the same curve and public key, and private keys as long, have the same masks.
+pub fn keys_are_alike()
+    ensures { (k l : Key) (a b : List ℕ) → IsKeyOf k a → IsKeyOf l b
+        → k.parameters ≡ l.parameters → k.public_key ≡ l.public_key
+        → length k.private_key ≡ length l.private_key → length a ≤ max_content_len
+        → AreAlike a b }
 {}
 
-/// Of two such inputs that are no text, `draw` has written the same and returned the same, as
-/// [`open_bytes_decide`] says: of `a` the text `x` and `is_key`, and of `b` the others.
-pub fn drawn_alike(a: &[u8], b: &[u8], x: &[u8], y: &[u8], is_key: bool, is_other: bool)
-    requires first { ArePictures false (sources_of a.now) x.now is_key }
-    requires second { ArePictures false (sources_of b.now) y.now is_other }
-    ensures text { is_text a.now ≡ false → is_utf16 a.now ≡ false → is_text b.now ≡ false
-        → is_utf16 b.now ≡ false → DifferUnseen a.now b.now → x.now ≡ y.now }
-    ensures status { is_text a.now ≡ false → is_utf16 a.now ≡ false → is_text b.now ≡ false
-        → is_utf16 b.now ≡ false → DifferUnseen a.now b.now → is_key ≡ is_other }
+/// The bytes of a key are known to be an ECPrivateKey, to the last one, and drawn strictly: each
+/// element follows.
+pub fn keys_are_known()
+    ensures form { (key : Key) (a : List ℕ) → IsKeyOf key a → length a ≤ max_content_len
+        → IsSomeAnd (plan_of a).form
+        (λ form. (form.0.3 ≡ Name.EcPrivateKey) × (form.1 ≡ Secrecy.Private)) }
+    ensures whole { (key : Key) (a : List ℕ) → IsKeyOf key a → length a ≤ max_content_len
+        → (plan_of a).is_whole ≡ true }
+    ensures way { (key : Key) (a : List ℕ) → IsKeyOf key a → length a ≤ max_content_len
+        → (plan_of a).way ≡ ways.Strict }
+    ensures follow { (key : Key) (a : List ℕ) → IsKeyOf key a → length a ≤ max_content_len
+        → AllFollow (picture false a) }
 {}
 
-/// Bytes that begin as an ECPrivateKey does (RFC 5915 section 3) have the same picture, and the
-/// same status, whatever the private key, of which no byte is shown: also if they are damaged or
-/// cut off after its header.
-pub fn key_is_unseen()
-    ensures pictures { KeyIsUnseen }
-    ensures unseen { (a b : List ℕ) → DifferInKey a b → DifferUnseen a b }
+/// Each byte is in one row, and the rows are in order: each begins where those before it end.
+pub fn rows_are_bytes()
+    ensures len { (all : Bool) (bytes : List ℕ) → rows_len (picture all bytes) ≡ length bytes }
+    ensures order { (all : Bool) (bytes : List ℕ) → AreAt 0 (picture all bytes) }
 {}
 
-/// `check_tree` accepts what is drawn whole: one root, where no row outside opened strings has a
-/// mark of an element's structure or a tag number above 30. What it accepts is drawn whole, if all
-/// of it is drawn, no tag is 20, and it has at most 16,777,215 bytes.
-pub fn trees_are_whole()
-    ensures tree { (all : Bool) (input : List ℕ) (rows : List OpenRow) → IsBytes input
-        → AreRows all input rows → AreWhole rows → tree_fault input ≡ None }
-    ensures whole { (all : Bool) (input : List ℕ) (rows : List OpenRow) → IsBytes input
-        → length input ≤ max_content_len → AreRows all input rows
-        → All MayBeWhole (outer_rows 0 rows) → tree_fault input ≡ None → AreWhole rows }
-{}
+/// Keys with the same curve and public key, and private keys as long, have the same picture: the
+/// same rows, and the same lines after them.
+pub fn keys_are_drawn_alike(a: &[u8], b: &[u8])
+    ensures { (k l : Key) → IsKeyOf k a.now → IsKeyOf l b.now → k.parameters ≡ l.parameters
+        → k.public_key ≡ l.public_key → length k.private_key ≡ length l.private_key
+        → length a.now ≤ max_content_len → picture_text false a.now ≡ picture_text false b.now }
+{
+    keys_are_alike();
+    keys_are_known();
+    pictures_are_of_masks();
+    let _ = is_key(a);
+    let _ = is_key(b);
+}
 
-/// What `check_tree` has accepted is drawn whole, as [`trees_are_whole`] says of any bytes.
-pub fn accepted_is_whole(input: &[u8])
-    requires { tree_fault input.now ≡ None }
-    ensures { (all : Bool) (rows : List OpenRow) → length input.now ≤ max_content_len
-        → AreRows all input.now rows → All MayBeWhole (outer_rows 0 rows) → AreWhole rows }
-{}
-
-/// What `check_tree` has refused isn't drawn whole, as [`trees_are_whole`] says of any bytes.
-pub fn refused_is_not_whole(input: &[u8])
-    requires { tree_fault input.now ≢ None }
-    ensures { (all : Bool) (rows : List OpenRow) → AreRows all input.now rows → ¬ AreWhole rows }
-{}
-
-/// Bytes that begin as an RSA key does (RFC 8017 appendix A.1.2), or as a DSA key, have the same
-/// picture, and the same status, whatever the numbers after the version, if these are as long: also
-/// if the bytes are damaged after them, or cut off anywhere.
-pub fn numbers_are_unseen()
-    ensures whole { NumbersAreUnseen }
-    ensures cut { CutNumbersAreUnseen }
-{}
-
-/// Bytes that begin as a container of a private key does (RFC 5958 section 2) have the same
-/// picture, and the same status, whatever key its privateKey begins with, if that is as long:
-/// however the privateKey goes on, with any bytes inside the algorithm, and any after all.
-pub fn contained_keys_are_unseen()
-    ensures curve_key { OfCurveKeys AreUnseenInside }
-    ensures ec_key { OfEcKeys AreUnseenInside }
-    ensures number { OfNumber AreUnseenInside }
-    ensures numbers { OfNumberKeys AreUnseenInside }
-{}
-
-/// Such bytes that are cut off anywhere have the same picture, and the same status.
-pub fn cut_containers_are_unseen()
-    ensures curve_key { OfCurveKeys AreUnseenCut }
-    ensures ec_key { OfEcKeys AreUnseenCut }
-    ensures number { OfNumber AreUnseenCut }
-    ensures numbers { OfNumberKeys AreUnseenCut }
-{}
-
-/// The header of a SEQUENCE in DER is the root's header in each of these laws, whatever length it
-/// says, up to 16,777,215.
-pub fn headers_are_roots()
-    ensures key { (version n : ℕ) (rest : List ℕ)
-        → IsRootBefore (λ root. key_bytes root version n rest) }
-    ensures numbers { (version : ℕ) (contents : List (List ℕ)) (rest : List ℕ)
-        → IsRootBefore (λ root. number_bytes root version contents rest) }
-    ensures cut_numbers { (version : ℕ) (contents : List (List ℕ)) (rest : List ℕ)
-        → IsRootOfCut (λ root. number_bytes root version contents rest) }
-    ensures container { (version : ℕ) (algorithm private_key rest : List ℕ)
-        → IsRootBefore (λ root. container_bytes root version algorithm private_key rest) }
-    ensures cut_container { (version : ℕ) (algorithm private_key rest : List ℕ)
-        → IsRootOfCut (λ root. container_bytes root version algorithm private_key rest) }
-{}
+/// Bytes that are all of their form are the one source of an input. Of one that is no text, and has
+/// no block of PEM in it, the picture says that it is a key exactly if it is one.
+pub fn keys_are_found(a: &[u8])
+    ensures source { (plan_of a.now).is_whole ≡ true → sources_of a.now ≡ Der a.now ∷ [] }
+    ensures key { is_text a.now ≡ false → has_begin a.now ≡ false
+        → length a.now ≤ max_content_len → has_key a.now ≡ is_key_of a.now }
+{
+    keys_are_known();
+    let _ = is_key(a);
+}

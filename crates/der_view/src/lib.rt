@@ -1,43 +1,64 @@
-//! What is seen of any input: DER, or a text that encodes some. There is a row for each header of
-//! BER (X.690 section 8.1), in order, with what may be shown of the contents; a last line says what
-//! the bytes are. [`faults`] says where bytes are refused. No call allocates.
+//! What is seen of bytes that may hold a private key: a row for each element that follows one
+//! table of structures, with no byte of a hidden content; where the bytes leave the table, the
+//! number of those that aren't drawn.
 #![tactic(auto)]
 
-mod children;
-mod element;
-mod expected;
+mod characters;
+mod content;
+mod drawing;
+mod facts;
 pub mod faults;
-mod field;
+mod form;
+mod grammar;
 mod header;
-mod key_form;
+mod identifier;
+mod json;
+mod known;
 pub mod laws;
-mod level;
-mod levels;
 mod line;
-mod mark;
+mod marks;
 mod names;
 mod output;
-mod picture;
-mod place;
+mod part;
 mod plan;
-mod public_form;
-mod row;
-mod rows;
-mod structure;
+mod printer;
+mod root;
+mod row_line;
+mod said;
+mod sentences;
+mod showing;
+mod step;
 mod text;
 mod universal;
 mod values;
+mod walk;
+mod words;
 
-pub use field::{Field, Form};
-pub use header::{Class, Header, Tag};
-pub use line::{Line, MAX_WIDTH};
-pub use mark::{ContentFault, ElementFault, Mark, Marks, Part};
-pub use names::{Name, Word, name_of};
+pub use characters::Characters;
+pub use drawing::{draw, is_key, said_lines};
+pub use facts::{Kind, Point, RowFacts, Shown};
+pub use form::draw_rows;
+pub use grammar::{
+    Component, ContainerStructure, Content, Family, Form, KeyStructure, Name, Presence,
+    PublicStructure, Secrecy, ServiceStructure, SignedStructure, Structure,
+};
+pub use header::{Class, ElementFault, Header, Tag};
+pub use line::Line;
+pub use marks::{Fault, Mark};
+pub use names::name_of;
 pub use output::Output;
-pub use picture::{Reading, Subject, Verdict, draw, is_key};
-pub use plan::Plan;
-pub use row::{Kind, OpenRow, Point, Shown};
-pub use rows::Rows;
-pub use text::{Block, Encoding, Found, Note, Source, Sources, room_len};
-pub use universal::universal_name;
-pub use values::{Arcs, Characters, ShortText, Value, content_fault, value_of};
+pub use plan::{Plan, Way, plan_of};
+pub use printer::{Printer, lines_are_short, write_line, write_rows};
+pub use said::{Reading, SaidLines};
+pub use sentences::{Advice, Sentence};
+pub use showing::{Options, show};
+pub use text::{
+    Armour, Block, Encoding, Flaw, Found, Source, Sources, armour_of, room_len, text_len,
+};
+pub use values::{Arcs, ShortText, Value, value_of};
+pub use walk::{Element, Place, Rows};
+
+#[cfg(test)]
+mod said_tests;
+#[cfg(test)]
+mod tests;

@@ -1,8 +1,8 @@
 //! A line of a picture, in memory of a fixed size.
 ghost use Rattle.std.specs.Prelude.{◌≡◌, ◌↔◌, ◌≤◌, ◌+◌, ◌-◌, ℕ, List, [], ◌∷◌, ◌++◌, IsTrue};
-ghost use Rattle.std.specs.Prelude.{length, ◌<◌, replicate, true};
+ghost use Rattle.std.specs.Prelude.{length, map, ◌<◌, replicate, true};
 ghost use Rattle.std.specs.Fmt.{decimal, digit_glyph};
-ghost use Rattle.der_view.specs.Lines.{kept, shown};
+ghost use Rattle.der_view.specs.Lines.{IsLine, kept, printed, shown};
 ghost use Rattle.hex.specs.Hex.{encode_upper};
 
 use arrayvec::ArrayVec;
@@ -142,21 +142,50 @@ impl Line {
         self.push_spaces(column.saturating_sub(self.len()));
     }
 
-    /// Shortens a text that is longer than [`MAX_WIDTH`] to its first 97 characters and `...`.
-    pub fn finish(&mut self)
-        ensures { self.new ≡ shown self.old }
+    /// Returns what is shown of the text: all of it, or if it is longer than [`MAX_WIDTH`], its
+    /// first 97 characters and `...`. A character that doesn't print in ASCII is a question mark,
+    /// whatever was appended.
+    pub fn finish(&self) -> Line
+        ensures text { result ≡ shown self.now }
+        ensures line { IsLine result }
     {
-        if self.text.len() > MAX_WIDTH {
-            self.text.truncate(MAX_WIDTH - 3);
-            self.push_fitting(b"...");
+        let mut line = Line::new();
+        let text = self.as_bytes();
+        if text.len() <= MAX_WIDTH {
+            line.push_printed(text);
+        } else {
+            line.push_printed(&text[..MAX_WIDTH - 3]);
+            line.push_fitting(b"...");
+        }
+        line
+    }
+
+    /// Appends characters that there is room for, with a question mark for each that doesn't print.
+    fn push_printed(&mut self, bytes: &[u8])
+        requires { length self.old + length bytes.now ≤ 101 }
+        ensures { self.new ≡ self.old ++ map printed bytes.now }
+    {
+        for byte in bytes {
+            self.push_fitting(&[printed(*byte)]);
         }
     }
 
-    /// Borrows the text that is kept: after [`finish`](Self::finish), what is shown.
+    /// Borrows the text that is kept.
     pub fn as_bytes(&self) -> &[u8]
         ensures { result.now ≡ self.now }
     {
         self.text.as_slice()
+    }
+}
+
+/// Returns a character that prints in ASCII, and a question mark for another one.
+fn printed(byte: u8) -> u8
+    ensures { result ≡ printed byte }
+{
+    if byte >= 0x20 && byte <= 0x7E {
+        byte
+    } else {
+        b'?'
     }
 }
 

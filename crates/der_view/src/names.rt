@@ -1,104 +1,47 @@
 //! The names of object identifiers.
-ghost use Rattle.std.specs.Prelude.{◌≡◌, find, option_map};
-ghost use Rattle.der_view.specs.Curves.{is_curve};
-ghost use Rattle.der_view.specs.Names.{curve_name_view, has_row, is_extension, name_by, name_view};
-ghost use Rattle.der_view.specs.Names.{named_in, row_by};
+ghost use Rattle.std.specs.Prelude.{◌≡◌, drop, length, option_map, take};
+ghost use Rattle.der_view.specs.Names.{name_by, name_in};
 
-mod family;
-mod word;
+mod table;
 
-use crate::names::family::Family;
-use curves::Curve;
-pub use word::Word;
+use table::table_of;
 
-/// The name of an object identifier.
-#[derive(Clone, Copy)]
-pub struct Name {
-    /// The name in the ASN.1 module that defines it, without `id-`; of a curve, its name in FIPS
-    /// 186-4, or else in SEC 2, ANSI X9.62 or RFC 5639.
-    pub name: &'static str,
-    /// What the identifier is of.
-    pub word: Word,
+/// Returns the name of the identifier with this content, in the standard that defines it, without
+/// `id-`; of a curve that of FIPS 186-4, or else of SEC 2, ANSI X9.62 or RFC 5639. `None` if it has
+/// no name here.
+#[tactic(auto, unfolding(crate::specs::Names::name_by))]
+pub fn name_of(content: &[u8]) -> Option<&'static [u8]>
+    ensures { option_map (λ name. name.now) result ≡ name_by content.now }
+{
+    let table = table_of(content.len());
+    find(table.len(), table, content)
 }
 
-/// Returns the name of the identifier with this content: that of the table, or else that of the
-/// curve; `None` if there is neither.
-pub fn name_of(content: &[u8]) -> Option<Name>
-    ensures { option_map name_view result ≡ name_by content.now }
+/// Returns the name after this content in a table of at most so many.
+#[tactic(auto, unfolding(crate::specs::Names::name_in))]
+fn find<'a>(most: usize, table: &'a [u8], content: &[u8]) -> Option<&'a [u8]>
+    ensures { option_map (λ name. name.now) result ≡ name_in most table.now content.now }
 {
-    match row_of(content) {
-        Some(name) => Some(name),
-        None => match Curve::from_content(content) {
-            Some(curve) => Some(curve_name(curve)),
-            None => None,
-        },
-    }
-}
-
-/// Returns `true` if an identifier's content is that of a curve.
-pub(crate) fn is_curve(content: &[u8]) -> bool
-    ensures { result ≡ is_curve content.now }
-{
-    match Curve::from_content(content) {
-        Some(_) => true,
-        None => false,
-    }
-}
-
-/// Returns `true` if the identifier with this content is that of an extension in the table.
-pub(crate) fn is_extension(content: &[u8]) -> bool
-    ensures { result ≡ is_extension (row_by content.now) }
-{
-    match row_of(content) {
-        Some(name) => matches!(&name.word, Word::Extension),
-        None => false,
-    }
-}
-
-/// Returns the name of the identifier with this content, if it is no curve's.
-fn row_of(content: &[u8]) -> Option<Name>
-    ensures { option_map name_view result ≡ row_by content.now }
-{
-    if content.is_empty() {
+    if most == 0 {
         return None;
     }
-    let before = content.len() - 1;
-    let arc = content[before];
-    named_in(family_of(&content[..before], arc), arc)
-}
-
-/// Returns the name that the family has for this arc.
-fn named_in(family: Option<Family>, arc: u8) -> Option<Name>
-    ensures { option_map name_view result ≡ named_in family arc }
-{
-    match family {
-        None => None,
-        Some(family) => {
-            let word = family.word();
-            match family.name(arc) {
-                None => None,
-                Some(name) => Some(Name { name, word }),
-            }
-        }
+    let (key, after) = split(table, content.len());
+    let Some((count, after)) = after.split_first() else {
+        return None;
+    };
+    let (name, rest) = split(after, usize::from(*count));
+    if key == content {
+        Some(name)
+    } else {
+        find(most - 1, rest, content)
     }
 }
 
-/// Returns the family of the identifier with this content before its last arc.
-fn family_of(base: &[u8], arc: u8) -> Option<Family>
-    ensures { result ≡ find (has_row base.now arc) Family.ALL }
+/// Returns as many of the bytes, or all if there are fewer, and those after them.
+#[tactic(auto, using(std::proofs::lemmas::List::take_min))]
+pub(crate) fn split(bytes: &[u8], count: usize) -> (&[u8], &[u8])
+    ensures front { result.0.now ≡ take count bytes.now }
+    ensures rest { result.1.now ≡ drop count bytes.now }
 {
-    Family::ALL
-        .iter()
-        .copied()
-        .find(|family| family.has_row(base, arc))
-}
-
-/// Returns the name of a curve.
-fn curve_name(curve: Curve) -> Name
-    ensures { name_view result ≡ curve_name_view curve }
-{
-    Name {
-        name: curve.alias().unwrap_or(curve.name()),
-        word: Word::Curve,
-    }
+    bytes.split_at(count.min(bytes.len()))
 }

@@ -1,255 +1,198 @@
-//! What the whole of some bytes is, and how much of it is drawn.
-ghost use Rattle.std.specs.Prelude.{◌≡◌, ◌≤◌, Ok, length, is_some};
-ghost use Rattle.der_view.specs.Marks.{length_mark};
-ghost use Rattle.der_view.specs.Plans.{begins_key, guarded_plan, in_row, is_guarded, is_high};
-ghost use Rattle.der_view.specs.Plans.{is_longer, leaf_plan, plan_by, plan_of, plan_of_children};
-ghost use Rattle.der_view.specs.Plans.{plan_of_root, public_plan, root_or};
-ghost use Rattle.der_view.specs.Places.{len_within};
+//! What bytes are, and how they are drawn.
+ghost use Rattle.std.specs.Prelude.{◌≡◌, ◌+◌, ◌<◌, ◌^◌, ◌||◌, false, nat_le};
+ghost use Rattle.std.specs.Prelude.{None, Some, if◌then◌else◌};
+ghost use Rattle.der_view.specs.CountLaws.{capped_left, capped_none, capped_parts};
+ghost use Rattle.der_view.specs.Pictures.{best, better, capped, is_nearer, is_strict, left_as};
+ghost use Rattle.der_view.specs.Pictures.{left_in, parts_as, parts_in, plan_of, way_of, whole_as};
 
-use crate::children::{Children, first_tag};
-use crate::element::is_tree;
-use crate::field::{Field, Form};
-use crate::header::{Class, Header, Tag, length_len};
-use crate::key_form::is_other;
-use crate::mark::Part;
-use crate::names::is_curve;
-use crate::public_form::public_form;
+use crate::grammar::{Component, ELEMENT, FIRST, Form, OTHERS, Secrecy};
+use crate::root::{draw_as, is_cut};
+use crate::walk::{Element, Place, Rows, Rules};
 
-/// What the whole of some bytes is, by their headers. No content has a part in it but a version's
-/// one byte, and whether a BIT STRING has unused bits.
+/// How bytes are drawn.
+#[derive(Clone, Copy, PartialEq, Eq)]
+pub enum Way {
+    /// As far as they follow their form.
+    Strict,
+    /// Each element is a row.
+    Loose,
+    /// Not at all.
+    Nothing,
+}
+
+/// What bytes are, and how they are drawn.
 #[derive(Clone, Copy)]
 pub struct Plan {
-    /// What it is.
-    pub form: Form,
-    /// Whether it is all of this form, to the last byte.
-    pub complete: bool,
-    /// Whether it may be a private key, damaged perhaps, so that few contents are shown.
-    pub guarded: bool,
-    /// The field of the root.
-    pub(crate) root: Option<Field>,
-    /// The number of bytes that are drawn of a guarded picture.
-    pub(crate) drawn_to: usize,
-    /// The offset where a key's bytes would be others, and what a key has there.
-    pub(crate) expected: Option<(usize, Part)>,
-    /// The offset of the private key of PKCS #8 that is opened, and the field inside it.
-    pub(crate) inside: Option<(usize, Field)>,
+    /// The form that the fewest of the bytes don't follow, if they follow it to the end, or for two
+    /// components of its root. Of several it is the first that they follow to the end, or else the
+    /// first.
+    pub form: Option<Form>,
+    /// How they are drawn.
+    pub way: Way,
+    /// Whether they follow the form, and no bytes come after it.
+    pub is_whole: bool,
+    /// Whether they are one element, in which each header of BER fits, and no bytes come after it.
+    pub is_tree: bool,
+    /// Whether the content of the root is longer than what is there of it.
+    pub is_cut: bool,
+    /// The number of bytes.
+    pub len: usize,
 }
 
-/// The plan of bytes that nothing is known of.
-const UNKNOWN: Plan = Plan {
-    form: Form::Other,
-    complete: false,
-    guarded: false,
-    root: None,
-    drawn_to: 0,
-    expected: None,
-    inside: None,
-};
-
-impl Plan {
-    /// Returns the plan of some bytes.
-    #[tactic(auto, unfolding(crate::specs::Plans::plan_of))]
-    pub(crate) fn new(input: &[u8]) -> Plan
-        ensures { result ≡ plan_of input.now }
-    {
-        match Header::read(input) {
-            Ok(root) => of_input(input, root),
-            Err(_) => Plan {
-                guarded: true,
-                drawn_to: input.len(),
-                ..UNKNOWN
-            },
-        }
-    }
-}
-
-/// Returns the plan of bytes that begin with this header.
-fn of_input(input: &[u8], head: Header) -> Plan
-    requires header { head.len ≤ length input.now }
-    requires tag { head.tag_len ≤ head.len }
-    ensures { result ≡ plan_by input.now (Ok head) }
+/// Returns what bytes are, and how they are drawn.
+#[tactic(auto, unfolding(crate::specs::Pictures::plan_of, crate::specs::Pictures::nearest, crate::specs::Pictures::known_as, crate::specs::Pictures::is_tree))]
+pub fn plan_of(bytes: &[u8]) -> Plan
+    ensures { result ≡ plan_of bytes.now }
 {
-    let there = len_within(head.content_len, input.len() - head.len);
-    of_root(input, head, &input[..head.len + there])
-}
-
-/// Returns the length of a content, of this length or of an indefinite one, where so many bytes are
-/// left.
-fn len_within(announced: Option<usize>, left: usize) -> usize
-    ensures exact { result ≡ len_within announced left }
-    ensures few { result ≤ left }
-{
-    match announced {
-        Some(len) => len.min(left),
-        None => left,
-    }
-}
-
-/// Returns the plan of bytes that begin with this header, and with these bytes of their root.
-fn of_root(input: &[u8], head: Header, root: &[u8]) -> Plan
-    requires header { head.len ≤ length root.now }
-    requires tag { head.tag_len ≤ head.len }
-    requires root { length root.now ≤ length input.now }
-    ensures { result ≡ plan_of_root input.now head root.now }
-{
-    let content = &root[head.len..];
-    if !head.tag.constructed {
-        of_leaf(input, content, root.len())
-    } else if is_guarded(first_tag(input), content) {
-        guarded(input, head, root)
-    } else if first_tag(input) == 0x30 {
-        public(public_form(content))
-    } else {
-        public(Form::Other)
-    }
-}
-
-/// Returns the plan of bytes of this form that aren't guarded.
-fn public(form: Form) -> Plan
-    ensures { result ≡ public_plan form }
-{
+    let nearest = best(bytes, FIRST, &OTHERS);
+    let shape = shape_as(nearest.0, bytes);
+    let form = known_as(nearest, shape.is_whole, shape.parts);
+    let is_whole = shape.is_whole;
+    let is_tree = shape_as(ELEMENT, bytes).is_whole;
     Plan {
         form,
-        root: form.root(),
-        ..UNKNOWN
+        way: way_of(form, is_whole, is_tree),
+        is_whole,
+        is_tree,
+        is_cut: is_cut(bytes),
+        len: bytes.len(),
     }
 }
 
-/// Returns the plan of bytes that begin with a primitive element of this content, which ends here.
-fn of_leaf(input: &[u8], content: &[u8], end: usize) -> Plan
-    ensures { result ≡ leaf_plan input.now content.now end }
+/// Returns the form of bytes, of which so many parts follow it.
+fn known_as(form: Form, is_whole: bool, parts: usize) -> Option<Form>
+    ensures { result ≡ (if is_whole || nat_le 2 parts then Some form else None) }
 {
-    if first_tag(input) == 0x06 && is_curve(content) {
-        Plan {
-            form: Form::Curve,
-            complete: is_tree(input),
-            guarded: true,
-            root: Some(Field::NamedCurve),
-            drawn_to: end,
-            ..UNKNOWN
-        }
+    if is_whole || parts >= 2 {
+        Some(form)
     } else {
-        Plan {
-            guarded: true,
-            drawn_to: end,
-            expected: Some((0, Part::Key)),
-            ..UNKNOWN
-        }
+        None
     }
 }
 
-/// Returns `true` if bytes whose root is constructed and has this tag and this content may be a
-/// private key. Each begins with an INTEGER; a BOOLEAN and an OCTET STRING are a bit away from it.
-#[tactic(auto, unfolding(crate::specs::Plans::is_guarded))]
-fn is_guarded(tag: u8, content: &[u8]) -> bool
-    ensures { result ≡ is_guarded tag content.now }
+/// Returns how bytes are drawn that follow a form or not, and are a whole tree or not.
+fn way_of(form: Option<Form>, is_whole: bool, is_tree: bool) -> Way
+    ensures { result ≡ way_of form is_whole is_tree }
 {
-    is_high(tag)
-        || match Header::read(content) {
-            Ok(first) => is_high(first_tag(content)) || begins_key(first.tag),
-            Err(_) => true,
-        }
-}
-
-/// Returns `true` if a tag with this first byte has a high number.
-fn is_high(first: u8) -> bool
-    ensures { result ≡ is_high first }
-{
-    first % 0x20 == 0x1F
-}
-
-/// Returns `true` if the tag is that of a BOOLEAN, an INTEGER or an OCTET STRING.
-fn begins_key(tag: Tag) -> bool
-    ensures { result ≡ begins_key tag.class tag.number }
-{
-    matches!((tag.class, tag.number), (Class::Universal, 1 | 2 | 4))
-}
-
-/// Returns the plan of guarded bytes that begin with this header, and with these bytes of their
-/// root.
-#[tactic(auto, unfolding(crate::specs::Plans::guarded_plan))]
-fn guarded(input: &[u8], head: Header, root: &[u8]) -> Plan
-    requires header { head.len ≤ length root.now }
-    requires tag { head.tag_len ≤ head.len }
-    requires root { length root.now ≤ length input.now }
-    ensures { result ≡ guarded_plan input.now head root.now }
-{
-    let is_cut = is_longer(head.content_len, input.len() - head.len);
-    let children = Children::new(root, head.len, head.content_len.is_none(), is_cut);
-    let is_marked = is_cut || is_length_marked(head.content_len, head.len - head.tag_len);
-    of_children(first_tag(input), input.len(), root, children, is_marked)
-}
-
-/// Returns `true` if this length of a content is greater than the number of bytes that are left.
-fn is_longer(announced: Option<usize>, left: usize) -> bool
-    ensures { result ≡ is_longer announced left }
-{
-    match announced {
-        Some(len) => left < len,
-        None => false,
-    }
-}
-
-/// Returns `true` if this length of a content, of so many bytes, has a mark.
-fn is_length_marked(announced: Option<usize>, len: usize) -> bool
-    ensures { result ≡ is_some (length_mark announced len) }
-{
-    match announced {
-        Some(announced) => length_len(announced) < len,
-        None => true,
-    }
-}
-
-/// Returns the plan of so many bytes, whose root has this tag, these bytes and these children, and
-/// maybe a mark of its own.
-#[tactic(auto, unfolding(crate::specs::Plans::plan_of_children))]
-fn of_children(tag: u8, len: usize, root: &[u8], children: Children, is_marked: bool) -> Plan
-    ensures { result ≡ plan_of_children tag len root.now children is_marked }
-{
-    let form = children.form();
-    let ends = children.ends(len, root);
-    let expected = children.expected_of(tag, len, root);
-    Plan {
-        form,
-        complete: ends && expected.is_none() && !is_other(form),
-        guarded: true,
-        root: root_or(
-            form.root(),
-            children.is_versioned() && children.drawn(root) > 0,
-        ),
-        drawn_to: children.drawn_to(root),
-        expected: if is_marked {
-            None
-        } else {
-            in_row(len, expected)
-        },
-        inside: children.inside(root),
-    }
-}
-
-/// Returns the root of a form, or of bytes that begin with a version, or none.
-fn root_or(root: Option<Field>, is_begun: bool) -> Option<Field>
-    ensures { result ≡ root_or root is_begun }
-{
-    match root {
-        Some(root) => Some(root),
-        None => if is_begun { Some(Field::Unknown) } else { None },
-    }
-}
-
-/// Returns the place of the row where something is expected in so many bytes: where nothing is
-/// left, the root lacks it.
-fn in_row(len: usize, expected: Option<(usize, Part)>) -> Option<(usize, Part)>
-    ensures { result ≡ in_row len expected }
-{
-    match expected {
-        Some((offset, part)) => {
-            if offset == len {
-                Some((0, part))
+    match form {
+        Some(form) => {
+            if is_strict(form.1, is_whole, is_tree) {
+                Way::Strict
             } else {
-                Some((offset, part))
+                Way::Loose
             }
         }
-        None => None,
+        None if is_tree => Way::Loose,
+        None => Way::Nothing,
     }
+}
+
+/// Returns `true` if bytes of a form with such parts are drawn as far as they follow it: where they
+/// don't, headers may be private bytes.
+fn is_strict(secrecy: Secrecy, is_whole: bool, is_tree: bool) -> bool
+    ensures { result ≡ is_strict secrecy is_whole is_tree }
+{
+    match secrecy {
+        Secrecy::Private => is_whole || !is_tree,
+        Secrecy::Closed => !is_tree,
+        Secrecy::Public => false,
+    }
+}
+
+/// Returns the form of these that the fewest of the bytes don't follow; of several the first that
+/// is followed to its end, or else the first.
+#[tactic(auto, unfolding(crate::specs::Pictures::best))]
+fn best(bytes: &[u8], first: Form, others: &[Form]) -> Form
+    ensures { result ≡ best bytes.now first others.now }
+{
+    let [second, others @ ..] = others else {
+        return first;
+    };
+    best(bytes, better(bytes, first, *second), others)
+}
+
+/// Returns the form of two that fewer bytes don't follow; of two that as many don't, the first,
+/// unless only the second is followed to its end.
+#[tactic(auto, unfolding(crate::specs::Pictures::better))]
+fn better(bytes: &[u8], first: Form, second: Form) -> Form
+    ensures { result ≡ better bytes.now first second }
+{
+    if is_nearer(shape_as(second.0, bytes), shape_as(first.0, bytes)) {
+        second
+    } else {
+        first
+    }
+}
+
+/// Returns `true` if the first of two shapes is nearer to its form than the second.
+fn is_nearer(shape: Shape, other: Shape) -> bool
+    ensures { result ≡ is_nearer shape.left shape.is_whole other.left other.is_whole }
+{
+    shape.left < other.left || (shape.left == other.left && shape.is_whole && !other.is_whole)
+}
+
+/// How far bytes are of a form.
+#[derive(Clone, Copy)]
+struct Shape {
+    /// The number of bytes that aren't drawn.
+    left: usize,
+    /// The number of elements that are in the root alone.
+    parts: usize,
+    /// Whether all of them are.
+    is_whole: bool,
+}
+
+/// Returns how far the bytes are of a form with this root.
+fn shape_as(root: Component, bytes: &[u8]) -> Shape
+    ensures left { result.left ≡ left_as root bytes.now }
+    ensures parts { result.parts ≡ parts_as root bytes.now }
+    ensures whole { result.is_whole ≡ whole_as false root bytes.now }
+{
+    let mut counter = Counter { left: 0, parts: 0 };
+    let rules = Rules {
+        is_loose: false,
+        shows_small: false,
+        given: &[],
+    };
+    let is_whole = draw_as(&mut counter, &rules, root, false, bytes);
+    Shape {
+        left: counter.left,
+        parts: counter.parts,
+        is_whole,
+    }
+}
+
+/// Counts bytes that aren't drawn, and the elements that are in the root alone.
+#[derive(Drop)]
+struct Counter {
+    /// The number of the bytes.
+    left: usize,
+    /// The number of the elements.
+    parts: usize,
+    ghost left_fits: { left < 2 ^ 64 },
+    ghost parts_fit: { parts < 2 ^ 64 },
+}
+
+impl Rows for Counter {
+    ghost tells = { λ a b rows. (capped b.left ≡ capped (a.left + left_in rows))
+        × (capped b.parts ≡ capped (a.parts + parts_in rows)) };
+
+    fn element(&mut self, place: Place, _element: &Element) {
+        if place.depth == 1 {
+            self.parts = self.parts.saturating_add(1);
+        }
+    }
+
+    fn end_of_contents(&mut self, _place: Place) {}
+
+    fn not_drawn(&mut self, _place: Place, _expected: &[Component], len: usize, _content: &[u8]) {
+        self.left = self.left.saturating_add(len);
+    }
+
+    ghost nothing = { λ a. (capped_none a.left, capped_none a.parts) };
+
+    ghost joined = { λ a b c first second one two. (
+      capped_left a.left b.left c.left first second one.0 two.0,
+      capped_parts a.parts b.parts c.parts first second one.1 two.1,
+    ) };
 }

@@ -1,25 +1,21 @@
 //! What is shown of the content of a primitive element.
 ghost use Rattle.std.specs.Prelude.{◌≡◌, option_map};
 ghost use Rattle.der_view.specs.Values.{bit_string_text, bits_or_count, class_value, field_value};
-ghost use Rattle.der_view.specs.Values.{arcs_by, century, generalized_time_or_text};
+ghost use Rattle.der_view.specs.Values.{arcs_by, century, generalized_time_or_count};
 ghost use Rattle.der_view.specs.Values.{identifier_or_count, null_value};
 ghost use Rattle.der_view.specs.Values.{string_or_count, text_or_count, universal_value, value_by};
-ghost use Rattle.der_view.specs.Values.{utc_time_or_text, value_view};
+ghost use Rattle.der_view.specs.Values.{utc_time_or_count, value_view};
 ghost use Rattle.der_view.specs.Characters.{string_codes};
 
 mod arcs;
-mod characters;
-mod faults;
-mod line_values;
 mod short;
-mod types;
+mod text;
 
+use crate::characters::Characters;
 use crate::header::{Class, Tag};
-use crate::names::{Name, name_of};
+use crate::names::name_of;
 pub use arcs::Arcs;
-pub use characters::Characters;
 use der_types::kind::{GeneralizedTime, Kind, UtcTime, VisibleString};
-pub use faults::content_fault;
 pub use short::ShortText;
 
 /// What is shown of the content of a primitive element.
@@ -42,7 +38,7 @@ pub enum Value<'a> {
     /// second, if there is one, and `Z`.
     Time([u8; 19], &'a [u8]),
     /// An identifier (X.690 section 8.19): its name, if it has one, and its arcs.
-    Identifier(Option<Name>, Arcs<'a>),
+    Identifier(Option<&'static [u8]>, Arcs<'a>),
     /// The characters of a string.
     String(Characters<'a>),
 }
@@ -53,8 +49,18 @@ pub fn value_of<'a>(tag: Tag, content: &'a [u8]) -> Value<'a>
 {
     match tag.class {
         Class::Universal => universal_value(tag.number, content),
-        _ if VisibleString::test(content) => Value::String(Characters::latin1(content)),
-        _ => Value::Count(content.len()),
+        _ => field_value(content),
+    }
+}
+
+/// Returns what is shown of a field of another type: its characters, if it has some and all print.
+fn field_value<'a>(content: &'a [u8]) -> Value<'a>
+    ensures { value_view result ≡ field_value content.now }
+{
+    if content.is_empty() || !VisibleString::test(content) {
+        Value::Count(content.len())
+    } else {
+        Value::String(Characters::latin1(content))
     }
 }
 
@@ -126,10 +132,10 @@ fn identifier<'a>(content: &'a [u8]) -> Value<'a>
 /// (RFC 5280 section 4.1.2.5.1).
 #[tactic(auto, using(der_types::proofs::TimeLaws::utc_digits))]
 fn utc_time<'a>(content: &'a [u8]) -> Value<'a>
-    ensures { value_view result ≡ utc_time_or_text content.now }
+    ensures { value_view result ≡ utc_time_or_count content.now }
 {
     if !UtcTime::test(content) {
-        return Value::String(Characters::latin1(content));
+        return Value::Count(content.len());
     }
     let time = short::date_time(century(content[0]), &content[..12]);
     Value::Time(time, &content[12..])
@@ -144,10 +150,10 @@ fn century(digit: u8) -> &'static [u8]
 
 /// Returns what is shown of a GeneralizedTime.
 fn generalized_time<'a>(content: &'a [u8]) -> Value<'a>
-    ensures { value_view result ≡ generalized_time_or_text content.now }
+    ensures { value_view result ≡ generalized_time_or_count content.now }
 {
     if !GeneralizedTime::test(content) {
-        return Value::String(Characters::latin1(content));
+        return Value::Count(content.len());
     }
     let time = short::date_time(&content[..2], &content[2..14]);
     Value::Time(time, &content[14..])

@@ -31,6 +31,7 @@ pub mod unseen_keys;
 pub mod failed_readers;
 pub mod header_kinds;
 pub mod said_kinds;
+pub mod type_kinds;
 
 // Streams and writers.
 pub mod prepending;

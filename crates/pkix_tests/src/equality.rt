@@ -11,7 +11,7 @@ use std::alloc::AllocError;
 use std::cmp::Ordering;
 
 /// The result of a clone.
-type Cloned<T> = std::result::Result<T, AllocError>;
+pub type Cloned<T> = std::result::Result<T, AllocError>;
 
 /// Two booleans are equal exactly where they are the same.
 pub fn same_boolean(a: &Boolean, b: &Boolean) -> bool

@@ -1,12 +1,17 @@
-//! Tests of `der_types`, `curves`, `pkix` and `der_view` by their public calls, with values from
-//! outside.
+//! Tests of `der_types`, `curves`, `pkix`, `der_view` and `examples` by their public calls, with
+//! values from outside.
 //!
-//! [`equality`] has what is proved of `==` and `clone`, and [`checks`] worked examples.
+//! [`equality`] and [`picture_equality`] have what is proved of `==` and `clone`, and [`checks`]
+//! worked examples.
 //!
 //! They are in a crate of their own, so that each of these is proved once, and all of it is under
 //! `cfg(test)`, so that both are proved once too.
 #![tactic(auto)]
 
+#[cfg(test)]
+mod algorithm_test;
+#[cfg(test)]
+mod callers;
 #[cfg(test)]
 pub mod checks;
 #[cfg(test)]
@@ -20,6 +25,8 @@ mod faults;
 #[cfg(test)]
 mod keys;
 #[cfg(test)]
+pub mod picture_equality;
+#[cfg(test)]
 mod printing;
 #[cfg(test)]
 mod round_trips;
@@ -32,6 +39,8 @@ mod values;
 #[cfg(test)]
 mod writing;
 
+#[cfg(test)]
+use examples::documents::algorithm;
 #[cfg(test)]
 use std::fmt::Debug;
 #[cfg(test)]

@@ -1,7 +1,7 @@
 //! Rows counted by hand in bytes that OpenSSL 3.0.19 made, and in short ones.
 
 use super::{assert_equal, assert_equal_for};
-use der_view::Rows;
+use der_view::{Component, Element, Place, Rows, draw_rows, plan_of};
 
 /// A key on P-256 of 32 bytes, with its curve and no public key.
 static KEY: [u8; 51] = [
@@ -11,68 +11,119 @@ static KEY: [u8; 51] = [
     0x03, 0x01, 0x07,
 ];
 
-/// The offset, the depth, the length of the header, that of the content and that of the content
-/// without other rows of each row of the key.
-static KEY_ROWS: [(usize, usize, usize, usize, usize); 5] = [
-    (0, 0, 2, 49, 0),
-    (2, 1, 2, 1, 1),
-    (5, 1, 2, 32, 32),
-    (39, 1, 2, 10, 0),
-    (41, 2, 2, 8, 8),
+/// The offset, the depth, the length of the header, that of the content, and whether this is rows,
+/// of each row of the key.
+static KEY_ROWS: [(usize, usize, usize, usize, bool); 5] = [
+    (0, 0, 2, 49, true),
+    (2, 1, 2, 1, false),
+    (5, 1, 2, 32, false),
+    (39, 1, 2, 10, true),
+    (41, 2, 2, 8, false),
 ];
 
-/// Returns the numbers of the next row, as [`KEY_ROWS`] has them, and whether its header and its
-/// content are those of the key at its offset.
-fn next_numbers(rows: &mut Rows) -> Option<((usize, usize, usize, usize, usize), bool)> {
-    let row = rows.next_row()?;
-    let header_len = row.header.len();
-    let numbers = (row.offset, row.depth, header_len, row.len, row.own_len);
-    let rest = KEY.get(row.offset..).unwrap_or_default();
-    let after = rest.get(header_len..).unwrap_or_default();
-    let is_there = rest.starts_with(row.header)
-        && after.starts_with(row.content.unwrap_or_default());
-    Some((numbers, is_there))
+/// The rows that were told of some bytes, of which eight are kept.
+#[derive(Drop)]
+struct Told<'a> {
+    /// The bytes.
+    bytes: &'a [u8],
+    /// The first rows, as [`KEY_ROWS`] has them.
+    rows: [(usize, usize, usize, usize, bool); 8],
+    /// The number of rows.
+    count: usize,
+    /// Whether each header, and each content that isn't drawn by rows of its own, is the bytes at
+    /// its offset.
+    are_bytes: bool,
+}
+
+impl Told<'_> {
+    /// Tells one more row.
+    fn push(&mut self, row: (usize, usize, usize, usize, bool)) {
+        if let Some(place) = self.rows.get_mut(self.count) {
+            *place = row;
+        }
+        self.count = self.count.saturating_add(1);
+    }
+}
+
+impl Rows for Told<'_> {
+    ghost tells = { λ _ _ _. Unit {0} };
+
+    fn element(&mut self, place: Place, element: &Element) {
+        let (header_len, len) = (element.header.len, element.len);
+        self.push((place.offset, place.depth, header_len, len, element.opened));
+        let own_len = if element.opened { 0 } else { len };
+        let rest = self.bytes.get(place.offset..).unwrap_or_default();
+        let (head, content) = rest.split_at_checked(header_len).unwrap_or_default();
+        if element.head != head || content.get(..own_len) != Some(element.content) {
+            self.are_bytes = false;
+        }
+    }
+
+    fn end_of_contents(&mut self, place: Place) {
+        self.push((place.offset, place.depth, 2, 0, false));
+    }
+
+    fn not_drawn(&mut self, place: Place, _expected: &[Component], len: usize, _content: &[u8]) {
+        self.push((place.offset, place.depth, 0, len, false));
+    }
+
+    ghost nothing = { λ _. tt };
+
+    ghost joined = { λ _ _ _ _ _ _ _. tt };
+}
+
+/// Returns the rows of these bytes.
+fn rows_of(bytes: &[u8]) -> Told<'_> {
+    let mut told = Told {
+        bytes,
+        rows: [(0, 0, 0, 0, false); 8],
+        count: 0,
+        are_bytes: true,
+    };
+    draw_rows(&mut told, plan_of(bytes), bytes, true);
+    told
 }
 
 #[test]
 fn draws_a_key(rt: HostRuntime) {
-    let mut rows = Rows::new(&KEY, true);
-    for &wanted in KEY_ROWS.iter() {
-        assert_equal(&rt, &next_numbers(&mut rows), &Some((wanted, true)));
-    }
-    assert_equal(&rt, &next_numbers(&mut rows), &None);
+    let told = rows_of(&KEY);
+    assert_equal(&rt, &told.rows.get(..told.count), &Some(&KEY_ROWS));
+    assert_equal(&rt, &told.are_bytes, &true);
 }
 
-/// Returns the number of rows of these bytes.
-fn count_rows(bytes: &[u8]) -> usize {
-    let mut rows = Rows::new(bytes, true);
-    let mut count = 0usize;
-    for _ in 0..100 {
-        if rows.next_row().is_none() {
-            break;
-        }
-        count = count.saturating_add(1);
-    }
-    count
-}
-
-/// Bytes, and how many rows they have: one for each header of BER, each end of contents, and all
-/// that no element begins with.
+/// Bytes, and how many rows they have: one for each header of BER and each end of contents of a
+/// whole tree, and one for all bytes of what is none.
 static COUNTS: [(&[u8], usize); 9] = [
     (&[], 0),
     (&[0x00, 0x00], 1),
     (&[0x30, 0x00], 1),
     (&[0x30, 0x80, 0x00, 0x00], 2),
     (&[0x30, 0x02, 0x05, 0x00], 2),
-    (&[0x30, 0x02, 0x05, 0x01, 0x00], 3),
-    (&[0x30, 0x03, 0x05, 0x00], 2),
-    (&[0x05, 0x00, 0x04, 0x01, 0xFF], 2),
-    (&[0x30, 0x04, 0x30, 0x00, 0x1F, 0x01, 0x05, 0x00], 4),
+    (&[0x30, 0x02, 0x05, 0x01, 0x00], 1),
+    (&[0x30, 0x03, 0x05, 0x00], 1),
+    (&[0x05, 0x00, 0x04, 0x01, 0xFF], 1),
+    (&[0x30, 0x04, 0x30, 0x00, 0x1F, 0x01, 0x05, 0x00], 1),
 ];
 
 #[test]
-fn draws_what_is_no_element(rt: HostRuntime) {
+fn draws_what_is_no_tree(rt: HostRuntime) {
     for &(bytes, count) in COUNTS.iter() {
-        assert_equal_for(&rt, &bytes, &count_rows(bytes), &count);
+        assert_equal_for(&rt, &bytes, &rows_of(bytes).count, &count);
     }
+}
+
+/// A key that ends inside its third element, and inside the second one, by which it isn't known.
+#[test]
+fn draws_a_cut_key(rt: HostRuntime) {
+    let told = rows_of(&KEY[..45]);
+    let rows = [
+        (0, 0, 2, 43, true),
+        (2, 1, 2, 1, false),
+        (5, 1, 2, 32, false),
+        (39, 1, 0, 6, false),
+    ];
+    assert_equal(&rt, &told.rows.get(..told.count), &Some(&rows));
+    let told = rows_of(&KEY[..20]);
+    let rows = [(0, 0, 0, 20, false)];
+    assert_equal(&rt, &told.rows.get(..told.count), &Some(&rows));
 }

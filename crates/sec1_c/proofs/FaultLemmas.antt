@@ -1,13 +1,13 @@
 -- Where bytes aren't refused, there is no place of a refusal.
 use Rattle.std.proofs.Common.{◌≡◌, ◌≢◌, List, ℕ, Option, Some, None, refl}
 use Rattle.std.specs.Prelude.{option_map}
-use Rattle.der_view.proofs.ContainerLemmas.{container_kind}
-use Rattle.der_view.proofs.KindLemmas.{key_kind}
-use Rattle.der_view.proofs.PublicKeyLemmas.{public_key_kind}
-use Rattle.der_view.specs.ContainerPlaces.{container_place}
+use Rattle.der_view.proofs.FaultLemmas.{container_kind}
+use Rattle.der_view.proofs.FaultLemmas.{key_kind}
+use Rattle.der_view.proofs.FaultLemmas.{public_key_kind}
+use Rattle.der_view.specs.FaultPlaces.{container_place}
 use Rattle.der_view.specs.Containers.{container_fault}
 use Rattle.der_view.specs.FaultPlaces.{key_place}
-use Rattle.der_view.specs.RecordPlaces.{public_key_place}
+use Rattle.der_view.specs.FaultPlaces.{public_key_place}
 use Rattle.der_view.specs.declared.faults.Position.{Position}
 use Rattle.sec1.specs.KeyFaults.{key_fault}
 use Rattle.pkix.specs.Records.{public_key_fault}
@@ -38,14 +38,6 @@ no_key_place bytes none = by (key_place bytes) (rw (key_kind bytes) none)
     by : (o : Option Position) → fault_number (option_map (λ (f : Position). Some f.kind) o) ≡ 0 → o ≡ None
     by None e = refl
     by (Some fault) e = absurd (has_number fault.kind e)
-
--- the same of a key that is read
-pub read_key_has_no_place : (bytes : List ℕ) → key_fault bytes ≡ None → key_place bytes ≡ None
-read_key_has_no_place bytes none = by (key_place bytes) (rw (key_kind bytes) none)
-  where
-    by : (o : Option Position) → option_map (λ (f : Position). Some f.kind) o ≡ None → o ≡ None
-    by None e = refl
-    by (Some fault) e = absurd (cc e)
 
 pub no_public_key_place : (bytes : List ℕ) → element_fault 0x30 public_key_fault end_fault bytes ≡ None
     → public_key_place bytes ≡ None

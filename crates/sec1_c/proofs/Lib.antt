@@ -1,6 +1,7 @@
 pub mod AlgorithmLemmas
 pub mod CertificateLemmas
 pub mod ContainerLemmas
+pub mod DecodedLemmas
 pub mod FaultLemmas
 pub mod FieldLemmas
 pub mod HexTextLemmas

@@ -1,8 +1,11 @@
 -- EC private keys in either form: as which one bytes are read, and the places of the parts in a container.
-use Rattle.std.proofs.Common.{◌≡◌, ◌==◌, inl, inr, ◌+◌, ◌-◌, ◌≤◌, ◌++◌, ◌∷◌, [], ℕ, List, length, take, drop}
+use Rattle.std.proofs.Common.{IfSome, IsSomeAnd}
+use Rattle.std.proofs.Common.{◌≡◌, ◌≢◌, ◌==◌, inl, inr, ◌+◌, ◌-◌, ◌≤◌, ◌++◌, ◌∷◌, [], ℕ, List, length, take, drop}
 use Rattle.std.proofs.Common.{Bool, true, false, if◌then◌else◌, Option, Some, None, Result, Ok, Err, refl, sym, ap, ◌∙◌}
 use Rattle.std.proofs.Common.{lit≤, arith}
+use Rattle.std.specs.Option.{option_map}
 use Rattle.std.proofs.lemmas.List.{append-nil, drop-drop, drop-take, length-take, take-take}
+use Rattle.curves.specs.Curves.{curve_arcs}
 use Rattle.curves.specs.declared.curve.Curve.{Curve}
 use Rattle.std.specs.Prelude.{is_none}
 use Rattle.pkix.specs.Records.{algorithm_content}
@@ -13,16 +16,18 @@ use Rattle.sec1_der.proofs.ElementLaws.{element_of-some}
 use Rattle.sec1_der.proofs.FaultLaws.{alone, element_at, read_element}
 use Rattle.sec1_der.proofs.JoinLaws.{parted}
 use Rattle.sec1_der.specs.Elements.{element, element_of, length_octets}
-use Rattle.sec1_der.specs.Faults.{Fault, IsFaultOf, element_fault, no_fault, parts_fault, split_content, content_at}
+use Rattle.sec1_der.specs.Faults.{Fault, IsFaultOf, element_fault, no_fault, parts_fault, content_at}
+use Rattle.sec1_der.specs.Identifiers.{IsIdentifier, content_of}
 use Rattle.sec1_der.specs.Parts.{join}
 use Rattle.sec1_der.specs.Readers.{HasReadElement, Reader}
 use Rattle.sec1_der.specs.declared.error.ErrorKind.{ErrorKind}
 use Rattle.sec1_der.specs.declared.error.ErrorKind.TheVariants.{Tag}
-use Rattle.pkix.specs.EcKeys.{IsOnCurve}
+use Rattle.pkix.specs.EcKeys.{IsOnCurve, NamesCurve}
 use Rattle.sec1_c.specs.Containers.{IsContainer, after_key, container_content, container_places}
-use Rattle.sec1_c.specs.KeyPlaces.{key_places}
-use Rattle.sec1_c.specs.Places.{IsPart, StandsAt, span_shifted}
+use Rattle.sec1_c.specs.KeyPlaces.{ArePartsOf, key_places}
+use Rattle.sec1_c.specs.Places.{IsPart, StandsAt, bytes_at, span_shifted}
 use Rattle.sec1_c.specs.PrivateKeys.{AreContainedPartsOf, IsKeyIn, contained_places, has_algorithm, tag_fault}
+use Rattle.sec1_c.specs.declared.key.KeyParts.{KeyParts}
 use Rattle.sec1_c.specs.declared.span.Span.{Span}
 use Rattle.sec1_c.proofs.ContainerLemmas.{are_container_parts}
 use Rattle.sec1_c.proofs.PlaceLemmas.{are_parts, parts_within}
@@ -212,6 +217,29 @@ pub curve_fits : (key : Key) (bytes : List ℕ) → IsKeyOf key bytes
     → (key_places key bytes).curve.offset ≤ length bytes
 curve_fits key bytes is =
     let parts = parts_within key bytes (key_places key bytes) (are_parts key bytes is) in omega (arith, parts.curve)
+
+-- the place of the curve's identifier in a key, whose parts have these places
+pub no_curve_named : (key : Key) (bytes : List ℕ) (parts : KeyParts) (curve : Curve) → ArePartsOf key bytes parts
+    → parts.curve.present ≡ 0 → NamesCurve curve key
+no_curve_named key bytes parts curve are none = by key.parameters are.curve
+  where
+    by : (parameters : Option (List ℕ)) → IsPart bytes parts.curve (option_map content_of parameters)
+        → IfSome parameters (λ arcs. curve_arcs curve ≡ arcs)
+    by None is = tt
+    by (Some arcs) is = absurd (cc (none, is.present))
+
+pub curve_named : (key : Key) (bytes : List ℕ) (parts : KeyParts) → IsKeyOf key bytes → ArePartsOf key bytes parts
+    → parts.curve.present ≢ 0
+    → IsSomeAnd key.parameters (λ arcs. IsIdentifier arcs (bytes_at bytes parts.curve))
+curve_named key bytes parts is are some = by key.parameters is.curve are.curve
+  where
+    by : (parameters : Option (List ℕ)) → IfSome parameters (λ arcs. IsIdentifier arcs (content_of arcs))
+        → IsPart bytes parts.curve (option_map content_of parameters)
+        → IsSomeAnd parameters (λ arcs. IsIdentifier arcs (bytes_at bytes parts.curve))
+    by None named at = absurd (some at.present)
+    by (Some arcs) named at = rw at.bytes_are named
+
+pub ruleset names = (no_curve_named, curve_named)
 
 pub ruleset contained = (are_contained_parts)
 

@@ -1,5 +1,6 @@
 -- The texts of an input's sources are together no longer than the input.
-use Rattle.std.proofs.Common.{◌≡◌, ℕ, zero, suc, ◌+◌, ◌-◌, ◌≤◌, ◌==◌, ◌&&◌, Bool, true, false, cond, not, List, []}
+use Rattle.std.proofs.Common.{◌≡◌, ℕ, zero, suc, ◌+◌, ◌-◌, ◌≤◌, ◌==◌, ◌&&◌, ◌||◌, Bool, true, false, cond, List}
+use Rattle.std.proofs.Common.{[]}
 use Rattle.std.proofs.Common.{◌∷◌}
 use Rattle.std.proofs.Common.{Option, Some, None, length, take, drop, refl, sym, ap, ◌∙◌, arith, length-append, codes}
 use Rattle.std.proofs.Common.{length-drop}
@@ -14,8 +15,9 @@ use Rattle.der_view.proofs.BlockLemmas.{concat-lines_of}
 use Rattle.der_view.specs.Blocks.{BlockView, begins_with_headers, blocks_in, body_of, is_boundary, is_empty_line}
 use Rattle.der_view.specs.Blocks.{is_key_of_openssl, is_of_private_key, label_of, line_text, lines_of, trimmed}
 use Rattle.der_view.specs.Blocks.{with_block}
-use Rattle.der_view.specs.Sources.{SourceView, Der, Pem, Utf16, is_text, is_utf16, or_text, pem_sources, source_len}
-use Rattle.der_view.specs.Sources.{sources_of, text_len, text_sources, without_mark}
+use Rattle.der_view.specs.Sources.{SourceView, Der, Pem, Text, blocks_or, has_begin, is_der, is_text, or_source}
+use Rattle.der_view.specs.Sources.{pem_sources, source_len, sources_by, sources_of, text_len, wide_note, without_mark}
+use Rattle.der_view.specs.declared.sentences.Sentence.{Sentence}
 
 -- the length of the texts of sources
 abbrev pub total_len : List SourceView → ℕ
@@ -118,16 +120,17 @@ blocks_total number (line ∷ lines) =
     one_block (label_of (line_text line)) (number + 1) line lines (blocks_in (number + 1) lines) refl
     (blocks_total (number + 1) lines)
 
-or_text_total : (text : List ℕ) (sources : List SourceView) → total_len sources ≤ length text
-    → total_len (or_text text sources) ≤ length text
-or_text_total text [] fits = omega arith
-or_text_total text (source ∷ sources) fits = fits
+or_total : (most : ℕ) (other : SourceView) (sources : List SourceView) → source_len other ≤ most
+    → total_len sources ≤ most → total_len (or_source other sources) ≤ most
+or_total most other [] one fits = omega arith
+or_total most other (source ∷ sources) one fits = fits
 
-text_total : (text : List ℕ) → total_len (text_sources text) ≤ length text
-text_total text =
+blocks_or_total : (most : ℕ) (other : SourceView) (text : List ℕ) → length text ≤ most → source_len other ≤ most
+    → total_len (blocks_or other text) ≤ most
+blocks_or_total most other text fits one =
     let reads : Bool = list_any (λ byte. byte == 0x0A) text in
     let lines : List (List ℕ) = lines_of text in
-    or_text_total text (pem_sources reads (blocks_in 0 lines))
+    or_total most other (pem_sources reads (blocks_in 0 lines)) one
     (omega (
       arith,
       of_blocks reads (blocks_in 0 lines),
@@ -142,21 +145,17 @@ mark_within text =
     as (λ v. length (cond v (drop 3 text) text) ≤ length text)
     [ true ↦ omega (arith, length-drop 3 text) | false ↦ omega arith ]
 
+by_total : (is_der is_text begins : Bool) (note : Option Sentence) (input : List ℕ)
+    → total_len (sources_by is_der is_text begins note input) ≤ cond (is_text || begins) (length input) 0
+by_total true is_text begins wide input = omega arith
+by_total false true begins wide input =
+    blocks_or_total (length input) (Text (without_mark input)) (without_mark input) (mark_within input)
+    (mark_within input)
+by_total false false begins (Some note) input = omega arith
+by_total false false true None input = blocks_or_total (length input) (Der input) input (omega arith) (omega arith)
+by_total false false false None input = omega arith
+
 -- the texts of the sources of an input
 pub sources_total : (input : List ℕ) → total_len (sources_of input) ≤ text_len input
-sources_total input =
-    elim (is_utf16 input)
-    as (λ v. total_len
-    (cond v (Utf16 ∷ [])
-    (cond (is_text input && not (length input == 0)) (text_sources (without_mark input)) (Der input ∷ [])))
-    ≤ text_len input) [
-      | true ↦ omega arith
-      | false ↦ elim (cases_Bool (is_text input)) [
-        | inl passes ↦
-            rw passes
-            (elim (not (length input == 0))
-            as (λ v. total_len (cond v (text_sources (without_mark input)) (Der input ∷ [])) ≤ length input)
-            [ true ↦ omega (arith, text_total (without_mark input), mark_within input) | false ↦ omega arith ])
-        | inr fails ↦ rw fails (omega arith)
-      ]
-    ]
+unfolding sources_of
+sources_total input = by_total (is_der input) (is_text input) (has_begin input) (wide_note input) input

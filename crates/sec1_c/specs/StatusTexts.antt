@@ -6,12 +6,13 @@ use Rattle.sec1_der.specs.Errors.{kind_message}
 use Rattle.sec1_der.specs.declared.error.ErrorKind.{ErrorKind}
 use Rattle.sec1_c.specs.Statuses.{kind_number, error_number}
 use Rattle.sec1_c.specs.Statuses.{field_length_number, curve_number, other_curve_number}
+use Rattle.sec1_c.specs.Statuses.{pem_number}
 
 -- The words are the text of this number: where it is that of a kind of error in DER, or of points,
 -- what `{}` prints of the error.
 pub record IsStatusText (status : ℕ) (words : List ℕ) : Type 0 where
   pub ok : status ≡ 0 → words ≡ codes "ok"
-  pub kind : (kind : ErrorKind) → status ≡ kind_number kind → status ≤ 12
+  pub kind : (kind : ErrorKind) → status ≡ kind_number kind → status ≤ 13
       → words ≡ kind_message kind
   pub no_point : status ≡ error_number PointEncoding → words ≡ error_message PointEncoding
   pub field_length : status ≡ field_length_number
@@ -19,4 +20,5 @@ pub record IsStatusText (status : ℕ) (words : List ℕ) : Type 0 where
   pub curve : status ≡ curve_number → words ≡ codes "curve not in the table"
   pub other_curve : status ≡ other_curve_number
       → words ≡ codes "key and container name different curves"
-  pub other_number : 12 < status → words ≡ codes "unknown status"
+  pub no_pem : status ≡ pem_number → words ≡ codes "no whole PEM block with this label"
+  pub other_number : 13 < status → words ≡ codes "unknown status"

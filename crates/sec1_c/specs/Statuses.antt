@@ -19,9 +19,9 @@ kind_number Value = 5
 kind_number Overlength = 6
 kind_number Buffer = 7
 kind_number Depth = 8
-kind_number Failed = 13
-kind_number Io = 14
-kind_number OutOfMemory = 15
+kind_number Failed = 14
+kind_number Io = 15
+kind_number OutOfMemory = 16
 
 -- the number of the kind by which bytes are refused; 0 if there is none, or one that isn't said,
 -- which no rule here has
@@ -30,13 +30,13 @@ fault_number None = 0
 fault_number (Some None) = 0
 fault_number (Some (Some kind)) = kind_number kind
 
--- the number of an error; no call returns one above 12
+-- the number of an error; no call returns one above 13
 abbrev pub error_number : Error → ℕ
 error_number (Asn1 cause) = kind_number cause.kind
 error_number PointEncoding = 9
-error_number Memory = 15
-error_number Crypto = 16
-error_number Version = 17
+error_number Memory = 16
+error_number Crypto = 17
+error_number Version = 18
 
 -- the number of a field length that isn't supported
 abbrev pub field_length_number : ℕ
@@ -49,6 +49,10 @@ curve_number = 11
 -- the number of a key that names another curve than its container
 abbrev pub other_curve_number : ℕ
 other_curve_number = 12
+
+-- the number of a text without the PEM that is asked for
+abbrev pub pem_number : ℕ
+pem_number = 13
 
 -- the reasons for which bytes are refused: Truncated, Tag, Length, TrailingData or Value
 abbrev pub IsReadingNumber : ℕ → Type 0

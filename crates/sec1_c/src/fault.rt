@@ -2,9 +2,9 @@
 //! `sec1_key_read_at`, `sec1_key_fault_at`, `sec1_tree_fault_at`, `sec1_signature_fault_at` and
 //! `sec1_certificate_fault_at`.
 ghost use Rattle.std.specs.Prelude.{◌≡◌, ◌≢◌, ◌≤◌, length};
-ghost use Rattle.der_view.specs.CertificatePlaces.{certificate_place};
+ghost use Rattle.der_view.specs.FaultPlaces.{certificate_place};
 ghost use Rattle.der_view.specs.FaultPlaces.{key_place, tree_place};
-ghost use Rattle.der_view.specs.RecordPlaces.{signature_place};
+ghost use Rattle.der_view.specs.FaultPlaces.{signature_place};
 ghost use Rattle.pkix.specs.Records.{certificate_fault, signature_fault};
 ghost use Rattle.sec1.specs.KeyFaults.{key_fault};
 ghost use Rattle.sec1.specs.Keys.{Key, IsKeyOf};

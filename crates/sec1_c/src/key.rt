@@ -32,6 +32,17 @@ pub struct KeyParts {
     pub public_key: Span,
 }
 
+impl KeyParts {
+    /// Returns the places of parts of which each is absent.
+    pub fn absent() -> KeyParts {
+        KeyParts {
+            private_key: Span::absent(),
+            curve: Span::absent(),
+            public_key: Span::absent(),
+        }
+    }
+}
+
 /// Reads a private key from its DER encoding, which is all of `bytes`, and stores the places of its
 /// parts.
 ///

@@ -20,6 +20,7 @@ mod fault;
 mod fields;
 mod identifier;
 mod key;
+mod pem;
 mod picture;
 mod point;
 mod private_key;

@@ -1,16 +1,19 @@
-//! Pictures of any input, DER or a text that encodes some: `sec1_picture_draw` and
-//! `sec1_picture_lines`.
-ghost use Rattle.std.specs.Prelude.{◌≡◌, ◌<◌, ◌≤◌, ◌+◌, ◌*◌, ◌-◌, ◌/◌, ◌^◌, length, min};
+//! Pictures of any input, DER or a text that encodes some: `sec1_picture_draw`,
+//! `sec1_picture_write` and `sec1_picture_lines`.
+ghost use Rattle.std.specs.Prelude.{◌≡◌, ◌<◌, ◌≤◌, ◌+◌, ◌*◌, ◌-◌, ◌/◌, ◌^◌, ◌==◌, length, min};
+ghost use Rattle.std.specs.Prelude.{◌↔◌, IsTrue, not, true};
+ghost use Rattle.der_view.specs.Drawings.{has_key, picture_text};
+ghost use Rattle.der_view.specs.Shows.{are_plain};
 ghost use Rattle.der_view.specs.Sources.{source_len, source_view, text_len};
-ghost use Rattle.sec1_c.specs.PictureLines.{IsDecodedAt, IsListed};
-ghost use Rattle.sec1_c.specs.Pictures.{IsDrawn};
+ghost use Rattle.sec1_c.specs.PictureLines.{AreListed, IsDecodedAt, picture_lines};
+ghost use Rattle.sec1_c.specs.Pictures.{IsDrawn, IsStored, key_number};
 
 mod lines;
 mod text;
 
 use crate::buffer::write_bytes;
 use crate::status::{OK, kind_number};
-use der_view::{Source, Sources, draw, room_len};
+use der_view::{Options, Source, Sources, plan_of, room_len, show};
 use lines::Lines;
 pub use lines::PictureLine;
 use sec1::der::ErrorKind;
@@ -36,19 +39,95 @@ pub extern "C" fn sec1_picture_draw(
 ) -> u32
     ensures exact { length text.old + min (2 * text_len input.now + 2) (2 ^ 64 - 1)
         ≤ length room.old
-        → IsDrawn input.now all text.old text.new result len.new is_key.new }
+        → IsDrawn (picture_text (not (all == 0)) input.now) (key_number input.now) text.old text.new
+        result len.new is_key.new }
+    ensures buffer { length room.old
+        < length text.old + min (2 * text_len input.now + 2) (2 ^ 64 - 1)
+        → (result ≡ 7) × (len.new ≡ 0) × (text.new ≡ text.old) × (is_key.new ≡ 0) }
+{
+    let options = Options {
+        all: all != 0,
+        json: false,
+        levels: 0,
+        offset: 0,
+        file: &[],
+    };
+    write_picture(input, &options, room, text, len, is_key)
+}
+
+/// Writes the picture of an input as `sec1_picture_draw` does, or in another form: with `json`
+/// other than 0 as lines of JSON, in which `file` is the name of the file, if it isn't empty; with
+/// `levels` other than 0 of so many levels; with `offset` other than 0 of the element alone that
+/// begins after so many bytes.
+///
+/// # Errors
+///
+/// Those of `sec1_picture_draw`.
+#[unsafe(no_mangle)]
+pub extern "C" fn sec1_picture_write(
+    input: &[u8],
+    all: usize,
+    json: usize,
+    levels: usize,
+    offset: usize,
+    file: &[u8],
+    room: &mut [u8],
+    text: &mut [u8],
+    len: &mut usize,
+    is_key: &mut usize,
+) -> u32
+    ensures exact { json ≡ 0 → levels ≡ 0 → offset ≡ 0
+        → length text.old + min (2 * text_len input.now + 2) (2 ^ 64 - 1) ≤ length room.old
+        → IsDrawn (picture_text (not (all == 0)) input.now) (key_number input.now) text.old text.new
+        result len.new is_key.new }
+    ensures stored { IsStored text.old text.new result len.new is_key.new }
+    ensures key { result ≡ 0 → offset ≡ 0 → is_key.new ≡ key_number input.now }
+    ensures buffer { length room.old
+        < length text.old + min (2 * text_len input.now + 2) (2 ^ 64 - 1)
+        → (result ≡ 7) × (len.new ≡ 0) × (text.new ≡ text.old) × (is_key.new ≡ 0) }
+{
+    let options = Options {
+        all: all != 0,
+        json: json != 0,
+        levels,
+        offset,
+        file,
+    };
+    write_picture(input, &options, room, text, len, is_key)
+}
+
+/// Writes the picture of an input by these options at the beginning of `text`, and stores its
+/// length and whether some part of what is drawn is a key.
+///
+/// # Errors
+///
+/// Those of `sec1_picture_draw`.
+fn write_picture(
+    input: &[u8],
+    options: &Options,
+    room: &mut [u8],
+    text: &mut [u8],
+    len: &mut usize,
+    is_key: &mut usize,
+) -> u32
+    ensures exact { are_plain options.now ≡ true
+        → length text.old + min (2 * text_len input.now + 2) (2 ^ 64 - 1) ≤ length room.old
+        → IsDrawn (picture_text options.now.all input.now) (key_number input.now) text.old text.new
+        result len.new is_key.new }
+    ensures stored { IsStored text.old text.new result len.new is_key.new }
+    ensures key { result ≡ 0 → options.now.offset ≡ 0 → is_key.new ≡ key_number input.now }
     ensures buffer { length room.old
         < length text.old + min (2 * text_len input.now + 2) (2 ^ 64 - 1)
         → (result ≡ 7) × (len.new ≡ 0) × (text.new ≡ text.old) × (is_key.new ≡ 0) }
 {
     *len = 0;
     *is_key = 0;
-    if room.len() < text.len() || room.len() - text.len() < room_len(input) {
+    if room.len() < text.len() || !is_room(input, room.len() - text.len()) {
         return kind_number(ErrorKind::Buffer);
     }
     let (copy, room) = room.split_at_mut(text.len());
     let mut writer = Text::new(copy);
-    let has_key = match draw(&mut writer, input, room, all != 0) {
+    let has_key = match show(&mut writer, input, room, options) {
         Ok(has_key) => has_key,
         Err(never) => match never {},
     };
@@ -60,8 +139,9 @@ pub extern "C" fn sec1_picture_draw(
     write_bytes(writer.as_bytes(), text, len)
 }
 
-/// Stores what each line of the picture of an input is of, and their number. What is decoded is
-/// written into `room`, one part after the other.
+/// Stores what each line of the picture of an input is of, and their number: of the picture that
+/// `sec1_picture_draw` writes with 0 for `all`. What is decoded is written into `room`, one part
+/// after the other.
 ///
 /// # Errors
 ///
@@ -75,19 +155,20 @@ pub extern "C" fn sec1_picture_lines(
     count: &mut usize,
 ) -> u32
     ensures exact { min (2 * text_len input.now + 2) (2 ^ 64 - 1) ≤ length room.old
-        → IsListed (length room.old / 2 - 1) input.now lines.old lines.new result count.new }
+        → AreListed (picture_lines (length room.old / 2 - 1) input.now) lines.old lines.new result
+        count.new }
     ensures decoded { min (2 * text_len input.now + 2) (2 ^ 64 - 1) ≤ length room.old
         → IsDecodedAt (length room.old / 2 - 1) input.now room.new }
     ensures buffer { length room.old < min (2 * text_len input.now + 2) (2 ^ 64 - 1)
         → (result ≡ 7) × (count.new ≡ 0) × (lines.new ≡ lines.old) }
 {
     *count = 0;
-    if room.len() < room_len(input) {
+    if !is_room(input, room.len()) {
         return kind_number(ErrorKind::Buffer);
     }
     let most = lines.len();
     let (digits, bytes) = room.split_at_mut((room.len() / 2).saturating_sub(1));
-    let mut lines = Lines::new(lines);
+    let mut lines = Lines::new(lines, plan_of(input));
     let mut sources = Sources::new(input);
     let mut used = 0;
     while let Some(source) = sources.next_source() {
@@ -106,6 +187,21 @@ pub extern "C" fn sec1_picture_lines(
     }
 }
 
+/// Returns `true` if `len` bytes of memory are as many as [`room_len`] says. Where they are enough
+/// for a text as long as the input, its bytes aren't looked at.
+fn is_room(input: &[u8], len: usize) -> bool
+    ensures { IsTrue result ↔ (min (2 * text_len input.now + 2) (2 ^ 64 - 1) ≤ len) }
+{
+    room_of_text(input.len()) <= len || room_len(input) <= len
+}
+
+/// Returns the number of bytes of memory that decoding a text of so many bytes needs.
+fn room_of_text(len: usize) -> usize
+    ensures { result ≡ min (2 * len + 2) (2 ^ 64 - 1) }
+{
+    len.saturating_mul(2).saturating_add(2)
+}
+
 /// Returns the number of characters of a part that may encode bytes.
 fn source_len(source: &Source) -> usize
     ensures { result ≡ source_len (source_view source.now) }
@@ -113,6 +209,6 @@ fn source_len(source: &Source) -> usize
     match source {
         Source::Pem { block, .. } => block.body.len(),
         Source::Text(text) => text.len(),
-        Source::Der(_) | Source::Utf16 => 0,
+        Source::Der(_) | Source::Wide(_) => 0,
     }
 }

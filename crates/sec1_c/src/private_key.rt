@@ -10,7 +10,7 @@ ghost use Rattle.sec1.specs.KeyFaults.{key_fault};
 ghost use Rattle.sec1.specs.Keys.{Key, IsKeyOf};
 ghost use Rattle.sec1_der.specs.Faults.{element_fault, end_fault};
 ghost use Rattle.sec1_c.specs.Containers.{IsContainer};
-ghost use Rattle.sec1_c.specs.KeyPlaces.{ArePartsOf, IsKey, key_places};
+ghost use Rattle.sec1_c.specs.KeyPlaces.{AreWithin, ArePartsOf, IsKey, key_places};
 ghost use Rattle.sec1_c.specs.PrivateKeys.{AreContainedPartsOf, IsContained, IsKeyIn};
 ghost use Rattle.sec1_c.specs.PrivateKeys.{contained_places, has_algorithm, places_after};
 ghost use Rattle.sec1_c.specs.PrivateKeys.{tag_fault};
@@ -20,11 +20,11 @@ ghost use Rattle.sec1_c.specs.Statuses.{other_curve_number};
 mod fault;
 
 use crate::container::{self, PrivateKeyInfoParts};
-use crate::key::{self, KeyParts};
-use crate::status::{OK, curve_number, error_number, kind_number, other_curve_number};
+use crate::key::{KeyParts, sec1_key_read};
+use crate::span::Span;
+use crate::status::{OK, curve_number, kind_number, other_curve_number};
 use curves::Curve;
-use sec1::BorrowedKey;
-use sec1::der::{ErrorKind, SliceReader, Tag};
+use sec1::der::{ErrorKind, IdentifierRef, SliceReader, Tag};
 
 /// Reads an EC private key, which is all of `bytes`, by itself or in its container, and stores the
 /// places of its parts. In a container the curve is that of the algorithm, and one of the table;
@@ -69,7 +69,7 @@ pub extern "C" fn sec1_private_key_read(bytes: &[u8], parts: &mut KeyParts) -> u
     if has_algorithm(bytes) {
         read_contained(bytes, parts)
     } else {
-        key::sec1_key_read(bytes, parts)
+        sec1_key_read(bytes, parts)
     }
 }
 
@@ -126,36 +126,48 @@ fn read_contained(bytes: &[u8], parts: &mut KeyParts) -> u32
         return curve_number();
     };
     let inside = container.private_key.bytes;
-    let key = match BorrowedKey::try_from(inside) {
-        Ok(key) => key,
-        Err(error) => return error_number(&error),
-    };
-    if !names_curve(&key, curve) {
+    let mut inner = KeyParts::absent();
+    let status = sec1_key_read(inside, &mut inner);
+    if status != OK {
+        return status;
+    }
+    if !names_curve(inside, &inner, curve) {
         return other_curve_number();
     }
     let outer = container::places(bytes, &container, curve);
-    *parts = places_in(&outer, inside, &key);
+    *parts = places_in(&outer, &inner);
     OK
 }
 
-/// Returns `true` if the key names this curve or none.
-fn names_curve(key: &BorrowedKey, curve: Curve) -> bool
-    ensures { IsTrue result ↔ NamesCurve curve key.now }
+/// Returns `true` if the key in these bytes, whose parts have these places, names this curve or
+/// none.
+#[tactic(auto, using(crate::proofs::PrivateKeyLemmas::names))]
+fn names_curve(bytes: &[u8], parts: &KeyParts, curve: Curve) -> bool
+    requires { AreWithin bytes.now parts.now }
+    ensures { (key : Key) → IsKeyOf key bytes.now → ArePartsOf key bytes.now parts.now
+        → IsTrue result ↔ NamesCurve curve key }
 {
-    match &key.curve {
-        Some(named) => named.to_identifier() == curve.identifier(),
-        None => true,
+    let Span {
+        offset,
+        len,
+        present,
+    } = parts.curve;
+    if present == 0 {
+        return true;
+    }
+    match IdentifierRef::from_bytes(&bytes[offset..][..len]) {
+        Ok(named) => named.to_identifier() == curve.identifier(),
+        Err(_) => false,
     }
 }
 
-/// Returns the places of the parts of the key that was read from the bytes inside a container,
-/// whose parts have these places.
-fn places_in(outer: &PrivateKeyInfoParts, inside: &[u8], key: &BorrowedKey) -> KeyParts
-    requires is_key { IsKeyOf key.now inside.now }
-    requires room { outer.now.key.offset + length inside.now < 2 ^ 64 }
-    ensures { result ≡ places_after outer.now (key_places key.now inside.now) }
+/// Returns the places of the parts of a key in a container, whose parts have these places. Those of
+/// the key have these in its own bytes.
+fn places_in(outer: &PrivateKeyInfoParts, inner: &KeyParts) -> KeyParts
+    requires private_key { outer.now.key.offset + inner.now.private_key.offset < 2 ^ 64 }
+    requires public_key { outer.now.key.offset + inner.now.public_key.offset < 2 ^ 64 }
+    ensures { result ≡ places_after outer.now inner.now }
 {
-    let inner = key::places::places(inside, key);
     KeyParts {
         private_key: inner.private_key.shifted(outer.key.offset),
         curve: outer.curve,

@@ -62,7 +62,7 @@ impl Span {
     }
 
     /// Returns the place of an absent part.
-    fn absent() -> Span
+    pub fn absent() -> Span
         ensures { result ≡ record { offset = 0; len = 0; present = 0 } }
     {
         Span {

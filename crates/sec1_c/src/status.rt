@@ -3,6 +3,7 @@ ghost use Rattle.std.specs.Prelude.{◌≡◌, Option, Some};
 ghost use Rattle.sec1.specs.Errors.{IsAsn1, IsAsn1Where};
 ghost use Rattle.sec1_c.specs.Statuses.{curve_number, error_number, fault_number};
 ghost use Rattle.sec1_c.specs.Statuses.{field_length_number, kind_number, other_curve_number};
+ghost use Rattle.sec1_c.specs.Statuses.{pem_number};
 
 mod text;
 
@@ -25,9 +26,9 @@ pub fn kind_number(kind: ErrorKind) -> u32
         ErrorKind::Overlength => 6,
         ErrorKind::Buffer => 7,
         ErrorKind::Depth => 8,
-        ErrorKind::Failed => 13,
-        ErrorKind::Io => 14,
-        ErrorKind::Memory => 15,
+        ErrorKind::Failed => 14,
+        ErrorKind::Io => 15,
+        ErrorKind::Memory => 16,
     }
 }
 
@@ -41,9 +42,9 @@ pub fn error_number(error: &Error) -> u32
     match error {
         Error::Asn1(cause) => kind_number(cause.kind),
         Error::PointEncoding => 9,
-        Error::Memory => 15,
-        Error::Crypto => 16,
-        Error::Version => 17,
+        Error::Memory => 16,
+        Error::Crypto => 17,
+        Error::Version => 18,
     }
 }
 
@@ -66,4 +67,11 @@ pub fn other_curve_number() -> u32
     ensures { result ≡ other_curve_number }
 {
     12
+}
+
+/// Returns the number of a text without the PEM that is asked for.
+pub fn pem_number() -> u32
+    ensures { result ≡ pem_number }
+{
+    13
 }

@@ -15,7 +15,10 @@ STRUCTS = {
     "PictureLine": "struct sec1_picture_line",
 }
 # What the header alone has: a struct whose members are given to a call by inline functions.
-UNPROVED = {"struct sec1_key", "sec1_key_len_of", "sec1_key_write_of"}
+UNPROVED = {
+    "struct sec1_key", "sec1_key_len_of", "sec1_key_write_of", "struct sec1_picture_options",
+    "sec1_picture_show",
+}
 NUMBERS = {"usize": "size_t", "u32": "uint32_t", "i32": "int32_t"}
 
 

@@ -1,4 +1,2 @@
-pub mod JsonLemmas
-pub mod ObjectLemmas
 pub mod ShownLemmas
 pub mod TextLemmas

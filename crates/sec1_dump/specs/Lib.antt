@@ -1,4 +1,1 @@
-pub mod Text
-pub mod Objects
-pub mod Json
 pub mod Shown

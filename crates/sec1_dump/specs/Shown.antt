@@ -1,11 +1,10 @@
 -- What a run of the program shows of a file.
-use Rattle.std.specs.Prelude.{◌≡◌, ◌≤◌, ℕ, Bool, true, false, if◌then◌else◌, List, [], ◌++◌}
+use Rattle.std.specs.Prelude.{◌≡◌, ◌==◌, ◌&&◌, ◌≤◌, ℕ, Bool, not, true, false, if◌then◌else◌}
+use Rattle.std.specs.Prelude.{List, [], ◌++◌}
 use Rattle.std.specs.Prelude.{chars, codes, length, Option, Some, Result, Ok, Err, ⊤}
 use Rattle.std.specs.Io.KnownBytes.{Appends}
 use Rattle.der_view.specs.Characters.{escaped_all}
-use Rattle.der_view.specs.Inputs.{ArePictures}
-use Rattle.der_view.specs.Sources.{sources_of}
-use Rattle.sec1_dump.specs.Json.{AreJson}
+use Rattle.der_view.specs.Drawings.{has_key, picture_text}
 use Rattle.sec1_dump.specs.declared.failure.Failure.{Failure}
 use Rattle.sec1_dump.specs.declared.failure.Failure.TheVariants.{Input, Memory, Output}
 use Rattle.sec1_dump.specs.declared.output.Style.{Style}
@@ -31,28 +30,24 @@ abbrev pub title : Bool → Option (List ℕ) → List ℕ
 title true (Some file) = escaped_all (chars file) ++ codes ":\n"
 title named file = []
 
--- the pictures of the parts of an input, below the name of its file
-abbrev pub IsDrawn : Style → Option (List ℕ) → List ℕ → List ℕ → Bool → Type 0
-IsDrawn style file input text has_key =
-    (pictures : List ℕ) × ArePictures style.all (sources_of input) pictures has_key
-    × (text ≡ title style.named file ++ pictures)
+-- whether all of an input is drawn, in rows
+abbrev pub is_plain : Style → Bool
+is_plain style = not style.json && (style.levels == 0 && style.offset == 0)
 
--- what is shown of an input: lines of JSON, or pictures
-abbrev pub IsShownAs : Bool → Style → Option (List ℕ) → List ℕ → List ℕ → Bool → Type 0
-IsShownAs true style file input text has_key =
-    AreJson style.all file (sources_of input) text has_key
-IsShownAs false style file input text has_key = IsDrawn style file input text has_key
-
-abbrev pub IsShown : Style → Option (List ℕ) → List ℕ → List ℕ → Bool → Type 0
-IsShown style file input text has_key = IsShownAs style.json style file input text has_key
+-- Some part of the input is a key, or none is. Of pictures in rows of all of it: they were written,
+-- below the name of the file.
+pub record IsShown (style : Style) (file : Option (List ℕ)) (input : List ℕ)
+    (old new : Option (List ℕ)) (found : Bool) : Type 0 where
+  pub key : style.offset ≡ 0 → found ≡ has_key input
+  pub appended :
+      is_plain style ≡ true
+      → Appends old new (title style.named file ++ picture_text style.all input)
 
 -- the input isn't too long, and all that is shown of it was written
 pub record Shows (style : Style) (file : Option (List ℕ)) (input : List ℕ)
-    (old new : Option (List ℕ)) (has_key : Bool) : Type 0 where
+    (old new : Option (List ℕ)) (found : Bool) : Type 0 where
   pub short : length input ≤ limit
-  pub text : List ℕ
-  pub appended : Appends old new text
-  pub is_shown : IsShown style file input text has_key
+  pub shown : IsShown style file input old new found
 
 -- the status for a file: 0 if it has a key, 1 if it has none, 2 if it couldn't be read or shown
 abbrev pub status_of : Result Bool Failure → ℕ

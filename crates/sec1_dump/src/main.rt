@@ -2,8 +2,6 @@
 #![tactic(auto)]
 
 mod failure;
-mod json;
-mod objects;
 mod output;
 mod text;
 
@@ -11,7 +9,7 @@ use crate::failure::Failure;
 use crate::output::{Style, show, status_of};
 use crate::text::escaped;
 use clap::error::ErrorKind;
-use clap::{Arg, ArgAction, ArgMatches, Command, Error};
+use clap::{Arg, ArgAction, ArgMatches, Command, Error, value_parser};
 use std::alloc::{AllocError, Global};
 use std::io::BufWriter;
 use std::process::ExitCode;
@@ -20,6 +18,16 @@ use std::{env, fs, io};
 
 /// The number of bytes that are written at a time.
 const BUFFER: usize = 65_536;
+
+/// What `--help` says after the options.
+const MORE: &str = "\
+A content that may be private is hidden: its length stands in its place. A file has at most
+16,777,215 bytes.
+
+The status is 0 if each file has an EC private key (RFC 5915), 1 if one has none, and 2 if
+one can't be read or shown, or for wrong arguments.
+
+Example: sec1_dump --depth 1 key.pem";
 
 /// Returns the arguments that these words give.
 ///
@@ -35,6 +43,16 @@ fn parsed<'a>(alloc: Global, words: &'a [String]) -> Result<ArgMatches<'a>, Erro
         .long("json")
         .action(ArgAction::SetTrue)
         .help("Prints lines of JSON");
+    let offset = Arg::new(alloc, "offset")
+        .long("offset")
+        .value_name("N")
+        .value_parser(value_parser!(usize).range(0..=16_777_215))
+        .help("Draws the element that begins after N bytes alone");
+    let depth = Arg::new(alloc, "depth")
+        .long("depth")
+        .value_name("N")
+        .value_parser(value_parser!(usize).range(0..=16_777_215))
+        .help("Draws no element that more than N others are around");
     let file = Arg::new(alloc, "FILE")
         .num_args(1..)
         .action(ArgAction::Append)
@@ -42,8 +60,12 @@ fn parsed<'a>(alloc: Global, words: &'a [String]) -> Result<ArgMatches<'a>, Erro
     Command::new(alloc, "sec1_dump")
         .version("0.2.0")
         .about("Draws any file that people have in place of a key, and says what it is")
+        .after_help(MORE)
+        .args_override_self(true)
         .arg(all)?
         .arg(json)?
+        .arg(offset)?
+        .arg(depth)?
         .arg(file)?
         .try_get_matches_from(words)
 }
@@ -124,6 +146,11 @@ fn dump<H: AllocGlobal + Env + Eprint + Files + Input + Print>(rt: &H, matches: 
     let style = Style {
         all: matches.get_flag("all"),
         json: matches.get_flag("json"),
+        levels: match matches.get_one::<usize>("depth") {
+            Some(depth) => depth.saturating_add(1),
+            None => 0,
+        },
+        offset: matches.get_one::<usize>("offset").unwrap_or(0),
         named: false,
     };
     match matches.get_strs("FILE") {
@@ -151,7 +178,7 @@ fn tell_arguments<H: Eprint + Print>(rt: &H, error: Error) -> u8 {
             2
         }
         _ => {
-            let _ = eprintln!(rt; "sec1_dump: unknown option; see --help");
+            let _ = error.print(rt);
             2
         }
     }

@@ -8,9 +8,8 @@ ghost use Rattle.sec1_dump.specs.Shown.{title};
 ghost use Rattle.sec1_dump.specs.declared.failure.Failure.TheVariants.{Memory, TooLong};
 
 use crate::failure::Failure;
-use crate::json::write_json;
 use crate::text::escaped;
-use der_view::{draw, room_len};
+use der_view::{Options, room_len};
 use std::alloc::Global;
 use std::io;
 use std::io::{Read as _, Write as _};
@@ -23,8 +22,12 @@ const LIMIT: usize = 16_777_215;
 pub(crate) struct Style {
     /// Whether all contents are shown.
     pub(crate) all: bool,
-    /// Whether lines of JSON are printed, and no pictures.
+    /// Whether lines of JSON are printed, and no rows.
     pub(crate) json: bool,
+    /// Of how many levels rows are drawn; 0 for all.
+    pub(crate) levels: usize,
+    /// The number of bytes before the element that is drawn alone; 0 for all bytes.
+    pub(crate) offset: usize,
     /// Whether the name of each file stands above its pictures.
     pub(crate) named: bool,
 }
@@ -119,19 +122,29 @@ fn write_shown<W: io::Write>(
     writer: &mut W,
 ) -> Result<bool, Failure>
     requires { length input.now ≤ limit }
-    ensures { IfOk result (λ has_key. (text : List ℕ)
-        × Appends (W.contents writer.old) (W.contents writer.new) text
-        × IsShown style (option_map (λ name. name.now) file.entry) input.now text has_key) }
+    ensures { IfOk result (λ has_key. IsShown style (option_map (λ name. name.now) file.entry)
+        input.now (W.contents writer.old) (W.contents writer.new) has_key) }
 {
     let mut room = vec![in alloc; 0u8; room_len(input)]?;
-    let room = room.as_mut_slice();
-    if style.json {
-        return write_json(alloc, writer, style.all, file, input, room);
-    }
-    write_title(alloc, writer, style.named, file)?;
-    match draw(writer, input, room, style.all) {
+    write_title(alloc, writer, style.named && !style.json, file)?;
+    let options = Options {
+        all: style.all,
+        json: style.json,
+        levels: style.levels,
+        offset: style.offset,
+        file: name_bytes(file),
+    };
+    match der_view::show(writer, input, room.as_mut_slice(), &options) {
         Ok(has_key) => Ok(has_key),
         Err(error) => Err(Failure::Output(error)),
+    }
+}
+
+/// Borrows the bytes of the name of a file; none if it has no name.
+fn name_bytes(file: Option<&str>) -> &[u8] {
+    match file {
+        Some(name) => name.as_bytes(),
+        None => &[],
     }
 }
 

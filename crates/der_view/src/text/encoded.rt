@@ -1,9 +1,12 @@
 //! Hexadecimal and base64, decoded into memory that is given.
-ghost use Rattle.std.specs.Prelude.{◌≡◌, ◌≤◌, ◌+◌, length, take, MatchOption};
-ghost use Rattle.der_view.specs.Encoded.{IsDecoded, base64_bytes, hex_bytes, hex_digits, is_blank};
-ghost use Rattle.der_view.specs.Encoded.{is_separator, stripped};
+ghost use Rattle.std.specs.Prelude.{◌≡◌, ◌≤◌, ◌<◌, ◌+◌, length, take, IfSome, IsTrue};
+ghost use Rattle.der_view.specs.Encoded.{IsDecoded, base64_bytes, begins_with, hex_bytes};
+ghost use Rattle.der_view.specs.Encoded.{hex_digits, is_blank, is_digit, is_escape, is_separator};
+ghost use Rattle.der_view.specs.Encoded.{mended_bytes, mended_digits, place_of, standard_digit};
+ghost use Rattle.der_view.specs.Encoded.{stripped};
 
-use base64::engine::general_purpose::STANDARD;
+use crate::plan::plan_of;
+use base64::engine::general_purpose::{STANDARD, STANDARD_NO_PAD};
 
 /// Returns `true` if the byte is a space, a tab, or part of the end of a line.
 fn is_blank(byte: u8) -> bool
@@ -51,7 +54,7 @@ fn is_separator(byte: u8) -> bool
 }
 
 /// Writes the bytes of a text that are no separators and no `0x` to the front of `digits`, and
-/// returns their number.
+/// returns their number. They are taken two by two, as digits beside each other have to be.
 fn strip_hex(text: &[u8], digits: &mut [u8]) -> usize
     requires { length text.now ≤ length digits.old }
     ensures digits { take result digits.new ≡ hex_digits text.now }
@@ -59,15 +62,22 @@ fn strip_hex(text: &[u8], digits: &mut [u8]) -> usize
 {
     let mut rest = text;
     let mut count = 0;
-    while let [byte, after @ ..] = rest {
-        if *byte == b'0' && after.first() == Some(&b'x') {
-            rest = &after[1..];
+    while let [byte, next, later @ ..] = rest {
+        if *byte == b'0' && (*next == b'x' || *next == b'X') {
+            rest = later;
+        } else if is_separator(*byte) {
+            rest = &rest[1..];
         } else {
-            if !is_separator(*byte) {
-                digits[count] = *byte;
-                count += 1;
-            }
-            rest = after;
+            digits[count] = *byte;
+            digits[count + 1] = *next;
+            count += 2;
+            rest = later;
+        }
+    }
+    if let [byte] = rest {
+        if !is_separator(*byte) {
+            digits[count] = *byte;
+            return count + 1;
         }
     }
     count
@@ -89,4 +99,97 @@ pub(super) fn hex_into(text: &[u8], digits: &mut [u8], bytes: &mut [u8]) -> Opti
         Ok(()) => Some(count / 2),
         Err(_) => None,
     }
+}
+
+/// Writes the digits of base64 in a text to the front of `digits`, those of base64url as such,
+/// without ends of lines that are written as a backslash and a letter, and returns their number.
+fn strip_mended(text: &[u8], digits: &mut [u8]) -> usize
+    requires { length text.now ≤ length digits.old }
+    ensures digits { take result digits.new ≡ mended_digits text.now }
+    ensures within { result ≤ length text.now }
+{
+    let mut rest = text;
+    let mut count = 0;
+    while let [byte, after @ ..] = rest {
+        if *byte == b'\\' && is_escape(after) {
+            rest = &after[1..];
+        } else {
+            if is_digit(*byte) {
+                digits[count] = standard_digit(*byte);
+                count += 1;
+            }
+            rest = after;
+        }
+    }
+    count
+}
+
+/// Returns `true` if these bytes after a backslash begin with the letter of an end of a line.
+fn is_escape(after: &[u8]) -> bool
+    ensures value { result ≡ is_escape after.now }
+    ensures some { IsTrue result → 0 < length after.now }
+{
+    matches!(after, [b'n' | b'r', ..])
+}
+
+/// Returns `true` if the byte is a digit of base64 or base64url (RFC 4648 sections 4 and 5).
+fn is_digit(byte: u8) -> bool
+    ensures { result ≡ is_digit byte }
+{
+    byte.is_ascii_alphanumeric() || byte == b'+' || byte == b'/' || byte == b'-' || byte == b'_'
+}
+
+/// Returns the digit of base64 for one of base64url.
+fn standard_digit(byte: u8) -> u8
+    ensures { result ≡ standard_digit byte }
+{
+    match byte {
+        b'-' => b'+',
+        b'_' => b'/',
+        _ => byte,
+    }
+}
+
+/// Writes the bytes that a text encodes which is almost base64 to the front of `bytes`, and returns
+/// their number; `None` if these aren't one whole element. `digits` is memory for its digits.
+#[tactic(auto, unfolding(crate::specs::Encoded::mended_bytes))]
+pub(super) fn mended_into(text: &[u8], digits: &mut [u8], bytes: &mut [u8]) -> Option<usize>
+    requires digits { length text.now ≤ length digits.old }
+    requires bytes { length text.now + 2 ≤ length bytes.old }
+    ensures { IsDecoded (mended_bytes text.now) result bytes.new }
+{
+    let count = strip_mended(text, digits);
+    let len = STANDARD_NO_PAD
+        .decode_slice_unchecked(&digits[..count], bytes)
+        .ok()?;
+    if plan_of(&bytes[..len]).is_tree {
+        Some(len)
+    } else {
+        None
+    }
+}
+
+/// Returns the first place at which a text has another.
+#[tactic(auto, unfolding(crate::specs::Encoded::place_of))]
+pub(super) fn place_of(text: &[u8], other: &[u8]) -> Option<usize>
+    ensures value { result ≡ place_of text.now other.now }
+    ensures within { IfSome result (λ place. place + length other.now ≤ length text.now) }
+{
+    let mut place = 0;
+    let mut rest = text;
+    while let [_, others @ ..] = rest {
+        if begins_with(rest, other) {
+            return Some(place);
+        }
+        rest = others;
+        place += 1;
+    }
+    None
+}
+
+/// Returns `true` if a text begins with another.
+fn begins_with(text: &[u8], other: &[u8]) -> bool
+    ensures { result ≡ begins_with text.now other.now }
+{
+    other.len() <= text.len() && text.starts_with(other)
 }

@@ -56,7 +56,7 @@ impl<'a> Lines<'a> {
 }
 
 /// Returns the number of bytes before the first end of a line.
-fn line_len(text: &[u8]) -> usize
+pub(super) fn line_len(text: &[u8]) -> usize
     ensures value { result ≡ position_or_len is_line_end text.now }
     ensures within { result ≤ length text.now }
 {
@@ -106,7 +106,7 @@ pub struct Block<'a> {
 }
 
 /// The blocks of a text.
-#[derive(Clone, Copy)]
+#[derive(Drop)]
 pub struct Blocks<'a> {
     /// The lines that are left.
     lines: Lines<'a>,
@@ -192,7 +192,7 @@ fn label_of(line: &[u8]) -> Option<&[u8]>
 }
 
 /// Returns `true` if the text is a label.
-fn is_label(text: &[u8]) -> bool
+pub(super) fn is_label(text: &[u8]) -> bool
     ensures { result ≡ is_label text.now }
 {
     1 <= text.len() && text.len() <= LABEL_MOST && are_label_bytes(text)

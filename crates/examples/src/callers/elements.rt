@@ -5,6 +5,7 @@ ghost use Rattle.std.specs.Prelude.{IfOk, IfErr, IsOkAnd, slice_get};
 ghost use Rattle.sec1.specs.Der.{max_length, element, octets_of, tag_of, value_of};
 ghost use Rattle.sec1.specs.Der.{element_of, header_fault, IsHeader, IsHeaderFault, header};
 ghost use Rattle.sec1.specs.Der.{IsProperPrefix, Refuses};
+ghost use Rattle.sec1_der.specs.Identifiers.{identifier_content};
 
 use sec1::der::{
     self, AnyRef, ErrorKind, IdentifierRef, ObjectIdentifier, OctetStringRef, SliceReader, Tag,
@@ -66,6 +67,18 @@ pub fn count_arcs(identifier: &IdentifierRef) -> usize
     ensures some { 2 ≤ result }
 {
     identifier.arcs().count()
+}
+
+/// Reads an identifier, and returns the number of its arcs.
+pub fn count_of_element(bytes: &[u8]) -> der::Result<usize>
+    ensures found { IfOk result (λ count. (arcs : List ℕ)
+        × (element_of 0x06 (identifier_content arcs) ≡ Some bytes.now)
+        × (count ≡ length arcs)) }
+    ensures only { (arcs : List ℕ) → element_of 0x06 (identifier_content arcs) ≡ Some bytes.now
+        → IsOkAnd result (λ count. count ≡ length arcs) }
+{
+    let identifier: IdentifierRef = der::read_der(bytes)?;
+    Ok(identifier.arcs().count())
 }
 
 /// Reads an octet string. One that ends too early is refused as Truncated.

@@ -1,139 +1,31 @@
-//! Pictures of any input, by `der_view`: its sources, its rows, and what no row has.
-ghost use Rattle.std.specs.Prelude.{◌≡◌, ◌≤◌, ◌∷◌, ◌++◌, [], List, ℕ, Bool, false, length, drop};
-ghost use Rattle.std.specs.Prelude.{All, IfErr, IfOk, IfSome, IsSomeAnd, MatchOption, None, take};
-ghost use Rattle.sec1_der.specs.Faults.{tree_fault};
+//! Pictures of any input, by `der_view`: its sources, its text, its rows, and what is a key.
+ghost use Rattle.std.specs.Prelude.{◌≡◌, ◌≤◌, ◌+◌, ◌∷◌, [], List, ℕ, Bool, true, false, length};
+ghost use Rattle.std.specs.Prelude.{IfOk, IsSomeAnd};
+ghost use Rattle.sec1.specs.Keys.{IsKeyOf, Key};
+ghost use Rattle.der_view.specs.Drawings.{has_key, is_key_of, picture_text};
 ghost use Rattle.der_view.specs.Headers.{max_content_len};
-ghost use Rattle.der_view.specs.Inputs.{ArePictures};
-ghost use Rattle.der_view.specs.OpenLaws.{DifferInKey, DifferUnseen, IsRootOf, SamePictures};
-ghost use Rattle.der_view.specs.OpenLaws.{key_bytes};
-ghost use Rattle.der_view.specs.Pictures.{AreRows, AreRowsOf};
-ghost use Rattle.der_view.specs.Plans.{plan_of};
-ghost use Rattle.der_view.specs.RowLaws.{HidesContent, IsSameRow};
-ghost use Rattle.der_view.specs.Rows.{Undrawn, bytes_of_rows};
-ghost use Rattle.der_view.specs.Sources.{Der, is_text, is_utf16, source_view, sources_of};
-ghost use Rattle.der_view.specs.TreeLaws.{AreWhole, IsBytes, MayBeWhole, outer_rows};
-ghost use Rattle.der_view.specs.declared.row.OpenRow.{OpenRow};
+ghost use Rattle.der_view.specs.Masks.{AreAlike};
+ghost use Rattle.der_view.specs.Pictures.{picture, plan_of};
+ghost use Rattle.der_view.specs.Printing.{AreLines, rows_lines, rows_text};
+ghost use Rattle.der_view.specs.RowLaws.{AllFollow, AreAt, offset_of, row_len, rows_len};
+ghost use Rattle.der_view.specs.Rows.{Row};
+ghost use Rattle.der_view.specs.Sources.{Der, has_begin, is_text, source_view};
 
-use der_view::{OpenRow, Rows, Source, Sources, draw, laws, room_len};
-use sec1_der::{Result, check_tree};
+use der_view::{
+    Name, Plan, Secrecy, Source, Sources, draw, is_key, laws, lines_are_short, plan_of, room_len,
+    write_rows,
+};
+use sec1::{EcPrivateKey, Error};
 use std::alloc::Global;
 use std::io;
 
-/// Returns the first source of an input. What is no text is its own source.
+/// Returns the first source of an input. A key is its own source.
 pub fn first_source(input: &[u8]) -> Option<Source<'_>>
-    ensures { is_text input.now ≡ false → is_utf16 input.now ≡ false
+    ensures { (plan_of input.now).is_whole ≡ true
         → IsSomeAnd result (λ source. source_view source ≡ Der input.now) }
 {
+    laws::keys_are_found(input);
     Sources::new(input).next_source()
-}
-
-/// Returns the first row of a picture without the contents. Its header is the first bytes, and no
-/// content is in it.
-pub fn first_row(input: &[u8]) -> Option<OpenRow<'_>>
-    ensures none { result ≡ None → input.now ≡ [] }
-    ensures header { IfSome result
-        (λ row. row.header.now ≡ take (length row.header.now) input.now) }
-    ensures hidden { IfSome result (λ row. row.content ≡ None) }
-{
-    Rows::new(input, false).next_row()
-}
-
-/// Returns the number of bytes before the third row, which is at most that of all bytes.
-pub fn first_two(input: &[u8]) -> Option<usize>
-    ensures { IfSome result (λ end. end ≤ length input.now) }
-{
-    let mut rows = Rows::new(input, false);
-    let _first = rows.next_row()?;
-    let second = rows.next_row()?;
-    Some(second.offset + second.header.len() + second.own_len)
-}
-
-/// Returns the first rows of two inputs. Those of equal bytes have the same members.
-pub fn first_rows<'a>(one: &'a [u8], other: &'a [u8]) -> (Option<OpenRow<'a>>, Option<OpenRow<'a>>)
-    ensures { one.now ≡ other.now → MatchOption result.0 (result.1 ≡ None)
-        (λ row. IsSomeAnd result.1 (IsSameRow row)) }
-{
-    laws::next_is_one();
-    (
-        Rows::new(one, false).next_row(),
-        Rows::new(other, false).next_row(),
-    )
-}
-
-/// Returns the next two rows. Their bytes, and then those that have no row yet, are the bytes that
-/// had none before.
-pub fn next_two<'a>(rows: &mut Rows<'a>) -> Option<(OpenRow<'a>, OpenRow<'a>)>
-    ensures { (input : List ℕ) → rows.old.left ≡ drop rows.old.offset input
-        → IfSome result (λ found. rows.old.left
-        ≡ bytes_of_rows input (found.0 ∷ (found.1 ∷ [])) ++ rows.new.left) }
-{
-    laws::rows_are_input();
-    let first = rows.next_row()?;
-    let second = rows.next_row()?;
-    Some((first, second))
-}
-
-/// Returns the first two rows of an input, and those that are still to come.
-pub fn first_two_rows(input: &[u8]) -> Option<(OpenRow<'_>, OpenRow<'_>, Rows<'_>)>
-    ensures { IfSome result (λ found. input.now
-        ≡ bytes_of_rows input.now (found.0 ∷ (found.1 ∷ [])) ++ found.2.left) }
-{
-    let mut rows = Rows::new(input, false);
-    let (first, second) = next_two(&mut rows)?;
-    Some((first, second, rows))
-}
-
-/// Returns the next row. The bytes of those drawn before it, and then those that had no row, are
-/// the bytes that were there before the first of them.
-pub fn next_after<'a>(rows: &mut Rows<'a>) -> Option<OpenRow<'a>>
-    ensures { (input : List ℕ) (drawn : List OpenRow) (first : Undrawn)
-        → AreRowsOf drawn first rows.old → first.left ≡ drop first.offset input
-        → first.left ≡ bytes_of_rows input drawn ++ rows.old.left }
-{
-    laws::rows_are_input();
-    rows.next_row()
-}
-
-/// The bytes of all rows, in order, are the input.
-pub fn whole_picture()
-    ensures { (all : Bool) (input : List ℕ) (rows : List OpenRow) → AreRows all input rows
-        → input ≡ bytes_of_rows input rows }
-{
-    laws::rows_are_input();
-}
-
-/// Returns the second row of a picture without the contents, which has none.
-pub fn second_row(input: &[u8]) -> Option<OpenRow<'_>>
-    ensures { IfSome result (λ row. row.content ≡ None) }
-{
-    let mut rows = Rows::new(input, false);
-    let _first = rows.next_row()?;
-    rows.next_row()
-}
-
-/// Returns the content that a row has. That at the top of a picture without the contents has none.
-pub fn content_of<'a>(row: &OpenRow<'a>) -> Option<&'a [u8]>
-    ensures { (input : List ℕ) (rows : List OpenRow) → AreRows false input (row.now ∷ rows)
-        → result ≡ None }
-{
-    laws::contents_are_hidden();
-    row.content
-}
-
-/// Without all contents, each row hides its own.
-pub fn hidden_contents()
-    ensures { (input : List ℕ) (rows : List OpenRow) → AreRows false input rows
-        → All (HidesContent (plan_of input).guarded input) rows }
-{
-    laws::contents_are_hidden();
-}
-
-/// Two private keys of 32 bytes, as those on P-256, have the same picture.
-pub fn pictures_of_keys()
-    ensures { (root x y : List ℕ) → IsRootOf (key_bytes root 1 32 x) root → length x ≡ length y
-        → drop 32 x ≡ drop 32 y → SamePictures (key_bytes root 1 32 x) (key_bytes root 1 32 y) }
-{
-    laws::key_is_unseen();
 }
 
 /// Returns the picture of an input without the contents, and whether some part of it is a key.
@@ -142,8 +34,8 @@ pub fn pictures_of_keys()
 ///
 /// Out of memory.
 pub fn picture(alloc: Global, input: &[u8]) -> io::Result<(Vec<u8>, bool)>
-    ensures { IfOk result
-        (λ drawn. ArePictures false (sources_of input.now) drawn.0.items drawn.1) }
+    ensures text { IfOk result (λ drawn. drawn.0.items ≡ picture_text false input.now) }
+    ensures key { IfOk result (λ drawn. drawn.1 ≡ has_key input.now) }
 {
     let mut room = vec![in alloc; 0u8; room_len(input)]?;
     let mut text = Vec::new(alloc);
@@ -151,66 +43,143 @@ pub fn picture(alloc: Global, input: &[u8]) -> io::Result<(Vec<u8>, bool)>
     Ok((text, has_key))
 }
 
-/// Returns the pictures of two inputs, which are the same if they are no text and differ only in
-/// bytes that aren't shown.
+/// Returns the picture of an input, drawn twice. It is the same.
 ///
 /// # Errors
 ///
 /// Out of memory.
-pub fn two_pictures(alloc: Global, a: &[u8], b: &[u8]) -> io::Result<(Vec<u8>, Vec<u8>)>
-    ensures { IfOk result (λ drawn. is_text a.now ≡ false → is_utf16 a.now ≡ false
-        → is_text b.now ≡ false → is_utf16 b.now ≡ false → DifferUnseen a.now b.now
-        → drawn.0.items ≡ drawn.1.items) }
+pub fn drawn_twice(alloc: Global, input: &[u8]) -> io::Result<(Vec<u8>, Vec<u8>)>
+    ensures { IfOk result (λ drawn. drawn.0.items ≡ drawn.1.items) }
 {
-    let (first, is_key) = picture(alloc, a)?;
-    let (second, is_other) = picture(alloc, b)?;
-    laws::drawn_alike(a, b, &first, &second, is_key, is_other);
+    let (first, _) = picture(alloc, input)?;
+    let (second, _) = picture(alloc, input)?;
     Ok((first, second))
 }
 
-/// Two private keys that differ in the key alone differ in bytes which aren't shown.
-pub fn unseen_keys()
-    ensures { (a b : List ℕ) → DifferInKey a b → DifferUnseen a b }
+/// Returns the pictures of two keys, which are the same if the keys differ in the private key
+/// alone.
+///
+/// # Errors
+///
+/// Out of memory.
+pub fn two_keys(alloc: Global, a: &[u8], b: &[u8]) -> io::Result<(Vec<u8>, Vec<u8>)>
+    ensures { IfOk result (λ drawn. (k l : Key) → IsKeyOf k a.now → IsKeyOf l b.now
+        → k.parameters ≡ l.parameters → k.public_key ≡ l.public_key
+        → length k.private_key ≡ length l.private_key → length a.now ≤ max_content_len
+        → drawn.0.items ≡ drawn.1.items) }
 {
-    laws::key_is_unseen();
+    let (first, _) = picture(alloc, a)?;
+    let (second, _) = picture(alloc, b)?;
+    laws::keys_are_drawn_alike(a, b);
+    Ok((first, second))
 }
 
-/// Inputs of which one is drawn otherwise differ in a byte that is shown.
-pub fn pictures_of_shown_bytes()
-    ensures { (a b : List ℕ) → ¬ SamePictures a b → ¬ DifferUnseen a b }
+/// Returns whether the picture of an input that is no text says that it is a key, and whether one
+/// is read from it. It says so exactly for what is read.
+///
+/// # Errors
+///
+/// Out of memory.
+pub fn drawn_and_read(alloc: Global, input: &[u8]) -> io::Result<(bool, bool)>
+    ensures { IfOk result (λ found. is_text input.now ≡ false → has_begin input.now ≡ false
+        → length input.now ≤ max_content_len → found.0 ≡ found.1) }
 {
-    laws::open_bytes_decide();
+    laws::keys_are_found(input);
+    let (_, has_key) = picture(alloc, input)?;
+    Ok((has_key, is_read(input)))
 }
 
-/// Returns the number of the elements of a tree. What is refused isn't drawn whole, and what isn't
-/// refused is, if each of its rows may be.
-pub fn count_whole(input: &[u8]) -> Result<usize>
-    ensures refused { IfErr result (λ _. (all : Bool) (rows : List OpenRow)
-        → AreRows all input.now rows → ¬ AreWhole rows) }
-    ensures whole { IfOk result (λ _. (all : Bool) (rows : List OpenRow)
-        → length input.now ≤ max_content_len → AreRows all input.now rows
-        → All MayBeWhole (outer_rows 0 rows) → AreWhole rows) }
+/// Returns whether a key is read from the bytes, which `is_key` says too.
+#[tactic(auto, unfolding(der_view::specs::Drawings::is_key_of))]
+pub fn is_read(bytes: &[u8]) -> bool
+    ensures { result ≡ is_key_of bytes.now }
 {
-    match check_tree(input) {
-        Ok(count) => {
-            laws::accepted_is_whole(input);
-            Ok(count)
-        }
-        Err(error) => {
-            laws::refused_is_not_whole(input);
-            Err(error)
-        }
+    match EcPrivateKey::try_from(bytes) {
+        Ok(_) => true,
+        Err(Error::Asn1(_)) => false,
+        Err(_) => unreachable!(),
     }
 }
 
-/// What is drawn whole is a tree, which `check_tree` accepts, and a tree is drawn whole if each of
-/// its rows may be.
-pub fn whole_trees()
-    ensures tree { (all : Bool) (input : List ℕ) (rows : List OpenRow) → IsBytes input
-        → AreRows all input rows → AreWhole rows → tree_fault input ≡ None }
-    ensures whole { (all : Bool) (input : List ℕ) (rows : List OpenRow) → IsBytes input
-        → length input ≤ max_content_len → AreRows all input rows
-        → All MayBeWhole (outer_rows 0 rows) → tree_fault input ≡ None → AreWhole rows }
+/// Returns `true` if `is_key` says of the bytes what reading them does, as it always does.
+pub fn is_said_as_read(bytes: &[u8]) -> bool
+    ensures { result ≡ true }
 {
-    laws::trees_are_whole();
+    is_key(bytes) == EcPrivateKey::try_from(bytes).is_ok()
+}
+
+/// Returns the plan of the bytes of a key: they are an ECPrivateKey to the last one.
+pub fn plan_of_key(bytes: &[u8]) -> Plan
+    ensures whole { (key : Key) → IsKeyOf key bytes.now → length bytes.now ≤ max_content_len
+        → result.is_whole ≡ true }
+    ensures form { (key : Key) → IsKeyOf key bytes.now → length bytes.now ≤ max_content_len
+        → IsSomeAnd result.form
+        (λ form. (form.0.3 ≡ Name.EcPrivateKey) × (form.1 ≡ Secrecy.Private)) }
+{
+    laws::keys_are_known();
+    plan_of(bytes)
+}
+
+/// In the picture of a key each element follows, and all bytes are drawn.
+pub fn rows_of_keys()
+    ensures { (key : Key) (bytes : List ℕ) → IsKeyOf key bytes → length bytes ≤ max_content_len
+        → AllFollow (picture false bytes) }
+{
+    laws::keys_are_known();
+}
+
+/// Each byte of an input is in one row, and the rows are in order.
+pub fn whole_picture()
+    ensures len { (all : Bool) (input : List ℕ) → rows_len (picture all input) ≡ length input }
+    ensures order { (all : Bool) (input : List ℕ) → AreAt 0 (picture all input) }
+{
+    laws::rows_are_bytes();
+}
+
+/// The first row of a picture begins at 0, and the second one where the first ends; and both are
+/// within the input.
+pub fn first_two_rows()
+    ensures { (all : Bool) (input : List ℕ) (first second : Row) (rows : List Row)
+        → picture all input ≡ first ∷ (second ∷ rows)
+        → (offset_of first ≡ 0) × (offset_of second ≡ row_len first)
+        × (row_len first + row_len second ≤ length input) }
+{
+    laws::rows_are_bytes();
+}
+
+/// Writes the rows of an input, without the contents.
+///
+/// # Errors
+///
+/// Out of memory.
+#[tactic(auto, unfolding(der_view::specs::Pictures::picture))]
+pub fn rows(alloc: Global, input: &[u8]) -> io::Result<Vec<u8>>
+    ensures { IfOk result (λ text. text.items
+        ≡ rows_text (plan_of input.now) false (picture false input.now)) }
+{
+    let mut text = Vec::new(alloc);
+    write_rows(&mut text, plan_of(input), input, false)?;
+    Ok(text)
+}
+
+/// Writes the rows of two inputs, which are the same if only bytes that aren't shown differ.
+///
+/// # Errors
+///
+/// Out of memory.
+pub fn two_rows(alloc: Global, a: &[u8], b: &[u8]) -> io::Result<(Vec<u8>, Vec<u8>)>
+    ensures { IfOk result
+        (λ drawn. AreAlike a.now b.now → drawn.0.items ≡ drawn.1.items) }
+{
+    laws::pictures_are_of_masks();
+    let first = rows(alloc, a)?;
+    let second = rows(alloc, b)?;
+    Ok((first, second))
+}
+
+/// Each line of the rows of an input prints in ASCII, and has at most 100 characters.
+pub fn short_lines(input: &[u8], all: bool)
+    ensures { AreLines (rows_lines (plan_of input.now) all (picture all input.now)) }
+{
+    lines_are_short(plan_of(input), all);
 }

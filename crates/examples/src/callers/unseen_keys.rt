@@ -1,71 +1,100 @@
-//! Pictures of private keys in DER, by `der_view`, which don't follow from the keys.
-ghost use Rattle.std.specs.Prelude.{◌≡◌, ◌≤◌, ◌++◌, [], List, ℕ, drop, length, take};
-ghost use Rattle.sec1_der.specs.Elements.{header};
+//! Private keys in DER that differ in one private number or string: they differ in bytes alone that
+//! no picture by `der_view` shows, so that the pictures are the same.
+ghost use Rattle.std.specs.Prelude.{◌≡◌, ◌<◌, ◌≤◌, ◌∷◌, [], List, ℕ, false, length};
 ghost use Rattle.der_view.specs.Headers.{max_content_len};
-ghost use Rattle.der_view.specs.OpenLaws.{AreAsLong, IsRootOf, SamePictures};
-ghost use Rattle.der_view.specs.OpenLaws.{container_bytes, key_bytes, number_bytes};
+ghost use Rattle.der_view.specs.Keys.{AreLevels, AreParts, DifferIn, IsContent, container};
+ghost use Rattle.der_view.specs.Keys.{integers, key_bytes, key_in, sequence};
+ghost use Rattle.der_view.specs.Masks.{AreAlike};
+ghost use Rattle.der_view.specs.Pictures.{picture, plan_of};
 
 use der_view::laws;
 
-/// Two RSA keys of two primes with the same public numbers have the same picture.
-pub fn pictures_of_rsa_keys()
-    ensures { (n : ℕ) (public x y : List (List ℕ)) → n ≤ max_content_len
-        → AreAsLong (public ++ x) (public ++ y)
-        → SamePictures (number_bytes (header 0x30 n) 0 (public ++ x) [])
-        (number_bytes (header 0x30 n) 0 (public ++ y) []) }
+/// Inputs of which only bytes differ that aren't shown have the same plan and the same rows.
+pub fn pictures_of_unseen_bytes()
+    ensures plan { (a b : List ℕ) → AreAlike a b → plan_of a ≡ plan_of b }
+    ensures rows { (a b : List ℕ) → AreAlike a b → picture false a ≡ picture false b }
 {
-    laws::headers_are_roots();
-    laws::numbers_are_unseen();
+    laws::pictures_are_of_masks();
 }
 
-/// So have those of whose bytes so many are left, with any header of the root.
-pub fn pictures_of_cut_rsa_keys()
-    ensures { (root : List ℕ) (n : ℕ) (x y : List (List ℕ))
-        → IsRootOf (take n (number_bytes root 0 x [])) root → AreAsLong x y
-        → SamePictures (take n (number_bytes root 0 x []))
-        (take n (number_bytes root 0 y [])) }
+/// So have those that differ so one after the other, as RSA keys in several private numbers.
+pub fn pictures_of_three()
+    ensures { (a b c : List ℕ) → AreAlike a b → AreAlike b c
+        → picture false a ≡ picture false c }
 {
-    laws::numbers_are_unseen();
+    laws::pictures_are_of_masks();
 }
 
-/// Two private keys of Ed25519 in PKCS #8 have the same picture.
-pub fn pictures_of_curve_keys()
-    ensures { (n : ℕ) (algorithm x y : List ℕ) → n ≤ max_content_len
-        → length algorithm ≤ max_content_len → length (header 0x04 32 ++ x) ≤ max_content_len
-        → length x ≡ length y → drop 32 x ≡ drop 32 y
-        → SamePictures (container_bytes (header 0x30 n) 0 algorithm (header 0x04 32 ++ x) [])
-        (container_bytes (header 0x30 n) 0 algorithm (header 0x04 32 ++ y) []) }
+/// Two EC keys with the same curve and public key differ in bytes that aren't shown, whatever
+/// follows, and wherever the bytes end.
+pub fn unseen_in_ec_keys()
+    ensures { (m n : ℕ) (version x y rest : List ℕ)
+        → length version ≤ max_content_len → DifferIn n x y
+        → IsContent m (key_in [] ((0x02, version) ∷ []) 0x04 n x) rest
+        → AreAlike (key_bytes m [] ((0x02, version) ∷ []) 0x04 n x rest)
+        (key_bytes m [] ((0x02, version) ∷ []) 0x04 n y rest) }
 {
-    laws::headers_are_roots();
-    laws::contained_keys_are_unseen();
+    laws::keys_are_unseen();
 }
 
-/// Two RSA keys in PKCS #8 have the same picture, also if attributes follow.
-pub fn pictures_of_contained_rsa_keys()
-    ensures { (n inner : ℕ) (algorithm attributes : List ℕ) (x y : List (List ℕ))
-        → n ≤ max_content_len → inner ≤ max_content_len → length algorithm ≤ max_content_len
-        → length (number_bytes (header 0x30 inner) 0 x []) ≤ max_content_len → AreAsLong x y
-        → SamePictures (container_bytes (header 0x30 n) 0 algorithm
-        (number_bytes (header 0x30 inner) 0 x []) attributes)
-        (container_bytes (header 0x30 n) 0 algorithm
-        (number_bytes (header 0x30 inner) 0 y []) attributes) }
+/// So do two RSA keys with the same public numbers, and two DSA keys.
+pub fn unseen_in_numbers()
+    ensures { (m n : ℕ) (numbers : List (List ℕ)) (x y rest : List ℕ)
+        → AreParts (integers numbers) → 3 ≤ length numbers → length numbers ≤ 8 → 8 < n
+        → DifferIn n x y
+        → IsContent m (key_in [] (integers numbers) 0x02 n x) rest
+        → AreAlike (key_bytes m [] (integers numbers) 0x02 n x rest)
+        (key_bytes m [] (integers numbers) 0x02 n y rest) }
 {
-    laws::headers_are_roots();
-    laws::contained_keys_are_unseen();
+    laws::keys_are_unseen();
 }
 
-/// So have two EC keys in PKCS #8 of whose bytes so many are left after the root's header.
-pub fn pictures_of_cut_ec_keys()
-    ensures { (n inner left : ℕ) (algorithm x y : List ℕ) → n ≤ max_content_len
-        → inner ≤ max_content_len → length (header 0x30 n) ≤ left
-        → length algorithm ≤ max_content_len
-        → length (key_bytes (header 0x30 inner) 1 32 x) ≤ max_content_len
-        → length x ≡ length y → drop 32 x ≡ drop 32 y
-        → SamePictures (take left (container_bytes (header 0x30 n) 0 algorithm
-        (key_bytes (header 0x30 inner) 1 32 x) []))
-        (take left (container_bytes (header 0x30 n) 0 algorithm
-        (key_bytes (header 0x30 inner) 1 32 y) [])) }
+/// So do two private keys of Ed25519 in PKCS #8, also if attributes follow.
+pub fn unseen_in_curve_keys()
+    ensures { (m n : ℕ) (version algorithm attributes x y rest : List ℕ)
+        → let around = container version algorithm attributes ∷ [] in
+        AreLevels around [] 0x04 n x → DifferIn n x y
+        → IsContent m (key_in around [] 0x04 n x) rest
+        → AreAlike (key_bytes m around [] 0x04 n x rest)
+        (key_bytes m around [] 0x04 n y rest) }
 {
-    laws::headers_are_roots();
-    laws::cut_containers_are_unseen();
+    laws::keys_are_unseen();
+}
+
+/// So do two DSA keys in PKCS #8, and two of Diffie-Hellman.
+pub fn unseen_in_contained_numbers()
+    ensures { (m n : ℕ) (version algorithm attributes x y rest : List ℕ)
+        → let around = container version algorithm attributes ∷ [] in
+        AreLevels around [] 0x02 n x → 8 < n → DifferIn n x y
+        → IsContent m (key_in around [] 0x02 n x) rest
+        → AreAlike (key_bytes m around [] 0x02 n x rest)
+        (key_bytes m around [] 0x02 n y rest) }
+{
+    laws::keys_are_unseen();
+}
+
+/// So do two RSA keys in PKCS #8.
+pub fn unseen_in_contained_rsa_keys()
+    ensures { (m n : ℕ) (version algorithm attributes : List ℕ) (numbers : List (List ℕ))
+        (x y rest : List ℕ)
+        → let around = container version algorithm attributes ∷ sequence ∷ [] in
+        AreLevels around (integers numbers) 0x02 n x → 3 ≤ length numbers
+        → length numbers ≤ 8 → 8 < n → DifferIn n x y
+        → IsContent m (key_in around (integers numbers) 0x02 n x) rest
+        → AreAlike (key_bytes m around (integers numbers) 0x02 n x rest)
+        (key_bytes m around (integers numbers) 0x02 n y rest) }
+{
+    laws::keys_are_unseen();
+}
+
+/// So do two EC keys in PKCS #8, whatever follows.
+pub fn unseen_in_contained_ec_keys()
+    ensures { (m n : ℕ) (version algorithm inner attributes x y rest : List ℕ)
+        → let around = container version algorithm attributes ∷ sequence ∷ [] in
+        AreLevels around ((0x02, inner) ∷ []) 0x04 n x → DifferIn n x y
+        → IsContent m (key_in around ((0x02, inner) ∷ []) 0x04 n x) rest
+        → AreAlike (key_bytes m around ((0x02, inner) ∷ []) 0x04 n x rest)
+        (key_bytes m around ((0x02, inner) ∷ []) 0x04 n y rest) }
+{
+    laws::keys_are_unseen();
 }

@@ -2,7 +2,7 @@
 //! `sec1_private_key_info_fault_at`.
 ghost use Rattle.std.specs.Prelude.{◌≡◌, ◌≢◌, ◌≤◌, length, Some};
 ghost use Rattle.curves.specs.declared.curve.Curve.{Curve};
-ghost use Rattle.der_view.specs.ContainerPlaces.{container_place};
+ghost use Rattle.der_view.specs.FaultPlaces.{container_place};
 ghost use Rattle.der_view.specs.declared.faults.Position.{Position};
 ghost use Rattle.pkix.specs.EcKeys.{IsOnCurve};
 ghost use Rattle.pkix.specs.declared.private_key.OneAsymmetricKey.{OneAsymmetricKey};

@@ -13,6 +13,9 @@ use crate::span::Span;
 use sec1::der::{ExplicitBits, IdentifierRef};
 use sec1::{BorrowedKey, der};
 
+/// The most bytes of a public key around which both headers of the field `[1]` have two bytes each.
+const MAX_SHORT_KEY: usize = 124;
+
 /// An optional field: the place of its part, and its length in bytes.
 #[derive(Clone, Copy)]
 struct Field {
@@ -60,7 +63,9 @@ fn curve_field(end: usize, curve: &Option<IdentifierRef>) -> Field
     }
 }
 
-/// Returns the field `[1]` that ends at `end`.
+/// Returns the field `[1]` that ends at `end`. Around a short key its two headers have two bytes
+/// each, and the bit string begins with one byte more.
+#[tactic(auto, using(crate::proofs::FieldLemmas::public_key_counted))]
 fn public_key_field(end: usize, public_key: Option<&[u8]>) -> Field
     requires fits { IfSome (option_map (λ bytes. bytes.now) public_key) (λ bytes.
         length (element 0x03 (0 ∷ bytes)) ≤ max_length) }
@@ -78,6 +83,10 @@ fn public_key_field(end: usize, public_key: Option<&[u8]>) -> Field
         };
     };
     let part = Span::before(end, Some(bytes.len()));
+    if bytes.len() <= MAX_SHORT_KEY {
+        let len = bytes.len() + 5;
+        return Field { part, len };
+    }
     match der::encoded_len(&ExplicitBits { bytes }) {
         Ok(len) => Field { part, len },
         Err(_) => unreachable!(),

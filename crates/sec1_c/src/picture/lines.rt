@@ -1,13 +1,19 @@
 //! What the lines of a picture are of.
-ghost use Rattle.std.specs.Prelude.{◌≡◌, ◌≤◌, ◌+◌, [], ◌∷◌, List, length, take};
-ghost use Rattle.der_view.specs.Inputs.{reading_of};
+ghost use Rattle.std.specs.Prelude.{◌≡◌, ◌≤◌, ◌+◌, [], ◌∷◌, length, take};
+ghost use Rattle.der_view.specs.Drawings.{reading_with};
+ghost use Rattle.der_view.specs.Facts.{row_view};
+ghost use Rattle.der_view.specs.Parts.{content_of, decoded_len};
 ghost use Rattle.der_view.specs.Sources.{source_len, source_view};
-ghost use Rattle.sec1_c.specs.PictureLines.{Adds, AreLinesOfBytes, AreLinesOfSource, AreStored};
-ghost use Rattle.sec1_c.specs.PictureLines.{decoded_of, is_hidden, is_keyless, is_public};
-ghost use Rattle.sec1_c.specs.PictureLines.{line_of, row_lines, said_lines};
-ghost use Rattle.sec1_c.specs.declared.picture.lines.PictureLine.{PictureLine};
+ghost use Rattle.sec1_c.specs.PictureLines.{Adds, AreStored, Grows, GrowsBy, bytes_lines};
+ghost use Rattle.sec1_c.specs.PictureLines.{decoded_of};
+ghost use Rattle.sec1_c.specs.PictureLines.{heading_lines, line_if, line_of, mark_lines};
+ghost use Rattle.sec1_c.specs.PictureLines.{note_lines, row_line, source_lines, text_lines};
+ghost use Rattle.sec1_c.specs.PictureLines.{told_lines, words_lines};
 
-use der_view::{Field, Form, Found, OpenRow, Plan, Rows, Shown, Source, Subject, is_key};
+use der_view::{
+    Component, Element, Flaw, Found, Mark, Place, Plan, Reading, RowFacts, Rows, SaidLines,
+    Sentence, Source, draw_rows, plan_of, said_lines,
+};
 
 /// The kinds of lines.
 const HEADING: usize = 0;
@@ -50,15 +56,21 @@ pub struct PictureLine {
 pub(super) struct Lines<'a> {
     lines: &'a mut [PictureLine],
     count: usize,
+    /// How the bytes are drawn whose rows are stored.
+    plan: Plan,
 }
 
 impl<'a> Lines<'a> {
     /// Returns no lines.
-    pub fn new(lines: &'a mut [PictureLine]) -> Lines<'a>
+    pub fn new(lines: &'a mut [PictureLine], plan: Plan) -> Lines<'a>
         ensures same_reference { result.lines.ghost_name ≡ lines.entry.ghost_name }
         ensures stored { AreStored lines.old result.lines.now result.count [] }
     {
-        Lines { lines, count: 0 }
+        Lines {
+            lines,
+            count: 0,
+            plan,
+        }
     }
 
     /// Returns the number of lines.
@@ -80,94 +92,127 @@ impl<'a> Lines<'a> {
     ) -> usize
         requires digits { source_len (source_view source.now) ≤ length digits.old }
         requires bytes { source_len (source_view source.now) + 2 ≤ length bytes.old }
-        ensures same_reference { self.new.lines.ghost_name ≡ self.old.lines.ghost_name }
-        ensures added { (lines : List PictureLine)
-            × AreLinesOfSource before (source_view source.now) lines
-            × Adds self.old.lines.now self.old.count self.new.lines.now self.new.count lines }
+        ensures added { Grows self.old self.new (source_lines before (source_view source.now)) }
+        ensures decoded { take result bytes.new ≡ decoded_of (source_view source.now) }
+        ensures within { result ≤ length bytes.old }
+    {
+        match source {
+            Source::Der(input) => {
+                self.push_bytes(*input, Reading::Der, Flaw::Nothing);
+                0
+            }
+            _ => self.push_text(source, before, digits, bytes),
+        }
+    }
+
+    /// Adds the lines of a part that is text. Returns the number of bytes that were decoded.
+    fn push_text(
+        &mut self,
+        source: &Source,
+        before: usize,
+        digits: &mut [u8],
+        bytes: &mut [u8],
+    ) -> usize
+        requires digits { source_len (source_view source.now) ≤ length digits.old }
+        requires bytes { source_len (source_view source.now) + 2 ≤ length bytes.old }
+        ensures added { Grows self.old self.new (text_lines before (source_view source.now)
+            (content_of (source_view source.now))) }
         ensures decoded { take result bytes.new ≡ decoded_of (source_view source.now) }
         ensures within { result ≤ length bytes.old }
     {
         let found = source.find(digits, bytes);
-        let decoded = match found {
-            Found::Decoded(_, len) => len.min(bytes.len()),
-            _ => 0,
-        };
-        if source.heading(&found).is_some() {
+        self.push_heading(source, before, &found);
+        match found {
+            Found::Decoded(_, flaw, len) => {
+                self.push_bytes(&bytes[..len], source.reading(), flaw);
+                len
+            }
+            Found::Said(note) => {
+                self.push_note(note);
+                0
+            }
+            Found::Itself => 0,
+        }
+    }
+
+    /// Adds the line of a heading, if the part has one.
+    fn push_heading(&mut self, source: &Source, before: usize, found: &Found)
+        ensures { GrowsBy self.old self.new
+            (heading_lines before (source_view source.now) found.now) }
+    {
+        if source.heading(found).is_some() {
             self.push(PictureLine {
                 offset: before,
-                content_len: decoded,
+                content_len: decoded_len(found),
                 ..of_kind(HEADING)
             });
         }
-        match (source, found) {
-            (Source::Der(input), _) => self.push_bytes(source, *input),
-            (_, Found::Decoded(_, _)) => self.push_bytes(source, &bytes[..decoded]),
-            (_, Found::Note(note)) => {
-                self.push_said(!note.words.is_empty(), note.command.is_some());
-            }
-            (_, Found::Der) => {}
-        }
-        decoded
     }
 
-    /// Adds the lines of bytes: of their rows, and of what is said of them.
-    fn push_bytes(&mut self, source: &Source, bytes: &[u8])
-        ensures same_reference { self.new.lines.ghost_name ≡ self.old.lines.ghost_name }
-        ensures added { (lines : List PictureLine)
-            × AreLinesOfBytes (reading_of (source_view source.now)) bytes.now lines
-            × Adds self.old.lines.now self.old.count self.new.lines.now self.new.count lines }
+    /// Adds the lines of bytes in a text with this flaw: of their rows, and of what is said of
+    /// them.
+    fn push_bytes(&mut self, bytes: &[u8], reading: Reading, flaw: Flaw)
+        ensures { Grows self.old self.new (bytes_lines (reading_with reading flaw) bytes.now) }
     {
-        let mut rows = Rows::new(bytes, false);
-        let plan = rows.plan();
-        let mut is_whole = plan.complete;
-        while let Some(row) = rows.next_row() {
-            is_whole = is_whole && (row.offset > 0 || row.marks.is_empty());
-            self.push_row(&plan, is_whole, &row);
-        }
-        let verdict = Subject::new(bytes, source.reading()).verdict(is_key(bytes));
+        let plan = plan_of(bytes);
+        self.plan = plan;
+        draw_rows(self, plan, bytes, false);
+        self.push_said(said_lines(bytes, reading, flaw));
+    }
+
+    /// Adds the lines of what is said of bytes.
+    fn push_said(&mut self, said: SaidLines)
+        ensures { GrowsBy self.old self.new (words_lines said) }
+    {
         self.push(of_kind(WORDS));
-        self.push_said(!verdict.lead.is_empty(), verdict.command.is_some());
+        self.push_if(said.key, WORDS);
+        self.push_if(said.point, WORDS);
+        self.push_if(said.words, WORDS);
+        self.push_if(said.command, COMMAND);
     }
 
-    /// Adds the line of a row, and those of its marks.
-    fn push_row(&mut self, plan: &Plan, is_whole: bool, row: &OpenRow)
-        ensures same_reference { self.new.lines.ghost_name ≡ self.old.lines.ghost_name }
-        ensures added { Adds self.old.lines.now self.old.count self.new.lines.now self.new.count
-            (row_lines plan.now is_whole row.now) }
+    /// Adds the lines of what is said of a part with no bytes.
+    fn push_note(&mut self, note: Sentence)
+        ensures { GrowsBy self.old self.new (note_lines note) }
     {
-        self.push(PictureLine {
-            kind: ROW,
-            offset: row.offset,
-            header_len: row.header.len(),
-            content_len: row.own_len,
-            depth: row.depth,
-            hidden: usize::from(is_hidden(plan, is_whole, row)),
-        });
-        if row.marks.first().is_some() {
-            self.push(of_kind(MARK));
-        }
-        if row.marks.second().is_some() {
-            self.push(of_kind(MARK));
+        self.push_if(!note.words().is_empty(), WORDS);
+        self.push_if(!note.command().is_empty(), COMMAND);
+    }
+
+    /// Adds the line of a row, and those of its marks, unless it is of no bytes and has no mark.
+    fn push_row(&mut self, row: &RowFacts)
+        ensures { GrowsBy self.old self.new (told_lines (row_view row.now)) }
+    {
+        if row.is_told() {
+            self.push(line_of_row(row));
+            self.push_marks(&row.marks);
         }
     }
 
-    /// Adds a line of words and one of a command, if they are there.
-    fn push_said(&mut self, has_words: bool, has_command: bool)
-        ensures same_reference { self.new.lines.ghost_name ≡ self.old.lines.ghost_name }
-        ensures added { Adds self.old.lines.now self.old.count self.new.lines.now self.new.count
-            (said_lines has_words has_command) }
+    /// Adds a line for each of these marks.
+    fn push_marks(&mut self, marks: &[Option<Mark>])
+        ensures { GrowsBy self.old self.new (mark_lines marks.now) }
     {
-        if has_words {
-            self.push(of_kind(WORDS));
-        }
-        if has_command {
-            self.push(of_kind(COMMAND));
+        let Some((mark, others)) = marks.split_first() else {
+            return;
+        };
+        self.push_if(mark.is_some(), MARK);
+        self.push_marks(others);
+    }
+
+    /// Adds a line of this kind, if it is there.
+    fn push_if(&mut self, is_there: bool, kind: usize)
+        ensures { GrowsBy self.old self.new (line_if is_there kind) }
+    {
+        if is_there {
+            self.push(of_kind(kind));
         }
     }
 
     /// Adds a line.
     fn push(&mut self, line: PictureLine)
         ensures same_reference { self.new.lines.ghost_name ≡ self.old.lines.ghost_name }
+        ensures plan { self.new.plan ≡ self.old.plan }
         ensures added { Adds self.old.lines.now self.old.count self.new.lines.now self.new.count
             (line ∷ []) }
     {
@@ -176,6 +221,55 @@ impl<'a> Lines<'a> {
             lines[self.count] = line;
         }
         self.count = self.count.saturating_add(1);
+    }
+}
+
+impl Rows for Lines<'_> {
+    ghost use Rattle.std.proofs.Common.{refl};
+    ghost use Rattle.sec1_c.specs.PictureLines.{GrowsBy, rows_lines};
+    ghost use Rattle.sec1_c.specs.PictureLineLaws.{GrowsBy-none, GrowsBy-rows};
+
+    ghost tells = { λ a b rows. GrowsBy a b (rows_lines a.plan rows) };
+
+    fn element(&mut self, place: Place, element: &Element) {
+        self.push_row(&RowFacts::of_element(self.plan, false, place, element));
+    }
+
+    fn end_of_contents(&mut self, place: Place) {
+        self.push_row(&RowFacts::of_end(place));
+    }
+
+    fn not_drawn(&mut self, place: Place, expected: &[Component], len: usize, content: &[u8]) {
+        self.push_row(&RowFacts::of_not_drawn(self.plan, place, expected, len, content));
+    }
+
+    ghost nothing = { λ a. GrowsBy-none a };
+
+    ghost joined = { λ a b c first second one two. GrowsBy-rows a b c first second one two };
+}
+
+/// Returns the line of a row.
+fn line_of_row(row: &RowFacts) -> PictureLine
+    ensures { result ≡ row_line (row_view row.now) }
+{
+    let own_len = if row.opened { 0 } else { row.len };
+    PictureLine {
+        kind: ROW,
+        offset: row.place.offset,
+        header_len: row.head.len(),
+        content_len: own_len,
+        depth: row.place.depth,
+        hidden: usize::from(row.place.hides(own_len, row.value)),
+    }
+}
+
+/// Returns the number of bytes that were decoded.
+fn decoded_len(found: &Found) -> usize
+    ensures { result ≡ decoded_len found.now }
+{
+    match found {
+        Found::Decoded(_, _, len) => *len,
+        _ => 0,
     }
 }
 
@@ -191,45 +285,4 @@ fn of_kind(kind: usize) -> PictureLine
         depth: 0,
         hidden: 0,
     }
-}
-
-/// Returns `true` if the picture doesn't show the content of a row, and the content isn't known to
-/// be public.
-fn is_hidden(plan: &Plan, is_whole: bool, row: &OpenRow) -> bool
-    ensures { result ≡ is_hidden plan.now is_whole row.now }
-{
-    let is_shown = matches!(&row.shown, Shown::Value(_));
-    let is_public = is_keyless(plan.form) || (is_whole && is_public(row.field));
-    row.own_len > 0 && !is_shown && !is_public
-}
-
-/// Returns `true` if no private key is in what has this form.
-fn is_keyless(form: Form) -> bool
-    ensures { result ≡ is_keyless form }
-{
-    matches!(
-        form,
-        Form::Certificate | Form::CertificationRequest | Form::CertificateList | Form::PublicKey
-    )
-}
-
-/// Returns `true` if a field of a whole key, or of a signature, is public.
-fn is_public(field: Option<Field>) -> bool
-    ensures { result ≡ is_public field }
-{
-    matches!(
-        field,
-        Some(
-            Field::PublicKey
-                | Field::Point
-                | Field::Modulus
-                | Field::PublicExponent
-                | Field::P
-                | Field::Q
-                | Field::G
-                | Field::Y
-                | Field::R
-                | Field::S
-        )
-    )
 }

@@ -29,12 +29,11 @@ impl<'a> Text<'a> {
         self.len
     }
 
-    /// Borrows the bytes that it was given, which have to fit.
+    /// Borrows the bytes that it was given, if they fit.
     pub fn as_bytes(&self) -> &[u8]
-        requires { self.now.len ≤ length self.now.buffer.now }
         ensures { result.now ≡ take self.now.len self.now.buffer.now }
     {
-        &self.buffer[..self.len]
+        &self.buffer[..self.len.min(self.buffer.len())]
     }
 
     /// Appends bytes, if they fit, and counts them.

@@ -2,7 +2,7 @@
 //! `sec1_private_key_fault_at`.
 ghost use Rattle.std.specs.Prelude.{◌≡◌, ◌≢◌, ◌≤◌, ◌+◌, false, IsTrue, length, Some};
 ghost use Rattle.curves.specs.declared.curve.Curve.{Curve};
-ghost use Rattle.der_view.specs.ContainerPlaces.{container_place};
+ghost use Rattle.der_view.specs.FaultPlaces.{container_place};
 ghost use Rattle.der_view.specs.FaultPlaces.{key_place};
 ghost use Rattle.der_view.specs.declared.faults.Position.{Position};
 ghost use Rattle.pkix.specs.EcKeys.{IsOnCurve, NamesCurve};
@@ -18,12 +18,11 @@ use super::{has_algorithm, names_curve};
 use crate::container::fault::tell_curve;
 use crate::container::{self, read_container};
 use crate::fault::{sec1_key_fault_at, tell};
-use crate::key;
+use crate::key::{KeyParts, sec1_key_read};
 use crate::status::{OK, kind_number, other_curve_number};
 use curves::Curve;
 use der_view::faults;
 use pkix::OneAsymmetricKey;
-use sec1::BorrowedKey;
 
 /// Returns what `sec1_private_key_read` returns, and stores the offset of the fault. Of bytes that
 /// aren't a key by itself or a container, and of a key in one, it is that of the first fault from
@@ -101,7 +100,7 @@ fn tell_contained(bytes: &[u8], offset: &mut usize) -> u32
 
 /// Returns 0 if the bytes in the container are a key that names this curve or none; otherwise the
 /// number of the refusal, and stores its offset.
-#[tactic(auto, using(crate::proofs::PrivateKeyLemmas::inside, crate::proofs::FaultLemmas::read_key_has_no_place))]
+#[tactic(auto, using(crate::proofs::PrivateKeyLemmas::inside, crate::proofs::FaultLemmas::no_key_place))]
 fn tell_key(bytes: &[u8], container: &OneAsymmetricKey, curve: Curve, offset: &mut usize) -> u32
     requires container { IsContainer container.now bytes.now }
     requires curve { IsOnCurve curve container.now.algorithm }
@@ -118,11 +117,12 @@ fn tell_key(bytes: &[u8], container: &OneAsymmetricKey, curve: Curve, offset: &m
 {
     let start = container::places(bytes, container, curve).key.offset;
     let inside = container.private_key.bytes;
-    if let Ok(key) = BorrowedKey::try_from(inside) {
-        if names_curve(&key, curve) {
+    let mut parts = KeyParts::absent();
+    if sec1_key_read(inside, &mut parts) == OK {
+        if names_curve(inside, &parts, curve) {
             return OK;
         }
-        *offset = start + key::places::places(inside, &key).curve.offset;
+        *offset = start + parts.curve.offset;
         return other_curve_number();
     }
     match faults::key_fault(inside) {

@@ -3,7 +3,7 @@
 ghost use Rattle.std.specs.Prelude.{◌≡◌, ◌≢◌, ◌≤◌, length, Some};
 ghost use Rattle.curves.specs.Curves.{field_len};
 ghost use Rattle.curves.specs.declared.curve.Curve.{Curve};
-ghost use Rattle.der_view.specs.RecordPlaces.{public_key_place};
+ghost use Rattle.der_view.specs.FaultPlaces.{public_key_place};
 ghost use Rattle.der_view.specs.declared.faults.Position.{Position};
 ghost use Rattle.pkix.specs.EcKeys.{HasPoint, IsOnCurve};
 ghost use Rattle.pkix.specs.declared.public_key.SubjectPublicKeyInfo.{SubjectPublicKeyInfo};

@@ -39,6 +39,7 @@ fn status_text(status: usize) -> &'static str
         10 => "length of field elements not supported",
         11 => "curve not in the table",
         12 => "key and container name different curves",
+        13 => "no whole PEM block with this label",
         _ => "unknown status",
     }
 }

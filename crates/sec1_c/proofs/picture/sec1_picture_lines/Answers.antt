@@ -4,10 +4,10 @@ use Rattle.std.proofs.Common.{subst}
 use Rattle.std.proofs.lemmas.List.{length-take-le}
 use Rattle.std.specs.List.{flat_map}
 use Rattle.der_view.specs.Sources.{SourceView, source_view}
-use Rattle.der_view.proofs.DecodedLemmas.{decoded_within}
-use Rattle.sec1_c.proofs.PictureLineLemmas.{AreLines-snoc, decoded-snoc, decoded_all, part_written}
+use Rattle.sec1_c.proofs.DecodedLemmas.{decoded_within}
+use Rattle.sec1_c.proofs.PictureLineLemmas.{decoded-snoc, decoded_all, part_written, sources_lines-snoc}
 use Rattle.sec1_c.proofs.SourceLemmas.{sources_total, total_len}
-use Rattle.sec1_c.specs.PictureLines.{AreLines, AreLinesOfSource, IsDecodedAt, decoded_of}
+use Rattle.sec1_c.specs.PictureLines.{AreStored, IsDecodedAt, decoded_of, source_lines, sources_lines}
 use Rattle.sec1_c.proofs.picture.sec1_picture_lines.Goals as goal
 use Rattle.sec1_c.proofs.picture.sec1_picture_lines.Goals.{In_default}
 
@@ -15,18 +15,17 @@ pub loop-source-init : goal.loop-source-init
 loop-source-init c = record {
   room =
       let total = sources_total c.args.input.now in
-      let same = ap total_len c.new-sources.ensures.sources in
+      let same = ap total_len c.new-sources.ensures in
       omega arith;
   within = omega arith;
   same_reference = refl;
-  listed = ([], [], sym c.new-sources.ensures.sources, refl, refl, c.new-lines.ensures.stored);
+  listed = ([], sym c.new-sources.ensures, refl, c.new-lines.ensures.stored);
 }
 
 pub loop-source-preserved : goal.loop-source-preserved
 loop-source-preserved c =
     let done = c.loop-source.invariant.listed in
     let source = source_view c.in-Some.source in
-    let added = c.push_source-used.ensures.added in
     let new = c.push_source-used.new.bytes in
     let more = c.push_source-used.result in
     let fits : more ≤ length new = omega (arith, c.push_source-used.ensures.within, c.push_source-used.auto.bytes) in
@@ -36,7 +35,7 @@ loop-source-preserved c =
     let len : length (decoded_of source) ≡ more =
     sym (ap length c.push_source-used.ensures.decoded) ∙ length-take-le more new fits in
     let used : length (flat_map decoded_of done.0) ≡ c.loop-source.used =
-    sym (ap length done.3) ∙ length-take-le c.loop-source.used c.loop-source.bytes c.loop-source.invariant.within in
+    sym (ap length done.2) ∙ length-take-le c.loop-source.used c.loop-source.bytes c.loop-source.invariant.within in
     let place : c.saturating_add-in-Some.result ≡ length c.loop-source.digits + length (flat_map decoded_of done.0) =
     omega (arith, c.saturating_add-in-Some.ensures, used, c.loop-source.auto.digits, c.loop-source.auto.bytes) in
     record {
@@ -45,18 +44,22 @@ loop-source-preserved c =
           let left = ap total_len c.in-Some.ensures in
           omega arith;
       within = written.1;
-      same_reference = c.push_source-used.ensures.same_reference ∙ c.loop-source.invariant.same_reference;
+      same_reference = c.push_source-used.ensures.added.place ∙ c.loop-source.invariant.same_reference;
       listed = (
         done.0 ++ source ∷ [],
-        done.1 ++ added.0,
-        done.2
+        done.1
             ∙ (ap (λ (rest : List SourceView). done.0 ++ rest) c.in-Some.ensures
             ∙ sym (append_assoc done.0 (source ∷ []) _)),
-        written.0 ∙ decoded-snoc done.0 source _ _ done.3 c.push_source-used.ensures.decoded,
-        subst (λ n. AreLines n (done.0 ++ source ∷ []) (done.1 ++ added.0)) (sym c.push_source-used.auto.digits)
-            (AreLines-snoc (length c.loop-source.digits) done.0 source done.1 added.0 done.4
-            (subst (λ n. AreLinesOfSource n source added.0) place added.1)),
-        added.2 c.args.lines.now done.1 done.5,
+        written.0 ∙ decoded-snoc done.0 source _ _ done.2 c.push_source-used.ensures.decoded,
+        subst (λ n. AreStored c.args.lines.now c.push_source-used.new.self.lines.now
+            c.push_source-used.new.self.count (sources_lines n (done.0 ++ source ∷ [])))
+            (sym c.push_source-used.auto.digits)
+            (subst (AreStored c.args.lines.now c.push_source-used.new.self.lines.now c.push_source-used.new.self.count)
+            (sym (sources_lines-snoc (length c.loop-source.digits) done.0 source))
+            (subst (λ n. AreStored c.args.lines.now c.push_source-used.new.self.lines.now
+            c.push_source-used.new.self.count
+            (sources_lines (length c.loop-source.digits) done.0 ++ source_lines n source)) place
+            (c.push_source-used.ensures.added.adds c.args.lines.now _ done.3))),
       );
     }
 
@@ -67,7 +70,7 @@ decoded c =
     let done = c.loop-source.invariant.listed in
     decoded_all _ c.loop-source.used c.args.input.now c.loop-source.digits c.loop-source.bytes done.0 (omega arith)
     c.loop-source.invariant.within
-    (done.2 ∙ ap (λ (rest : List SourceView). done.0 ++ rest) c.in_default.ensures.0) done.3
+    (done.1 ∙ ap (λ (rest : List SourceView). done.0 ++ rest) c.in_default.ensures.0) done.2
 
 pub returns-then-count-most-clause-decoded : goal.returns-then-count-most-clause-decoded
 returns-then-count-most-clause-decoded c room = decoded (goal.at.returns-then-count-most-clause-decoded c).In_default

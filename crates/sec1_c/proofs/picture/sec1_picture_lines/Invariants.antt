@@ -2,8 +2,7 @@ use Rattle.std.proofs.Common.{◌≡◌, ◌+◌, ◌≤◌, List, ◌++◌, len
 use Rattle.std.specs.List.{flat_map}
 use Rattle.der_view.specs.Sources.{SourceView, sources_of, text_len}
 use Rattle.sec1_c.proofs.SourceLemmas.{total_len}
-use Rattle.sec1_c.specs.PictureLines.{AreLines, AreStored, decoded_of}
-use Rattle.sec1_c.specs.declared.picture.lines.PictureLine.{PictureLine}
+use Rattle.sec1_c.specs.PictureLines.{AreStored, decoded_of, sources_lines}
 use Rattle.sec1_c.proofs.picture.sec1_picture_lines.Given as goal
 
 abbrev pub invariant-loop-source : goal.invariant-loop-source
@@ -12,9 +11,9 @@ invariant-loop-source l = record {
   within : l.used ≤ length l.bytes;
   same_reference : l.lines.lines.ghost_name ≡ l.initial.lines.lines.ghost_name;
   listed :
-      (done : List SourceView) × (lines : List PictureLine) × (sources_of l.input ≡ done ++ l.sources)
-      × (take l.used l.bytes ≡ flat_map decoded_of done) × AreLines (length l.digits) done lines
-      × AreStored l.fn.lines l.lines.lines.now l.lines.count lines;
+      (done : List SourceView) × (sources_of l.input ≡ done ++ l.sources)
+      × (take l.used l.bytes ≡ flat_map decoded_of done)
+      × AreStored l.fn.lines l.lines.lines.now l.lines.count (sources_lines (length l.digits) done);
 }
 
 abbrev pub decreases-loop-source : goal.decreases-loop-source

@@ -8,6 +8,6 @@ returns-in-None c =
 pub returns-in-Some : goal.returns-in-Some
 returns-in-Some c =
     let text =
-    kept-four c.push_byte.new.self _ _ _ _ _ _ _ _ c.push_str.ensures c.push_str-in-Some.ensures
+    kept-four c.push_byte.new.self _ _ _ _ _ _ _ _ c.push_bytes.ensures c.push_str.ensures
     c.push_arcs-in-Some.ensures c.push_byte-in-Some.ensures in
     rw c.in-Some.is (kept-next c.args.self.now _ _ _ _ c.push_byte.ensures text)

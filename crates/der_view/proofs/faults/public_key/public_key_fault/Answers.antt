@@ -1,7 +1,0 @@
-use Rattle.std.proofs.Common.{arith}
-use Rattle.std.proofs.lemmas.Grind.{common_steps}
-use Rattle.der_view.proofs.PublicKeyLemmas.{public_key_within}
-use Rattle.der_view.proofs.faults.public_key.public_key_fault.Goals as goal
-
-pub returns-clause-within : goal.returns-clause-within
-returns-clause-within c = public_key_within c.args.bytes.now c.err.result (grind (arith, common_steps))

@@ -1,0 +1,164 @@
+-- The picture of an input: those of its sources, one after the other.
+use Rattle.std.specs.Prelude.{ℕ, ◌↔◌, ◌||◌, Bool, true, false, IsTrue, List, [], ◌∷◌, ◌++◌, codes}
+use Rattle.std.specs.Prelude.{length, Option, Some, None, is_none, option_map, if◌then◌else◌}
+use Rattle.std.specs.Fmt.{decimal}
+use Rattle.sec1.specs.KeyFaults.{key_fault}
+use Rattle.sec1.specs.Keys.{Key, IsKeyOf}
+use Rattle.der_view.specs.Almost.{ArmourView, armour_of}
+use Rattle.der_view.specs.Known.{nothing_known, with_rows}
+use Rattle.der_view.specs.Lines.{kept, shown}
+use Rattle.der_view.specs.Marks.{bytes_text as count_text}
+use Rattle.der_view.specs.Parts.{Content, Itself, Bytes, Said, content_of}
+use Rattle.der_view.specs.Pictures.{plan_of, rows_by}
+use Rattle.der_view.specs.Printing.{line_text, rows_text}
+use Rattle.der_view.specs.Said.{file_note, note_text, said_text}
+use Rattle.der_view.specs.Sentences.{reason_of}
+use Rattle.der_view.specs.Sources.{SourceView, Der, Pem, Text, Wide, sources_of}
+use Rattle.der_view.specs.declared.known.Known.{Known}
+use Rattle.der_view.specs.declared.plan.Plan.{Plan}
+use Rattle.der_view.specs.declared.said.Reading.{Reading}
+use Rattle.der_view.specs.declared.said.Reading.TheVariants as readings
+use Rattle.der_view.specs.declared.text.Encoding.{Encoding}
+use Rattle.der_view.specs.declared.text.Encoding.TheVariants as encodings
+use Rattle.der_view.specs.declared.text.Found.{Found}
+use Rattle.der_view.specs.declared.text.Found.TheVariants as founds
+use Rattle.der_view.specs.declared.text.almost.Flaw.{Flaw}
+use Rattle.der_view.specs.declared.text.almost.Flaw.TheVariants as flaws
+
+-- ---- bytes
+
+-- whether bytes are those of a key (RFC 5915 section 3)
+unfoldable pub is_key_of : List ℕ → Bool
+is_key_of bytes = is_none (key_fault bytes)
+
+abbrev pub IsKey : List ℕ → Bool → Type 0
+IsKey bytes is_key = IsTrue is_key ↔ ((key : Key) × IsKeyOf key bytes)
+
+-- what is known of bytes by their rows
+unfoldable pub known_of : Plan → List ℕ → Known
+known_of plan bytes = with_rows (nothing_known plan) (rows_by plan false bytes)
+
+-- the picture of bytes: their rows, and what is said of them
+unfoldable pub bytes_text : Bool → Reading → List ℕ → List ℕ
+bytes_text all reading bytes =
+    rows_text (plan_of bytes) all (rows_by (plan_of bytes) all bytes)
+    ++ said_text (is_key_of bytes) reading (file_note bytes) (known_of (plan_of bytes) bytes)
+
+-- ---- the line above
+
+abbrev pub flaw_words : Flaw → List ℕ
+flaw_words flaws.Nothing = []
+flaw_words flaws.Escaped = codes ", with " ++ 0x5C ∷ codes "n for line ends"
+flaw_words flaws.Url = codes ", in base64url"
+flaw_words flaws.NoBegin = codes ", with no line BEGIN"
+flaw_words flaws.OneLine = codes ", with no line ends"
+flaw_words flaws.Indented = codes ", indented or quoted"
+flaw_words flaws.Foreign = codes ", with other characters in it"
+
+-- what it says is in a source
+abbrev pub found_text : Found → List ℕ
+found_text founds.Itself = []
+found_text (founds.Decoded encoding flaw len) = count_text len ++ flaw_words flaw
+found_text (founds.Said note) = reason_of note
+
+abbrev pub end_text : Bool → List ℕ
+end_text has_end = if has_end then [] else codes ", with no line END"
+
+-- of a block with this label, in this line
+abbrev pub pem_heading : ℕ → List ℕ → Found → Bool → List ℕ
+pem_heading line label found has_end =
+    codes "PEM at line "
+    ++ (decimal line
+    ++ (codes ", " ++ (label ++ (codes ": " ++ (found_text found ++ end_text has_end)))))
+
+abbrev pub encoding_word : Encoding → List ℕ
+encoding_word encodings.Hexadecimal = codes "hexadecimal: "
+encoding_word _ = codes "base64: "
+
+abbrev pub plain_heading : Encoding → Found → List ℕ
+plain_heading encoding found = encoding_word encoding ++ found_text found
+
+abbrev pub armour_heading : Found → ArmourView → List ℕ
+armour_heading found armour = pem_heading armour.line armour.label found armour.has_end
+
+-- of a text with no block, if bytes were decoded
+abbrev pub text_heading : List ℕ → Found → Option (List ℕ)
+text_heading text founds.Itself = None
+text_heading text (founds.Said note) = None
+text_heading text (founds.Decoded encodings.Pem flaw len) =
+    option_map (armour_heading (founds.Decoded encodings.Pem flaw len)) (armour_of text)
+text_heading text (founds.Decoded encodings.Hexadecimal flaw len) =
+    Some (plain_heading encodings.Hexadecimal (founds.Decoded encodings.Hexadecimal flaw len))
+text_heading text (founds.Decoded encodings.Base64 flaw len) =
+    Some (plain_heading encodings.Base64 (founds.Decoded encodings.Base64 flaw len))
+
+abbrev pub heading_of : SourceView → Found → Option (List ℕ)
+heading_of (Pem block is_read) found = Some (pem_heading block.line block.label found block.has_end)
+heading_of (Text text) found = text_heading text found
+heading_of _ found = None
+
+abbrev pub heading_line : Option (List ℕ) → List ℕ
+heading_line None = []
+heading_line (Some heading) = line_text (shown (kept heading))
+
+-- ---- a source
+
+-- how OpenSSL reads the bytes in a source
+abbrev pub reading_of : SourceView → Reading
+reading_of (Der input) = readings.Der
+reading_of (Pem block is_read) = if is_read then readings.Pem else readings.Nothing
+reading_of _ = readings.Nothing
+
+-- and of a text with a flaw
+abbrev pub reading_with : Reading → Flaw → Reading
+reading_with reading flaws.Nothing = reading
+reading_with reading _ = readings.Nothing
+
+-- what is found of a content
+abbrev pub found_of : Content → Found
+found_of Itself = founds.Itself
+found_of (Bytes encoding flaw bytes) = founds.Decoded encoding flaw (length bytes)
+found_of (Said note) = founds.Said note
+
+abbrev pub content_text : Bool → Reading → Content → List ℕ
+content_text all reading Itself = []
+content_text all reading (Bytes encoding flaw bytes) =
+    bytes_text all (reading_with reading flaw) bytes
+content_text all reading (Said note) = note_text note
+
+-- the picture of a source with this content
+unfoldable pub decoded_text : Bool → SourceView → Content → List ℕ
+decoded_text all source content =
+    heading_line (heading_of source (found_of content))
+    ++ content_text all (reading_of source) content
+
+abbrev pub source_text : Bool → SourceView → List ℕ
+source_text all (Der input) = bytes_text all readings.Der input
+source_text all source = decoded_text all source (content_of source)
+
+-- whether it is a key's
+abbrev pub content_key : Content → Bool
+content_key (Bytes encoding flaw bytes) = is_key_of bytes
+content_key _ = false
+
+abbrev pub source_key : SourceView → Bool
+source_key (Der input) = is_key_of input
+source_key source = content_key (content_of source)
+
+-- ---- an input
+
+abbrev pub sources_text : Bool → List SourceView → List ℕ
+sources_text all [] = []
+sources_text all (source ∷ sources) = source_text all source ++ sources_text all sources
+
+abbrev pub some_key : List SourceView → Bool
+some_key [] = false
+some_key (source ∷ sources) = source_key source || some_key sources
+
+-- the picture of an input
+unfoldable pub picture_text : Bool → List ℕ → List ℕ
+picture_text all input = sources_text all (sources_of input)
+
+-- whether some part of it is a key
+unfoldable pub has_key : List ℕ → Bool
+has_key input = some_key (sources_of input)

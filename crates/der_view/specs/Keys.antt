@@ -1,0 +1,80 @@
+-- Private keys that differ in their private bytes.
+use Rattle.std.specs.Prelude.{◌≡◌, ◌≤◌, ◌⊎◌, ◌==◌, ◌&&◌, ◌||◌, not, nat_lt, ℕ, ◌%◌, Bool, true}
+use Rattle.std.specs.Prelude.{List, [], ◌∷◌, ◌++◌, length, drop}
+use Rattle.sec1_der.specs.Elements.{element, header}
+use Rattle.der_view.specs.Headers.{max_content_len}
+
+-- an element: its tag and its content
+abbrev pub Part : Type 0
+Part = ℕ × List ℕ
+
+-- elements in DER, one after the other
+abbrev pub parts_bytes : List Part → List ℕ
+parts_bytes [] = []
+parts_bytes (part ∷ parts) = element part.0 part.1 ++ parts_bytes parts
+
+-- the elements before an element, its tag, and the bytes after it
+pub record Level : Type 0 where
+  pub before : List Part
+  pub tag : ℕ
+  pub after : List ℕ
+
+-- Inside elements, from the outermost one: elements, the header of a private element of n bytes,
+-- and the bytes after this header.
+abbrev pub key_in : List Level → List Part → ℕ → ℕ → List ℕ → List ℕ
+key_in [] before tag n x = parts_bytes before ++ (header tag n ++ x)
+key_in (level ∷ levels) before tag n x =
+    parts_bytes level.before ++ (element level.tag (key_in levels before tag n x) ++ level.after)
+
+-- These differ in the first n bytes alone, and may end in them.
+pub record DifferIn (n : ℕ) (x y : List ℕ) : Type 0 where
+  pub few : n ≤ max_content_len
+  pub len : length x ≡ length y
+  pub after : drop n x ≡ drop n y
+
+-- A SEQUENCE whose header says m bytes, of which these are there, and the bytes after it.
+abbrev pub root_bytes : ℕ → List ℕ → List ℕ → List ℕ
+root_bytes m content rest = header 0x30 m ++ (content ++ rest)
+
+-- In a SEQUENCE whose header says m bytes a private element as above, and the bytes after it all.
+unfoldable pub key_bytes : ℕ → List Level → List Part → ℕ → ℕ → List ℕ → List ℕ → List ℕ
+key_bytes m levels before tag n x rest = root_bytes m (key_in levels before tag n x) rest
+
+-- All of the m bytes are there, or the input ends before.
+pub record IsContent (m : ℕ) (content rest : List ℕ) : Type 0 where
+  pub few : m ≤ max_content_len
+  pub there : (length content ≡ m) ⊎ ((length content ≤ m) × (rest ≡ []))
+
+-- X.690 section 8.1.2: a tag in one byte, which isn't reserved
+abbrev pub is_low : ℕ → Bool
+is_low tag = not (tag == 0x00 || tag == 0x20) && nat_lt (tag % 0x20) 0x1F
+
+abbrev pub AreParts : List Part → Type 0
+AreParts [] = Unit {0}
+AreParts (part ∷ parts) =
+    (is_low part.0 ≡ true) × (length part.1 ≤ max_content_len) × AreParts parts
+
+-- elements in elements, whose lengths are within the limit
+abbrev pub AreLevels : List Level → List Part → ℕ → ℕ → List ℕ → Type 0
+AreLevels [] before tag n x = AreParts before × (is_low tag ≡ true)
+AreLevels (level ∷ levels) before tag n x =
+    AreParts level.before × (is_low level.tag
+    ≡ true) × (length (key_in levels before tag n x) ≤ max_content_len)
+    × AreLevels levels before tag n x
+
+-- RFC 8017 appendix A.1.2: INTEGERs with these contents
+abbrev pub integers : List (List ℕ) → List Part
+integers [] = []
+integers (number ∷ numbers) = (0x02, number) ∷ integers numbers
+
+-- RFC 5958 section 2: a privateKey after a version and an algorithm
+abbrev pub container : List ℕ → List ℕ → List ℕ → Level
+container version algorithm after = record {
+  before = (0x02, version) ∷ (0x30, algorithm) ∷ [];
+  tag = 0x04;
+  after = after;
+}
+
+-- a SEQUENCE alone
+abbrev pub sequence : Level
+sequence = record { before = []; tag = 0x30; after = [] }

@@ -1,0 +1,401 @@
+//! The picture of an input: what is printed of it.
+ghost use Rattle.std.specs.Prelude.{◌≡◌, ◌++◌, ◌≤◌, ◌+◌, ◌*◌, false, length, IfOk, OnOk};
+ghost use Rattle.std.specs.Prelude.{option_map};
+ghost use Rattle.der_view.specs.Drawings.{IsKey, bytes_text, decoded_text, encoding_word, end_text};
+ghost use Rattle.der_view.specs.Drawings.{flaw_words, found_text, has_key, heading_line};
+ghost use Rattle.der_view.specs.Drawings.{heading_of};
+ghost use Rattle.der_view.specs.Drawings.{is_key_of, known_of, pem_heading, picture_text};
+ghost use Rattle.der_view.specs.Drawings.{reading_of};
+ghost use Rattle.der_view.specs.Drawings.{reading_with, source_key, source_text};
+ghost use Rattle.der_view.specs.Drawings.{content_key, content_text, plain_heading, text_heading};
+ghost use Rattle.der_view.specs.Lines.{kept, shown};
+ghost use Rattle.der_view.specs.Parts.{content_of};
+ghost use Rattle.der_view.specs.Pictures.{plan_of};
+ghost use Rattle.der_view.specs.Printing.{line_text};
+ghost use Rattle.der_view.specs.Said.{line_if, misfit_text, note_text, said_lines, said_text};
+ghost use Rattle.der_view.specs.Sources.{source_len, source_view, text_len};
+
+use crate::faults::key_fault;
+use crate::form::draw_rows;
+use crate::known::Known;
+use crate::line::Line;
+use crate::output::Output;
+use crate::plan::{Plan, plan_of};
+use crate::printer::{write_line, write_rows};
+use crate::said::{
+    Reading, SaidLines, advice_of, file_note, first_line, key_misfit, line_of, misfit_line,
+    point_misfit,
+};
+use crate::sentences::Sentence;
+use crate::text::{Encoding, Flaw, Found, Source, Sources, armour_of};
+use sec1::BorrowedKey;
+
+/// Writes the picture of an input: of DER, or of what its text encodes. Returns whether some part
+/// of it is a key (RFC 5915 section 3). With `all` every content is given.
+///
+/// `room` is memory for what is decoded, of [`room_len`](crate::room_len) bytes.
+///
+/// # Errors
+///
+/// An error of the writer.
+pub fn draw<W: Output>(
+    writer: &mut W,
+    input: &[u8],
+    room: &mut [u8],
+    all: bool,
+) -> Result<bool, W::Error>
+    requires { 2 * text_len input.now + 2 ≤ length room.old }
+    ensures text { OnOk result (W.appends writer.old writer.new (picture_text all input.now)) }
+    ensures key { IfOk result (λ found. found ≡ has_key input.now) }
+{
+    // By halves: to know how long a text is, each byte of a key would be looked at.
+    let (digits, bytes) = room.split_at_mut(room.len() / 2 - 1);
+    let mut sources = Sources::new(input);
+    let mut has_key = false;
+    while let Some(source) = sources.next_source() {
+        let is_key = draw_source(writer, &source, digits, bytes, all)?;
+        has_key |= is_key;
+    }
+    Ok(has_key)
+}
+
+/// Writes the picture of a source. Returns whether it is a key's.
+fn draw_source<W: Output>(
+    writer: &mut W,
+    source: &Source,
+    digits: &mut [u8],
+    bytes: &mut [u8],
+    all: bool,
+) -> Result<bool, W::Error>
+    requires digits { source_len (source_view source.now) ≤ length digits.old }
+    requires bytes { source_len (source_view source.now) + 2 ≤ length bytes.old }
+    ensures text { OnOk result
+        (W.appends writer.old writer.new (source_text all (source_view source.now))) }
+    ensures key { IfOk result (λ is_key. is_key ≡ source_key (source_view source.now)) }
+{
+    match source {
+        Source::Der(input) => draw_bytes(writer, *input, Reading::Der, all),
+        _ => draw_text(writer, source, digits, bytes, all),
+    }
+}
+
+/// Writes the picture of a source that is text. Returns whether it is a key's.
+fn draw_text<W: Output>(
+    writer: &mut W,
+    source: &Source,
+    digits: &mut [u8],
+    bytes: &mut [u8],
+    all: bool,
+) -> Result<bool, W::Error>
+    requires digits { source_len (source_view source.now) ≤ length digits.old }
+    requires bytes { source_len (source_view source.now) + 2 ≤ length bytes.old }
+    ensures text { OnOk result (W.appends writer.old writer.new
+        (decoded_text all (source_view source.now) (content_of (source_view source.now)))) }
+    ensures key { IfOk result
+        (λ is_key. is_key ≡ content_key (content_of (source_view source.now))) }
+{
+    let found = source.find(digits, bytes);
+    write_heading(writer, source, &found)?;
+    match found {
+        Found::Decoded(_, flaw, len) => {
+            draw_bytes(
+                writer,
+                &bytes[..len],
+                reading_with(source.reading(), flaw),
+                all,
+            )
+        }
+        Found::Said(note) => {
+            write_note(writer, note)?;
+            Ok(false)
+        }
+        Found::Itself => Ok(false),
+    }
+}
+
+/// Writes the line above the picture of a source, if it has one.
+pub(crate) fn write_heading<W: Output>(
+    writer: &mut W,
+    source: &Source,
+    found: &Found,
+) -> Result<(), W::Error>
+    ensures { OnOk result (W.appends writer.old writer.new
+        (heading_line (heading_of (source_view source.now) found.now))) }
+{
+    match source.heading(found) {
+        Some(line) => write_line(writer, &line),
+        None => Ok(()),
+    }
+}
+
+/// Writes the picture of bytes. Returns whether they are a key's.
+#[tactic(auto, unfolding(crate::specs::Drawings::bytes_text))]
+fn draw_bytes<W: Output>(
+    writer: &mut W,
+    bytes: &[u8],
+    reading: Reading,
+    all: bool,
+) -> Result<bool, W::Error>
+    ensures text { OnOk result
+        (W.appends writer.old writer.new (bytes_text all reading bytes.now)) }
+    ensures key { IfOk result (λ is_key. is_key ≡ is_key_of bytes.now) }
+{
+    let plan = plan_of(bytes);
+    write_rows(writer, plan, bytes, all)?;
+    let is_key = is_read_as_key(bytes);
+    write_said(
+        writer,
+        is_key,
+        reading,
+        file_note(bytes),
+        &known_of(plan, bytes),
+    )?;
+    Ok(is_key)
+}
+
+/// Returns `true` if the bytes are those of a key (RFC 5915 section 3).
+pub fn is_key(bytes: &[u8]) -> bool
+    ensures value { result ≡ is_key_of bytes.now }
+    ensures key { IsKey bytes.now result }
+{
+    match BorrowedKey::try_from(bytes) {
+        Ok(_) => true,
+        Err(_) => false,
+    }
+}
+
+/// Returns `true` if the bytes are those of a key, as [`is_key`] does.
+// By the table of faults, so that a library that draws bytes and reads keys has the reader of keys
+// in one place, in line.
+#[tactic(auto, unfolding(crate::specs::Drawings::is_key_of))]
+pub(crate) fn is_read_as_key(bytes: &[u8]) -> bool
+    ensures { result ≡ is_key_of bytes.now }
+{
+    match key_fault(bytes) {
+        None => true,
+        Some(_) => false,
+    }
+}
+
+/// Returns what is known of bytes by the rows that this plan draws of them.
+#[tactic(auto, unfolding(crate::specs::Drawings::known_of))]
+pub(crate) fn known_of(plan: Plan, bytes: &[u8]) -> Known
+    ensures { result ≡ known_of plan bytes.now }
+{
+    let mut known = Known::new(plan);
+    draw_rows(&mut known, plan, bytes, false);
+    known
+}
+
+/// Writes what is said of bytes, which are a key's or not.
+#[tactic(auto, unfolding(crate::specs::Said::said_text))]
+pub(crate) fn write_said<W: Output>(
+    writer: &mut W,
+    is_key: bool,
+    reading: Reading,
+    file: Option<Sentence>,
+    known: &Known,
+) -> Result<(), W::Error>
+    ensures { OnOk result (W.appends writer.old writer.new
+        (said_text is_key reading file known.now)) }
+{
+    write_line(writer, &first_line(is_key, reading, file, known))?;
+    let curve = known.curve.as_bytes();
+    write_misfit(writer, "Its private key has ", curve, key_misfit(known))?;
+    write_misfit(writer, "Its point has ", curve, point_misfit(known))?;
+    let advice = advice_of(is_key, reading, known);
+    write_text(writer, "", advice.words())?;
+    write_text(writer, "  ", advice.command())
+}
+
+/// Returns which lines [`draw`] writes last of bytes from a text with this flaw, below the first
+/// line on them.
+#[tactic(auto, unfolding(crate::specs::Said::said_lines))]
+pub fn said_lines(bytes: &[u8], reading: Reading, flaw: Flaw) -> SaidLines
+    ensures { result ≡ said_lines (is_key_of bytes.now) (reading_with reading flaw)
+        (known_of (plan_of bytes.now) bytes.now) }
+{
+    let known = known_of(plan_of(bytes), bytes);
+    let advice = advice_of(is_read_as_key(bytes), reading_with(reading, flaw), &known);
+    SaidLines {
+        key: key_misfit(&known).is_some(),
+        point: point_misfit(&known).is_some(),
+        words: !advice.words().is_empty(),
+        command: !advice.command().is_empty(),
+    }
+}
+
+/// Writes the line on a length that isn't that of a curve, if there is one.
+fn write_misfit<W: Output>(
+    writer: &mut W,
+    front: &str,
+    curve: &[u8],
+    misfit: Option<(usize, usize)>,
+) -> Result<(), W::Error>
+    ensures { OnOk result (W.appends writer.old writer.new
+        (misfit_text front.now curve.now misfit)) }
+{
+    match misfit {
+        Some(misfit) => write_line(writer, &misfit_line(front, curve, misfit)),
+        None => Ok(()),
+    }
+}
+
+/// Writes a line with this text, if it isn't empty.
+fn write_text<W: Output>(writer: &mut W, front: &str, text: &str) -> Result<(), W::Error>
+    ensures { OnOk result (W.appends writer.old writer.new (line_if front.now text.now)) }
+{
+    if text.is_empty() {
+        Ok(())
+    } else {
+        write_line(writer, &joined(front, text))
+    }
+}
+
+/// Returns a line with these two texts.
+fn joined(front: &str, text: &str) -> Line
+    ensures { result ≡ kept (front.now ++ text.now) }
+{
+    let mut line = line_of(front);
+    line.push_str(text);
+    line
+}
+
+/// Writes what is said of a source that isn't drawn.
+pub(crate) fn write_note<W: Output>(writer: &mut W, note: Sentence) -> Result<(), W::Error>
+    ensures { OnOk result (W.appends writer.old writer.new (note_text note)) }
+{
+    write_text(writer, "", note.words())?;
+    write_text(writer, "  ", note.command())
+}
+
+/// Returns how OpenSSL reads bytes of a text with this flaw, which it would read so without.
+pub(crate) fn reading_with(reading: Reading, flaw: Flaw) -> Reading
+    ensures { result ≡ reading_with reading flaw }
+{
+    match flaw {
+        Flaw::Nothing => reading,
+        _ => Reading::Nothing,
+    }
+}
+
+impl<'a> Source<'a> {
+    /// Returns how OpenSSL reads the bytes in the source.
+    pub fn reading(&self) -> Reading
+        ensures { result ≡ reading_of (source_view self.now) }
+    {
+        match self {
+            Source::Der(_) => Reading::Der,
+            Source::Pem { is_read, .. } => {
+                if *is_read {
+                    Reading::Pem
+                } else {
+                    Reading::Nothing
+                }
+            }
+            _ => Reading::Nothing,
+        }
+    }
+
+    /// Returns the line above the picture of the source, if it has one: of which `found` was found.
+    pub fn heading(&self, found: &Found) -> Option<Line>
+        ensures { result ≡ option_map kept (heading_of (source_view self.now) found.now) }
+    {
+        match self {
+            Source::Pem { block, .. } => Some(pem_line(
+                block.line,
+                block.label,
+                found,
+                block.has_end,
+            )),
+            Source::Text(text) => text_line(*text, found),
+            _ => None,
+        }
+    }
+}
+
+/// Returns the line above a block with this label that begins in this line.
+fn pem_line(number: usize, label: &[u8], found: &Found, has_end: bool) -> Line
+    ensures { result ≡ kept (pem_heading number label.now found.now has_end) }
+{
+    let mut line = Line::new();
+    line.push_str("PEM at line ");
+    line.push_decimal(number);
+    line.push_str(", ");
+    line.push_bytes(label);
+    line.push_str(": ");
+    line.push_found(found);
+    line.push_str(end_text(has_end));
+    line
+}
+
+/// Returns what is said of a block with its last line, or with none.
+fn end_text(has_end: bool) -> &'static str
+    ensures { result.now ≡ end_text has_end }
+{
+    if has_end { "" } else { ", with no line END" }
+}
+
+/// Returns the line above the picture of a text with no block, if bytes were decoded.
+fn text_line(text: &[u8], found: &Found) -> Option<Line>
+    ensures { result ≡ option_map kept (text_heading text.now found.now) }
+{
+    match found {
+        Found::Decoded(Encoding::Pem, _, _) => {
+            let armour = armour_of(text)?;
+            Some(pem_line(armour.line, armour.label, found, armour.has_end))
+        }
+        Found::Decoded(encoding, _, _) => Some(plain_line(*encoding, found)),
+        _ => None,
+    }
+}
+
+/// Returns the line above the picture of a text in this encoding.
+fn plain_line(encoding: Encoding, found: &Found) -> Line
+    ensures { result ≡ kept (plain_heading encoding found.now) }
+{
+    let mut line = line_of(encoding_word(encoding));
+    line.push_found(found);
+    line
+}
+
+/// Returns the name of an encoding without armour.
+fn encoding_word(encoding: Encoding) -> &'static str
+    ensures { result.now ≡ encoding_word encoding }
+{
+    match encoding {
+        Encoding::Hexadecimal => "hexadecimal: ",
+        _ => "base64: ",
+    }
+}
+
+impl Line {
+    /// Appends what the heading of a source says is in it.
+    fn push_found(&mut self, found: &Found)
+        ensures { self.new ≡ kept (self.old ++ found_text found.now) }
+    {
+        match found {
+            Found::Decoded(_, flaw, len) => {
+                self.push_bytes_of(*len);
+                self.push_str(flaw_words(*flaw));
+            }
+            Found::Said(note) => self.push_str(note.reason()),
+            Found::Itself => self.push_str(""),
+        }
+    }
+}
+
+/// Returns what is said of a text that is almost PEM or base64.
+fn flaw_words(flaw: Flaw) -> &'static str
+    ensures { result.now ≡ flaw_words flaw }
+{
+    match flaw {
+        Flaw::Nothing => "",
+        Flaw::Escaped => ", with \\n for line ends",
+        Flaw::Url => ", in base64url",
+        Flaw::NoBegin => ", with no line BEGIN",
+        Flaw::OneLine => ", with no line ends",
+        Flaw::Indented => ", indented or quoted",
+        Flaw::Foreign => ", with other characters in it",
+    }
+}

@@ -1,0 +1,417 @@
+//! What is printed of a row.
+ghost use Rattle.std.specs.Prelude.{◌≡◌};
+ghost use Rattle.der_view.specs.Facts.{announces, bits_point, element_marks, element_row};
+ghost use Rattle.der_view.specs.Facts.{end_row, fault_mark, is_all, is_count};
+ghost use Rattle.der_view.specs.Facts.{is_point, is_private, is_private_name, is_told, misfit_mark};
+ghost use Rattle.der_view.specs.Facts.{missing_mark, not_drawn_mark, not_drawn_row, point_of};
+ghost use Rattle.der_view.specs.Facts.{point_shown, row_view, says_expected, shown_by, shown_fault};
+ghost use Rattle.der_view.specs.Facts.{shown_name, shows_names, type_fault};
+ghost use Rattle.der_view.specs.Rows.{view_of};
+
+use crate::grammar::{Component, Content, Form, Name, Secrecy};
+use crate::header::{Class, Header, Tag};
+use crate::marks::{
+    Fault, Mark, content_fault, length_fault, string_fault, tag_fault, unused_number_fault,
+};
+use crate::plan::Plan;
+use crate::walk::{Element, Place};
+
+/// What a row is of.
+#[derive(Clone, Copy)]
+pub enum Kind {
+    /// An element with this tag.
+    Element(Tag),
+    /// The end of a content of indefinite length (X.690 section 8.1.5).
+    EndOfContents,
+    /// Bytes that aren't drawn.
+    NotDrawn,
+}
+
+/// The form of a point (SEC1 v2.0 section 2.3.3), and the number of bytes of a coordinate.
+#[derive(Clone, Copy)]
+pub enum Point {
+    /// The point at infinity.
+    Infinity,
+    /// A compressed point.
+    Compressed(usize),
+    /// An uncompressed point.
+    Uncompressed(usize),
+    /// A hybrid point (X9.62).
+    Hybrid(usize),
+    /// A compact point.
+    Compact(usize),
+    /// No point.
+    None,
+}
+
+/// What is shown of a content.
+#[derive(Clone, Copy)]
+pub enum Shown {
+    /// Nothing: it is rows, or there is none.
+    Nothing,
+    /// The number of its bytes.
+    Count,
+    /// The number of the bytes of a BIT STRING, and of its unused bits, which isn't 0.
+    Unused(u8),
+    /// The number of its bytes, and the form of the point in it.
+    Point(Point),
+    /// All of it.
+    Value,
+}
+
+/// All that is printed of a row, as text or in JSON.
+#[derive(Clone, Copy)]
+pub struct RowFacts<'a> {
+    /// Where it begins.
+    pub place: Place,
+    /// What it is of.
+    pub kind: Kind,
+    /// The bytes of the header.
+    pub head: &'a [u8],
+    /// The length of the content as the header says; `None` if it is indefinite, or there is no
+    /// header.
+    pub announced: Option<usize>,
+    /// The number of bytes of the content that are there.
+    pub len: usize,
+    /// Whether its content is drawn as rows.
+    pub opened: bool,
+    /// Its name, or none if it isn't printed.
+    pub name: Name,
+    /// Whether it is a private one whose content isn't shown.
+    pub is_secret: bool,
+    /// What is shown of its content.
+    pub shown: Shown,
+    /// The bytes of the content that are shown.
+    pub value: &'a [u8],
+    /// What is marked below it, in this order.
+    pub marks: [Option<Mark>; 6],
+    /// The components that could come there.
+    pub expected: &'a [Component],
+    /// The bytes of the content, if all are given, and they aren't rows.
+    pub content: &'a [u8],
+}
+
+impl<'a> RowFacts<'a> {
+    /// Returns what is printed of an element by a plan, with all contents or without.
+    pub fn of_element(plan: Plan, all: bool, place: Place, element: &Element<'a>) -> RowFacts<'a>
+        ensures { row_view result ≡ element_row plan all place (view_of element.now) }
+    {
+        let name = shown_name(plan, element.component.3);
+        let shown = shown_by(element);
+        RowFacts {
+            place,
+            kind: Kind::Element(element.header.tag),
+            head: element.head,
+            announced: element.header.content_len,
+            len: element.len,
+            opened: element.opened,
+            name,
+            is_secret: !all && is_private_name(name) && is_count(shown),
+            shown,
+            value: element.shown,
+            marks: element_marks(plan, element),
+            expected: element.expected,
+            content: element.content,
+        }
+    }
+
+    /// Returns what is printed of an end-of-contents.
+    pub fn of_end(place: Place) -> RowFacts<'a>
+        ensures { row_view result ≡ end_row place }
+    {
+        RowFacts {
+            place,
+            kind: Kind::EndOfContents,
+            head: &[0, 0],
+            announced: Some(0),
+            len: 0,
+            opened: false,
+            name: Name::Nothing,
+            is_secret: false,
+            shown: Shown::Nothing,
+            value: &[],
+            marks: [None; 6],
+            expected: &[],
+            content: &[],
+        }
+    }
+
+    /// Returns what is printed of bytes that aren't drawn.
+    pub fn of_not_drawn(
+        plan: Plan,
+        place: Place,
+        expected: &'a [Component],
+        len: usize,
+        content: &'a [u8],
+    ) -> RowFacts<'a>
+        ensures { row_view result
+            ≡ not_drawn_row plan place expected.now len content.now }
+    {
+        RowFacts {
+            place,
+            kind: Kind::NotDrawn,
+            head: &[],
+            announced: Some(len),
+            len,
+            opened: false,
+            name: Name::Nothing,
+            is_secret: false,
+            shown: Shown::Nothing,
+            value: &[],
+            marks: [not_drawn_mark(plan, place), None, None, None, None, None],
+            expected,
+            content,
+        }
+    }
+
+    /// Returns `true` unless the row is of no bytes, and has no mark.
+    pub fn is_told(&self) -> bool
+        ensures { result ≡ is_told (row_view self.now) }
+    {
+        let first = self.marks[0];
+        match self.kind {
+            Kind::NotDrawn => self.len > 0 || first.is_some(),
+            _ => true,
+        }
+    }
+}
+
+/// Returns the name of a component, if names are printed by this plan.
+fn shown_name(plan: Plan, name: Name) -> Name
+    ensures { result ≡ shown_name plan name }
+{
+    if shows_names(plan) {
+        name
+    } else {
+        Name::Nothing
+    }
+}
+
+/// Returns `true` unless the bytes are those of a damaged private key.
+fn shows_names(plan: Plan) -> bool
+    ensures { result ≡ shows_names plan }
+{
+    plan.is_whole || plan.is_cut || !is_private(plan.form)
+}
+
+/// Returns `true` if the form is that of a private key.
+fn is_private(form: Option<Form>) -> bool
+    ensures { result ≡ is_private form }
+{
+    match form {
+        Some((_, Secrecy::Private)) => true,
+        _ => false,
+    }
+}
+
+/// Returns `true` if this is said where the form isn't followed.
+fn says_expected(plan: Plan) -> bool
+    ensures { result ≡ says_expected plan }
+{
+    is_private(plan.form) && !plan.is_cut
+}
+
+/// Returns `true` if a component with this name is private.
+fn is_private_name(name: Name) -> bool
+    ensures { result ≡ is_private_name name }
+{
+    matches!(
+        name,
+        Name::PrivateKey
+            | Name::TheKey
+            | Name::PrivateExponent
+            | Name::Prime1
+            | Name::Prime2
+            | Name::Exponent1
+            | Name::Exponent2
+            | Name::Coefficient
+            | Name::OtherPrimeInfos
+            | Name::X
+    )
+}
+
+/// Returns `true` if only the number of the bytes is shown.
+fn is_count(shown: Shown) -> bool
+    ensures { result ≡ is_count shown }
+{
+    match shown {
+        Shown::Count => true,
+        _ => false,
+    }
+}
+
+/// Returns `true` if a header says this length.
+fn announces(announced: Option<usize>, len: usize) -> bool
+    ensures { result ≡ announces announced len }
+{
+    match announced {
+        Some(announced) => announced == len,
+        None => false,
+    }
+}
+
+/// Returns `true` if a content is that of a point.
+fn is_point(content: Content) -> bool
+    ensures { result ≡ is_point content }
+{
+    match content {
+        Content::Point => true,
+        _ => false,
+    }
+}
+
+/// Returns what is shown of an element's content.
+fn shown_by(element: &Element) -> Shown
+    ensures { result ≡ shown_by (view_of element.now) }
+{
+    if element.opened {
+        Shown::Nothing
+    } else if is_point(element.component.2) {
+        point_shown(element.header.tag, element.len, element.shown)
+    } else if is_all(element) {
+        Shown::Value
+    } else {
+        Shown::Count
+    }
+}
+
+/// Returns `true` if the element is primitive, and all of its content is there and shown.
+fn is_all(element: &Element) -> bool
+    ensures { result ≡ is_all (view_of element.now) }
+{
+    !element.header.tag.constructed && announces(element.header.content_len, element.shown.len())
+}
+
+/// Returns what is shown of the content of this length of a point, of which these bytes are shown.
+fn point_shown(tag: Tag, len: usize, shown: &[u8]) -> Shown
+    ensures { result ≡ point_shown tag len shown.now }
+{
+    match shown {
+        [] => Shown::Count,
+        [form, ..] if tag.is_universal(4) => Shown::Point(point_of(*form, len.saturating_sub(1))),
+        [0x00, rest @ ..] => Shown::Point(bits_point(len, rest)),
+        [unused, ..] => Shown::Unused(*unused),
+    }
+}
+
+/// Returns the form of the point in a BIT STRING of this length, which begins with these bytes
+/// after the first one.
+fn bits_point(len: usize, rest: &[u8]) -> Point
+    ensures { result ≡ bits_point len rest.now }
+{
+    match rest {
+        [] => Point::None,
+        [form, ..] => point_of(*form, len.saturating_sub(2)),
+    }
+}
+
+/// Returns the form of the point that begins with this byte, before so many others.
+fn point_of(form: u8, size: usize) -> Point
+    ensures { result ≡ point_of form size }
+{
+    if size == 0 {
+        return if form == 0x00 {
+            Point::Infinity
+        } else {
+            Point::None
+        };
+    }
+    match form {
+        0x02 | 0x03 => Point::Compressed(size),
+        0x04 if size % 2 == 0 => Point::Uncompressed(size / 2),
+        0x05 => Point::Compact(size),
+        0x06 | 0x07 if size % 2 == 0 => Point::Hybrid(size / 2),
+        _ => Point::None,
+    }
+}
+
+/// Returns the marks of an element.
+fn element_marks(plan: Plan, element: &Element) -> [Option<Mark>; 6]
+    ensures { result ≡ element_marks plan (view_of element.now) }
+{
+    let Header {
+        tag,
+        tag_len,
+        len,
+        content_len,
+    } = element.header;
+    [
+        missing_mark(content_len, element.len),
+        fault_mark(tag_fault(element.head, tag.number)),
+        fault_mark(length_fault(content_len, len.saturating_sub(tag_len))),
+        fault_mark(string_fault(tag)),
+        fault_mark(shown_fault(element)),
+        misfit_mark(plan, element.follows),
+    ]
+}
+
+/// Returns the mark of a content of this length, of which so many bytes are there.
+fn missing_mark(announced: Option<usize>, len: usize) -> Option<Mark>
+    ensures { result ≡ missing_mark announced len }
+{
+    match announced {
+        Some(announced) if announced > len => Some(Mark::Missing {
+            missing: announced - len,
+            announced,
+        }),
+        _ => None,
+    }
+}
+
+/// Returns the mark of a fault.
+fn fault_mark(fault: Option<Fault>) -> Option<Mark>
+    ensures { result ≡ fault_mark fault }
+{
+    match fault {
+        Some(fault) => Some(Mark::Fault(fault)),
+        None => None,
+    }
+}
+
+/// Returns what is wrong with what is shown of an element's content.
+fn shown_fault(element: &Element) -> Option<Fault>
+    ensures { result ≡ shown_fault (view_of element.now) }
+{
+    match element.header.tag.class {
+        Class::Universal => type_fault(element.header.tag.number, is_all(element), element.shown),
+        _ => None,
+    }
+}
+
+/// Returns what is wrong with the content of a type of X.680, of which these bytes are shown: all,
+/// or the first ones.
+fn type_fault(number: u32, is_all: bool, shown: &[u8]) -> Option<Fault>
+    ensures { result ≡ type_fault number is_all shown.now }
+{
+    if is_all {
+        return content_fault(number, shown);
+    }
+    match shown {
+        [unused, ..] if number == 3 => unused_number_fault(*unused),
+        _ => None,
+    }
+}
+
+/// Returns the mark of an element that follows the form or not.
+fn misfit_mark(plan: Plan, follows: bool) -> Option<Mark>
+    ensures { result ≡ misfit_mark plan follows }
+{
+    if says_expected(plan) && !follows {
+        Some(Mark::Expected)
+    } else {
+        None
+    }
+}
+
+/// Returns the mark of bytes at this place that aren't drawn.
+fn not_drawn_mark(plan: Plan, place: Place) -> Option<Mark>
+    ensures { result ≡ not_drawn_mark plan place }
+{
+    if place.depth == 0 && place.offset > 0 {
+        Some(Mark::AfterRoot)
+    } else if says_expected(plan) {
+        Some(Mark::Expected)
+    } else {
+        None
+    }
+}

@@ -1,0 +1,251 @@
+//! Rows as text.
+ghost use Rattle.std.specs.Prelude.{◌≡◌, ◌++◌, List, OnOk, None, codes};
+ghost use Rattle.std.proofs.Common.{refl, ◌∙◌};
+ghost use Rattle.der_view.specs.Facts.{row_view};
+ghost use Rattle.der_view.specs.Lines.{kept, shown};
+ghost use Rattle.der_view.specs.Pictures.{rows_by};
+ghost use Rattle.der_view.specs.Printing.{HasWritten, content_lines, left_lines, line_count};
+ghost use Rattle.der_view.specs.Printing.{line_text, lines_text, mark_line, mark_lines, row_lines};
+ghost use Rattle.der_view.specs.Printing.{AreLines, rows_lines, rows_text, told_lines};
+ghost use Rattle.der_view.specs.Rows.{Row};
+ghost use Rattle.der_view.specs.PrintingLaws.{has_written_both, has_written_none};
+ghost use Rattle.der_view.specs.RowLines.{hex_words, row_line, spaces};
+ghost use Rattle.der_view.specs.Marks.{mark_words};
+
+use crate::facts::RowFacts;
+use crate::form::draw_rows;
+use crate::grammar::Component;
+use crate::line::Line;
+use crate::marks::Mark;
+use crate::names::split;
+use crate::output::Output;
+use crate::plan::Plan;
+use crate::row_line::row_line;
+use crate::walk::{Element, Place, Rows};
+
+/// The number of bytes of a content in a line.
+const BYTES_IN_LINE: usize = 16;
+
+/// The column of a content.
+const CONTENT_COLUMN: usize = 25;
+
+/// Writes the rows of bytes by a plan, with all contents or without.
+///
+/// # Errors
+///
+/// The first error of the writer.
+pub fn write_rows<W: Output>(
+    writer: &mut W,
+    plan: Plan,
+    bytes: &[u8],
+    all: bool,
+) -> Result<(), W::Error>
+    ensures { OnOk result (W.appends writer.old writer.new
+        (rows_text plan all (rows_by plan all bytes.now))) }
+{
+    let mut printer = Printer::new(writer, plan, all);
+    draw_rows(&mut printer, plan, bytes, all);
+    printer.finish()
+}
+
+/// Each line of rows is printable ASCII of at most 100 characters, whatever the rows are.
+pub fn lines_are_short(plan: Plan, all: bool)
+    ensures { (rows : List Row) → AreLines (rows_lines plan all rows) }
+{
+    let _ = (plan, all);
+}
+
+/// Writes a line, as it is shown, and its end.
+///
+/// # Errors
+///
+/// An error of the writer.
+pub fn write_line<W: Output>(writer: &mut W, line: &Line) -> Result<(), W::Error>
+    ensures { OnOk result (W.appends writer.old writer.new (line_text (shown line.now))) }
+{
+    let line = line.finish();
+    writer.push(line.as_bytes())?;
+    writer.push(b"\n")
+}
+
+/// Writes the lines of rows. It keeps the first error of the writer, and writes nothing after it.
+#[derive(Drop)]
+pub struct Printer<'a, W: Output> {
+    writer: &'a mut W,
+    plan: Plan,
+    all: bool,
+    error: Option<W::Error>,
+}
+
+impl<'a, W: Output> Printer<'a, W> {
+    /// Creates a printer of the rows of bytes by this plan, with all contents or without.
+    pub fn new(writer: &'a mut W, plan: Plan, all: bool) -> Printer<'a, W>
+        ensures writer { result.writer.ghost_name ≡ writer.entry.ghost_name }
+        ensures now { result.writer.now ≡ writer.old }
+        ensures plan { result.plan ≡ plan }
+        ensures all { result.all ≡ all }
+        ensures error { result.error ≡ None }
+    {
+        Printer {
+            writer,
+            plan,
+            all,
+            error: None,
+        }
+    }
+
+    /// Returns whether all was written.
+    ///
+    /// # Errors
+    ///
+    /// The first error of the writer.
+    pub fn finish(self) -> Result<(), W::Error>
+        ensures error { OnOk result (self.entry.error ≡ None) }
+        ensures kept { self.exit.0.now ≡ self.entry.writer.now }
+    {
+        let Printer { error, .. } = self;
+        match error {
+            Some(error) => Err(error),
+            None => Ok(()),
+        }
+    }
+
+    /// Writes a row, unless a write has failed.
+    fn tell(&mut self, row: &RowFacts)
+        ensures writer { self.new.writer.ghost_name ≡ self.old.writer.ghost_name }
+        ensures plan { self.new.plan ≡ self.old.plan }
+        ensures all { self.new.all ≡ self.old.all }
+        ensures text { HasWritten W.appends self.old.error self.old.writer.now self.new.error
+            self.new.writer.now (lines_text (told_lines (row_view row.now))) }
+    {
+        if self.error.is_none() {
+            if let Err(error) = write_told(self.writer, row) {
+                self.error = Some(error);
+            }
+        }
+    }
+}
+
+impl<W: Output> Rows for Printer<'_, W> {
+    ghost tells = { λ a b rows. (b.writer.ghost_name ≡ a.writer.ghost_name)
+        × (b.plan ≡ a.plan) × (b.all ≡ a.all)
+        × HasWritten W.appends a.error a.writer.now b.error b.writer.now
+        (rows_text a.plan a.all rows) };
+
+    fn element(&mut self, place: Place, element: &Element) {
+        self.tell(&RowFacts::of_element(self.plan, self.all, place, element));
+    }
+
+    fn end_of_contents(&mut self, place: Place) {
+        self.tell(&RowFacts::of_end(place));
+    }
+
+    fn not_drawn(&mut self, place: Place, expected: &[Component], len: usize, content: &[u8]) {
+        self.tell(&RowFacts::of_not_drawn(self.plan, place, expected, len, content));
+    }
+
+    ghost nothing = { λ a. (
+      refl,
+      refl,
+      refl,
+      has_written_none W.appends W.nothing a.error a.writer.now,
+    ) };
+
+    ghost joined = { λ a b c first second one two. (
+      two.0 ∙ one.0,
+      two.1 ∙ one.1,
+      two.2 ∙ one.2,
+      has_written_both W.appends W.joined a.plan b.plan a.all b.all first second a.error b.error
+          c.error a.writer.now b.writer.now c.writer.now one.1 one.2 one.3 two.3,
+    ) };
+}
+
+/// Writes the lines of a row, unless it is of no bytes, and has no mark.
+#[tactic(auto, unfolding(crate::specs::Printing::told_lines))]
+fn write_told<W: Output>(writer: &mut W, row: &RowFacts) -> Result<(), W::Error>
+    ensures { OnOk result
+        (W.appends writer.old writer.new (lines_text (told_lines (row_view row.now)))) }
+{
+    if row.is_told() {
+        write_row(writer, row)
+    } else {
+        Ok(())
+    }
+}
+
+/// Writes the lines of a row: its own, those of its content, and its marks.
+fn write_row<W: Output>(writer: &mut W, row: &RowFacts) -> Result<(), W::Error>
+    ensures { OnOk result
+        (W.appends writer.old writer.new (lines_text (row_lines (row_view row.now)))) }
+{
+    let line = row_line(row);
+    write_line(writer, &line)?;
+    write_left(writer, row, line.len())?;
+    write_marks(writer, &row.marks, row.expected)
+}
+
+/// Writes the content of a row, if its line of this length doesn't say all of it.
+fn write_left<W: Output>(writer: &mut W, row: &RowFacts, len: usize) -> Result<(), W::Error>
+    ensures { OnOk result
+        (W.appends writer.old writer.new (lines_text (left_lines (row_view row.now) len))) }
+{
+    if row.is_said(len) {
+        Ok(())
+    } else {
+        write_content(writer, row.content)
+    }
+}
+
+/// Writes a content in lines of 16 bytes.
+fn write_content<W: Output>(writer: &mut W, content: &[u8]) -> Result<(), W::Error>
+    ensures { OnOk result (W.appends writer.old writer.new
+        (lines_text (content_lines (line_count content.now) content.now))) }
+{
+    let mut rest = content;
+    let mut left = content.len().div_ceil(BYTES_IN_LINE);
+    while left > 0 {
+        let (bytes, others) = split(rest, BYTES_IN_LINE);
+        write_line(writer, &content_line(bytes))?;
+        rest = others;
+        left -= 1;
+    }
+    Ok(())
+}
+
+/// Returns the line of these bytes of a content.
+fn content_line(bytes: &[u8]) -> Line
+    ensures { result ≡ kept (spaces 25 ++ hex_words bytes.now) }
+{
+    let mut line = Line::new();
+    line.push_spaces(CONTENT_COLUMN);
+    line.push_header(bytes);
+    line
+}
+
+/// Writes the lines of marks of a row in which these components could come.
+fn write_marks<W: Output>(
+    writer: &mut W,
+    marks: &[Option<Mark>],
+    expected: &[Component],
+) -> Result<(), W::Error>
+    ensures { OnOk result
+        (W.appends writer.old writer.new (lines_text (mark_lines marks.now expected.now))) }
+{
+    let Some((mark, others)) = marks.split_first() else {
+        return Ok(());
+    };
+    if let Some(mark) = mark {
+        write_line(writer, &mark_line(*mark, expected))?;
+    }
+    write_marks(writer, others, expected)
+}
+
+/// Returns the line of a mark.
+fn mark_line(mark: Mark, expected: &[Component]) -> Line
+    ensures { result ≡ kept (codes "     ^ " ++ mark_words mark expected.now) }
+{
+    let mut line = Line::new();
+    line.push_str("     ^ ");
+    line.push_mark(mark, expected);
+    line
+}

@@ -1,0 +1,215 @@
+//! The element that comes next, what it is, and what is shown of it.
+ghost use Rattle.std.specs.Prelude.{◌≡◌, ◌+◌, ◌≤◌, IfSome, length, option_map};
+ghost use Rattle.der_view.specs.Rows.{admits, comes_again, component_at, element_at, end_at};
+ghost use Rattle.der_view.specs.Rows.{fitting, has_tag, is_of, may_be_absent, may_end, step_by};
+ghost use Rattle.der_view.specs.Rows.{step_of};
+
+use crate::content::{is_primitive, is_whole};
+use crate::grammar::{Component, Content, ELEMENT, Presence, Structure};
+use crate::header::Header;
+
+/// The element that comes next at a level.
+#[derive(Clone, Copy)]
+pub(crate) struct Step<'c, 'a> {
+    /// Its header.
+    pub(crate) header: Header,
+    /// The bytes of its header.
+    pub(crate) head: &'a [u8],
+    /// Its component, [`ELEMENT`] if it has none.
+    pub(crate) component: Component,
+    /// The components that may come after it.
+    pub(crate) others: &'c [Component],
+    /// Whether it is one of those that could come.
+    pub(crate) follows: bool,
+    /// Its content, as far as it is there; of an indefinite length, with all that comes after it.
+    pub(crate) content: &'a [u8],
+    /// The bytes after it; none of an indefinite length.
+    pub(crate) rest: &'a [u8],
+}
+
+/// Returns the next element, if the bytes begin with one of these components. It may be cut, or be
+/// none of them, if that is allowed.
+#[tactic(auto, unfolding(crate::specs::Rows::step_by))]
+pub(crate) fn step_by<'c, 'a>(
+    may_be_cut: bool,
+    may_misfit: bool,
+    components: &'c [Component],
+    bytes: &'a [u8],
+) -> Option<Step<'c, 'a>>
+    ensures exact { option_map step_of result
+        ≡ step_by may_be_cut may_misfit components.now bytes.now }
+    ensures within { IfSome result
+        (λ step. step.header.len + length step.content.now + length step.rest.now
+        ≡ length bytes.now) }
+{
+    let [tag, ..] = bytes else {
+        return None;
+    };
+    let (header, content, rest) = element_at(may_be_cut, bytes)?;
+    let found = component_at(*tag, &header, content, components);
+    let follows = found.is_some();
+    let (component, others) = match found {
+        Some(found) => found,
+        None => {
+            if !may_misfit {
+                return None;
+            }
+            (ELEMENT, Structure::Any.components())
+        }
+    };
+    Some(Step {
+        header,
+        head: &bytes[..header.len],
+        component,
+        others,
+        follows,
+        content,
+        rest,
+    })
+}
+
+/// Returns the header and the content of the element that the bytes begin with, and the bytes after
+/// it. Of an indefinite length the content is all that comes.
+fn element_at(may_be_cut: bool, bytes: &[u8]) -> Option<(Header, &[u8], &[u8])>
+    ensures exact { option_map (λ found. (found.0, found.1.now, found.2.now)) result
+        ≡ element_at may_be_cut bytes.now }
+    ensures within { IfSome result
+        (λ found. found.0.len + length found.1.now + length found.2.now ≡ length bytes.now) }
+{
+    let Ok(header) = Header::read(bytes) else {
+        return None;
+    };
+    let there = &bytes[header.len..];
+    let Some(len) = header.content_len else {
+        return Some((header, there, &[]));
+    };
+    if there.len() < len {
+        if may_be_cut {
+            return Some((header, there, &[]));
+        }
+        return None;
+    }
+    Some((header, &there[..len], &there[len..]))
+}
+
+/// Returns the first component that such an element can be, and those that may come after it.
+fn component_at<'a>(
+    tag: u8,
+    header: &Header,
+    content: &[u8],
+    components: &'a [Component],
+) -> Option<(Component, &'a [Component])>
+    ensures { option_map (λ found. (found.0, found.1.now)) result
+        ≡ component_at tag header.now content.now components.now }
+{
+    let (component, others) = fitting(tag, components)?;
+    if admits(header, component.2, content) {
+        Some((component, others))
+    } else {
+        None
+    }
+}
+/// Returns the first component that an element with this tag can be, and those that may come after
+/// it.
+fn fitting(tag: u8, components: &[Component]) -> Option<(Component, &[Component])>
+    ensures { option_map (λ found. (found.0, found.1.now)) result ≡ fitting tag components.now }
+{
+    let [component, others @ ..] = components else {
+        return None;
+    };
+    if has_tag(component.0, tag) {
+        let after = if comes_again(component.1) {
+            components
+        } else {
+            others
+        };
+        Some((*component, after))
+    } else if may_be_absent(component.1) {
+        fitting(tag, others)
+    } else {
+        None
+    }
+}
+
+/// Returns `true` if an element with this tag can be a component with the first one.
+fn has_tag(expected: u8, tag: u8) -> bool
+    ensures { result ≡ has_tag expected tag }
+{
+    expected == tag || (expected == 0x17 && tag == 0x18) || expected == 0x00
+}
+
+/// Returns `true` if such an element may be absent.
+fn may_be_absent(presence: Presence) -> bool
+    ensures { result ≡ may_be_absent presence }
+{
+    match presence {
+        Presence::Needed => false,
+        Presence::Optional => true,
+        Presence::Many => true,
+    }
+}
+
+/// Returns `true` if such an element may come again after itself.
+fn comes_again(presence: Presence) -> bool
+    ensures { result ≡ comes_again presence }
+{
+    match presence {
+        Presence::Needed => false,
+        Presence::Optional => false,
+        Presence::Many => true,
+    }
+}
+
+/// Returns `true` if none of these components has to come.
+pub(crate) fn may_end(components: &[Component]) -> bool
+    ensures { result ≡ may_end components.now }
+{
+    let [component, others @ ..] = components else {
+        return true;
+    };
+    may_be_absent(component.1) && may_end(others)
+}
+
+/// Returns the number of bytes that end a level here: those of an end-of-contents (X.690 section
+/// 8.1.5), or none at the end of the bytes.
+#[tactic(auto, unfolding(crate::specs::Rows::end_at))]
+pub(crate) fn end_at(
+    is_loose: bool,
+    is_open: bool,
+    components: &[Component],
+    bytes: &[u8],
+) -> Option<usize>
+    ensures exact { result ≡ end_at is_loose is_open components.now bytes.now }
+    ensures within { IfSome result (λ len. len ≤ length bytes.now) }
+{
+    match bytes {
+        [] if is_loose || !is_open && may_end(components) => Some(0),
+        [0x00, 0x00, ..] if is_open && (is_loose || may_end(components)) => Some(2),
+        _ => None,
+    }
+}
+
+/// Returns `true` if a content follows the table.
+#[tactic(auto, unfolding(crate::specs::Rows::admits))]
+fn admits(header: &Header, content: Content, bytes: &[u8]) -> bool
+    ensures { result ≡ admits header.now content bytes.now }
+{
+    match content {
+        Content::Short(most) => is_whole(header, bytes) && bytes.len() <= usize::from(most),
+        Content::Version => is_whole(header, bytes) && bytes.len() == 1,
+        Content::Of(family) => is_whole(header, bytes) && is_of(family.identifiers(), bytes),
+        Content::Point => is_primitive(header),
+        Content::Whole(_) => is_primitive(header),
+        Content::Hidden => true,
+        Content::Shown(_) => true,
+        Content::Inside(_) => true,
+        Content::Free => true,
+    }
+}
+
+/// Returns `true` if a content begins with these bytes, and has at most 12.
+fn is_of(front: &[u8], bytes: &[u8]) -> bool
+    ensures { result ≡ is_of front.now bytes.now }
+{
+    bytes.len() <= 12 && bytes.starts_with(front)
+}

@@ -1,0 +1,215 @@
+//! Texts that are almost PEM or base64.
+ghost use Rattle.std.specs.Prelude.{◌≡◌, ◌≤◌, ◌+◌, length, IfSome, option_map};
+ghost use Rattle.der_view.specs.Almost.{armour_flaw, armour_of, armour_view, before_dashes};
+ghost use Rattle.der_view.specs.Almost.{begin_armour, body_flaw, end_armour, has_escape, is_end_of};
+ghost use Rattle.der_view.specs.Almost.{label_before, line_at};
+ghost use Rattle.der_view.specs.Parts.{IsIn, almost_content, mended_content};
+ghost use Rattle.der_view.specs.Encoded.{mended_bytes};
+
+use super::encoded::{mended_into, place_of};
+use super::pem::is_label;
+use super::{Encoding, Found};
+use crate::sentences::Sentence;
+
+/// What is wrong with a text that is almost PEM or base64.
+#[derive(Clone, Copy)]
+pub enum Flaw {
+    /// Nothing.
+    Nothing,
+    /// Its ends of lines are written as a backslash and a letter.
+    Escaped,
+    /// It has digits of base64url (RFC 4648 section 5).
+    Url,
+    /// It has no line BEGIN.
+    NoBegin,
+    /// It has no ends of lines.
+    OneLine,
+    /// Its line BEGIN doesn't begin a line of the text: it is indented or quoted.
+    Indented,
+    /// Other characters than those of base64 are in it.
+    Foreign,
+}
+
+/// What is between the dashes of PEM that no line begins with, or before those of END.
+#[derive(Clone, Copy)]
+pub struct Armour<'a> {
+    /// The number of the line with BEGIN, or else with END; that of the first line is 1.
+    pub line: usize,
+    /// The label.
+    pub label: &'a [u8],
+    /// What is between the dashes.
+    pub body: &'a [u8],
+    /// Whether BEGIN is there.
+    pub has_begin: bool,
+    /// Whether END is there, with the same label.
+    pub has_end: bool,
+}
+
+/// Returns what is in a text that may be almost PEM or base64, or else that this is said.
+#[tactic(auto, unfolding(crate::specs::Parts::almost_content))]
+pub(super) fn find_almost(text: &[u8], said: Sentence, digits: &mut [u8], bytes: &mut [u8]) -> Found
+    requires digits { length text.now ≤ length digits.old }
+    requires bytes { length text.now + 2 ≤ length bytes.old }
+    ensures { IsIn bytes.new result (almost_content text.now said) }
+{
+    match armour_of(text) {
+        Some(armour) => find_mended(
+            armour.body,
+            Encoding::Pem,
+            armour_flaw(&armour),
+            said,
+            digits,
+            bytes,
+        ),
+        None => find_mended(text, Encoding::Base64, Flaw::Foreign, said, digits, bytes),
+    }
+}
+
+/// Returns what is in a body that is almost base64, if one whole element results, or else that this
+/// is said. `flaw` is what is wrong with it, if it is neither escaped nor base64url.
+pub(super) fn find_mended(
+    body: &[u8],
+    encoding: Encoding,
+    flaw: Flaw,
+    said: Sentence,
+    digits: &mut [u8],
+    bytes: &mut [u8],
+) -> Found
+    requires digits { length body.now ≤ length digits.old }
+    requires bytes { length body.now + 2 ≤ length bytes.old }
+    ensures { IsIn bytes.new result
+        (mended_content encoding (body_flaw body.now flaw) said (mended_bytes body.now)) }
+{
+    match mended_into(body, digits, bytes) {
+        Some(len) => Found::Decoded(encoding, body_flaw(body, flaw), len),
+        None => Found::Said(said),
+    }
+}
+
+/// Returns what is wrong with a body that is almost base64, or else this.
+#[tactic(auto, unfolding(crate::specs::Almost::body_flaw))]
+fn body_flaw(body: &[u8], other: Flaw) -> Flaw
+    ensures { result ≡ body_flaw body.now other }
+{
+    if has_escape(body) {
+        Flaw::Escaped
+    } else if body.contains(&b'-') || body.contains(&b'_') {
+        Flaw::Url
+    } else {
+        other
+    }
+}
+
+/// Returns `true` if the body has ends of lines that are written as a backslash and a letter.
+#[tactic(auto, unfolding(crate::specs::Almost::has_escape))]
+fn has_escape(body: &[u8]) -> bool
+    ensures { result ≡ has_escape body.now }
+{
+    place_of(body, b"\\n").is_some() || place_of(body, b"\\r").is_some()
+}
+
+/// Returns what is wrong with PEM that no line begins with, if its body is base64.
+fn armour_flaw(armour: &Armour) -> Flaw
+    ensures { result ≡ armour_flaw (armour_view armour.now) }
+{
+    if !armour.has_begin {
+        Flaw::NoBegin
+    } else if armour.body.contains(&b'\n') || armour.body.contains(&b'\r') {
+        Flaw::Indented
+    } else {
+        Flaw::OneLine
+    }
+}
+
+/// Returns what is between the first BEGIN of a text and the next five dashes, or before its first
+/// END; `None` if it has neither, or one without a label.
+#[tactic(auto, unfolding(crate::specs::Almost::armour_of))]
+pub fn armour_of(text: &[u8]) -> Option<Armour>
+    ensures value { option_map armour_view result ≡ armour_of text.now }
+    ensures within { IfSome result (λ armour. length armour.body.now ≤ length text.now) }
+{
+    match place_of(text, b"-----BEGIN ") {
+        Some(place) => begin_armour(line_at(text, place), &text[place + 11..]),
+        None => {
+            let place = place_of(text, b"-----END ")?;
+            end_armour(line_at(text, place), &text[..place], &text[place + 9..])
+        }
+    }
+}
+
+/// Returns the number of the line in which this place of a text is; that of the first is 1.
+fn line_at(text: &[u8], place: usize) -> usize
+    requires { place ≤ length text.now }
+    ensures { result ≡ line_at text.now place }
+{
+    text[..place].iter().filter(|byte| **byte == b'\n').count() + 1
+}
+
+/// Returns what is between a BEGIN and the next five dashes. It has this line, and this is after
+/// it.
+#[tactic(auto, unfolding(crate::specs::Almost::begin_armour))]
+fn begin_armour(line: usize, after: &[u8]) -> Option<Armour>
+    ensures value { option_map armour_view result ≡ begin_armour line after.now }
+    ensures within { IfSome result (λ armour. length armour.body.now ≤ length after.now) }
+{
+    let label = label_before(after)?;
+    let inside = &after[label.len() + 5..];
+    let body = before_dashes(inside);
+    Some(Armour {
+        line,
+        label,
+        body,
+        has_begin: true,
+        has_end: is_end_of(&inside[body.len()..], label),
+    })
+}
+
+/// Returns what is before an END. It has this line, and this is after it.
+#[tactic(auto, unfolding(crate::specs::Almost::end_armour))]
+fn end_armour<'a>(line: usize, body: &'a [u8], after: &'a [u8]) -> Option<Armour<'a>>
+    ensures value { option_map armour_view result ≡ end_armour line body.now after.now }
+    ensures within { IfSome result (λ armour. length armour.body.now ≤ length body.now) }
+{
+    let label = label_before(after)?;
+    Some(Armour {
+        line,
+        label,
+        body,
+        has_begin: false,
+        has_end: true,
+    })
+}
+
+/// Returns the label before the first five dashes of a text; `None` if there is none.
+#[tactic(auto, unfolding(crate::specs::Almost::label_before))]
+fn label_before(text: &[u8]) -> Option<&[u8]>
+    ensures value { option_map (λ label. label.now) result ≡ label_before text.now }
+    ensures within { IfSome result (λ label. length label.now + 5 ≤ length text.now) }
+{
+    let place = place_of(text, b"-----")?;
+    let label = &text[..place];
+    if is_label(label) { Some(label) } else { None }
+}
+
+/// Borrows what is before the first five dashes of a text, or all of it.
+#[tactic(auto, unfolding(crate::specs::Almost::before_dashes))]
+fn before_dashes(text: &[u8]) -> &[u8]
+    ensures value { result.now ≡ before_dashes text.now }
+    ensures within { length result.now ≤ length text.now }
+{
+    match place_of(text, b"-----") {
+        Some(place) => &text[..place],
+        None => text,
+    }
+}
+
+/// Returns `true` if a text begins with an END of this label.
+#[tactic(auto, unfolding(crate::specs::Almost::is_end_of))]
+fn is_end_of(text: &[u8], label: &[u8]) -> bool
+    ensures { result ≡ is_end_of text.now label.now }
+{
+    match text.strip_prefix(b"-----END ".as_slice()) {
+        Some(rest) => before_dashes(rest) == label,
+        None => false,
+    }
+}

@@ -1,5 +1,0 @@
-use Rattle.std.proofs.Common.{length}
-use Rattle.picture.proofs.form.+best.Given as goal
-
-abbrev pub decreases-best : goal.decreases-best
-decreases-best l = length l.others.now

@@ -1,0 +1,17 @@
+use Rattle.std.proofs.Common.{◌≡◌, [], length, arith, ◌∙◌}
+use Rattle.der_view.specs.Drawings.{has_key}
+use Rattle.sec1_c.proofs.PictureLemmas.{drawn, holds_none, none_alone, told_number}
+use Rattle.sec1_c.proofs.picture.write_picture.Goals as goal
+
+pub returns-clause-exact : goal.returns-clause-exact
+returns-clause-exact c plain room =
+    let options = c.args.options.now in
+    let written = c.in-Ok.ensures.plain plain in
+    let told = c.in-Ok.ensures.key (none_alone options.json options.levels options.offset plain) in
+    let copy : length c.new-writer.result.buffer.now ≡ length c.args.text.now =
+    omega (arith, c.new-writer.ensures.size, c.split_at_mut-copy.ensures.front_len) in
+    drawn _ _ _ _ _ _ _ _ _ _
+    (written.1 [] (holds_none c.new-writer.result.buffer.now c.new-writer.result.len c.new-writer.ensures.len))
+    (written.0 ∙ copy) (omega (arith, room)) (omega (arith, c.len.ensures, c.if-text-len.false))
+    c.as_bytes.ensures c.write_bytes.ensures
+    (told_number c.in-Ok.has_key (has_key c.args.input.now) c.from.result c.from.ensures told)
