@@ -344,9 +344,10 @@ class Translation:
         if kind == "eqz":
             self.push(self.negated(parts[0]))
         elif kind in COMPARE and parts[0].is_of_stack:
-            # the test that there is room on the module's stack, which never fails here
-            wasm.refuse(kind != "lt_s" or not parts[1].is_number, "another test of its stack")
-            self.push(number(0, 32))
+            # the test that there is no room on the module's stack, or that there is: there is here
+            is_known = (kind, parts[1].is_number and parts[1].value) in (("lt_s", 16), ("gt_s", 15))
+            wasm.refuse(not is_known, "another test of its stack")
+            self.push(number(kind == "gt_s", 32))
         elif kind == "sub" and parts[0].kind == "stack":
             wasm.refuse(self.function.frame or not parts[1].is_number, "two parts on its stack")
             self.function.frame = parts[1].value

@@ -16,6 +16,7 @@ static size_t len, other_len;
 static struct sec1_picture_line lines[2];
 static int32_t order;
 static const struct sec1_key given = {key, 32, NULL, 0, key, 65, 1};
+static const struct sec1_picture_options options = {1, 1, 2, 0, key, 2};
 
 uint32_t right_calls(size_t some);
 uint32_t wrong_call(size_t some);
@@ -99,8 +100,16 @@ uint32_t right_calls(size_t some)
     status |= sec1_point_to_hex(key, 65, 32, 1, NULL, 0, &len);
     status |= sec1_point_from_hex("00", 2, 32, out, sizeof out, &len);
     status |= sec1_point_from_hex(text, some, 32, NULL, 0, &len);
+    status |= sec1_pem_decode(text, some, "KEY", 3, out, sizeof out, &len, &other_len);
+    status |= sec1_pem_decode(NULL, 0, NULL, 0, NULL, 0, &len, &other_len);
     status |= sec1_picture_draw(key, some, 0, out, sizeof out, text, sizeof text, &len, &other_len);
     status |= sec1_picture_draw(NULL, 0, 1, NULL, 0, NULL, 0, &len, &other_len);
+    status |= sec1_picture_write(key, some, 0, 1, 0, 0, key, 2, out, sizeof out, text, sizeof text,
+                                 &len, &other_len);
+    status |= sec1_picture_write(NULL, 0, 1, 0, 0, 0, NULL, 0, NULL, 0, NULL, 0, &len, &other_len);
+    status |= sec1_picture_show(key, some, &options, out, sizeof out, text, sizeof text, &len,
+                                &other_len);
+    status |= sec1_picture_show(NULL, 0, &options, NULL, 0, NULL, 0, &len, &other_len);
     status |= sec1_picture_lines(key, some, out, sizeof out, lines, 2, &len);
     status |= sec1_picture_lines(NULL, 0, NULL, 0, NULL, 0, &len);
     status |= sec1_status_to_text(some, text, sizeof text, &len);

@@ -342,7 +342,7 @@ static void test_header(void)
     EXPECT(SEC1_OK == 0 && SEC1_TRUNCATED == 1 && SEC1_TAG == 2 && SEC1_LENGTH == 3);
     EXPECT(SEC1_TRAILING_DATA == 4 && SEC1_VALUE == 5 && SEC1_OVERLENGTH == 6 && SEC1_BUFFER == 7);
     EXPECT(SEC1_DEPTH == 8 && SEC1_POINT_ENCODING == 9 && SEC1_FIELD_LENGTH == 10 &&
-           SEC1_CURVE == 11 && SEC1_OTHER_CURVE == 12);
+           SEC1_CURVE == 11 && SEC1_OTHER_CURVE == 12 && SEC1_PEM == 13);
     EXPECT(SEC1_POINT_IDENTITY == 0);
     EXPECT(SEC1_POINT_COMPRESSED_EVEN == 2 && SEC1_POINT_COMPRESSED_ODD == 3);
     EXPECT(SEC1_POINT_UNCOMPRESSED == 4 && SEC1_POINT_COMPACT == 5);
@@ -367,10 +367,11 @@ static void test_header(void)
         "length of field elements not supported",
         "curve not in the table",
         "key and container name different curves",
+        "no whole PEM block with this label",
         "unknown status",
         "unknown status",
     };
-    for (uint32_t status = 0; status < 15; status++) {
+    for (uint32_t status = 0; status < 16; status++) {
         struct bytes ended = text_bytes(texts[status]);
         ended.len++;
         EXPECT(strcmp(sec1_status_text(status), texts[status]) == 0);
@@ -2109,7 +2110,7 @@ static void test_elements(void)
     "   2 02 01             1    INTEGER 1                  version\n"                              \
     "   5 04 20            32    OCTET STRING, 32 bytes     privateKey, not shown\n"                \
     "  39 A0 0A            10    [0]                        parameters\n"                           \
-    "  41 06 08             8      OBJECT IDENTIFIER P-256 (1.2.840.10045.3.1.7)\n"                 \
+    "  41 06 08             8      OBJECT IDENTIFIER P-256 (1.2.840.10045.3.1.7)  namedCurve\n"     \
     "  51 A1 44            68    [1]                        publicKey\n"
 #define LAST_ROW "  53 03 42            66      BIT STRING, 65 bytes     uncompressed, 2 x 32 bytes\n"
 
@@ -2122,21 +2123,26 @@ static const struct picture {
 } pictures[] = {
     {WHOLE_KEY, NULL, FIRST_ROWS LAST_ROW "This is an EC private key (RFC 5915) on P-256.\n", 1, 8,
      {{1, 0, 2, 0, 0, 0}, {1, 2, 2, 1, 1, 0}, {1, 5, 2, 32, 1, 1}, {1, 39, 2, 0, 1, 0},
-      {1, 41, 2, 8, 2, 0}, {1, 51, 2, 0, 1, 0}, {1, 53, 2, 66, 2, 0}, {3, 0, 0, 0, 0, 0}}},
+      {1, 41, 2, 8, 2, 0}, {1, 51, 2, 0, 1, 0}, {1, 53, 2, 66, 2, 1}, {3, 0, 0, 0, 0, 0}}},
     {WHOLE_KEY "0A", NULL,
-     FIRST_ROWS LAST_ROW " 121                   1  1 byte not drawn\n"
-     "     ^ expected the end of the input\n"
-     "     ^ may be bytes of a damaged private key: --all draws them\n"
+     "   0 30 77           119  SEQUENCE\n"
+     "   2 02 01             1    INTEGER 1\n"
+     "   5 04 20            32    OCTET STRING, 32 bytes\n"
+     "  39 A0 0A            10    [0]\n"
+     "  41 06 08             8      OBJECT IDENTIFIER P-256 (1.2.840.10045.3.1.7)\n"
+     "  51 A1 44            68    [1]\n" LAST_ROW
+     " 121                   1  1 byte not drawn\n"
+     "     ^ after the end of the root\n"
      "This is no EC private key (RFC 5915): see offset 121.\n"
-     "This writes it without the bytes after it:\n"
-     "  openssl ec -inform DER -in FILE -outform DER -out key.der\n", 0, 13,
+     "If OpenSSL reads it, this writes it in DER:\n"
+     "  openssl ec -inform DER -in FILE -outform DER -out key.der\n", 0, 12,
      {{1, 0, 2, 0, 0, 0}, {1, 2, 2, 1, 1, 0}, {1, 5, 2, 32, 1, 1}, {1, 39, 2, 0, 1, 0},
       {1, 41, 2, 8, 2, 0}, {1, 51, 2, 0, 1, 0}, {1, 53, 2, 66, 2, 1}, {1, 121, 0, 1, 0, 1},
-      {2, 0, 0, 0, 0, 0}, {2, 0, 0, 0, 0, 0}, {3, 0, 0, 0, 0, 0}, {3, 0, 0, 0, 0, 0}}},
+      {2, 0, 0, 0, 0, 0}, {3, 0, 0, 0, 0, 0}, {3, 0, 0, 0, 0, 0}, {4, 0, 0, 0, 0, 0}}},
     {"", NULL, "The input is empty.\n", 0, 1, {{3, 0, 0, 0, 0, 0}}},
     {NULL, "hello", "This is text, and no PEM, hexadecimal or base64.\n", 0, 1,
      {{3, 0, 0, 0, 0, 0}}},
-    {NULL, "00000000: 3077", "This is the output of xxd, hexdump or od. If it is xxd's, this draws it:\n"
+    {NULL, "00000000: 3077", "This begins as the output of xxd. If it is that, this draws it:\n"
      "  xxd -r FILE | sec1_dump\n", 0, 2, {{3, 0, 0, 0, 0, 0}, {4, 0, 0, 0, 0, 0}}},
     {NULL, "30:06:02:01:01:04:01:09",
      "hexadecimal: 8 bytes\n"
@@ -2237,6 +2243,103 @@ static void test_pictures(void)
     /* With all contents: 32 bytes in two lines. */
     EXPECT(sec1_picture_draw(key.data, key.len, 1, memory, sizeof memory, NULL, 0, &len, &is_key) ==
                SEC1_BUFFER && len > strlen(pictures[0].text) + 150);
+    /* By options: none, one level, and lines of JSON with the name of the file. */
+    static const char level[] = "   0 30 77           119  SEQUENCE                     ECPrivateKey\n"
+                                "This is an EC private key (RFC 5915) on P-256.\n";
+    static const char json[] = "{\"bytes\":121,\"file\":\"a.der\",";
+    struct sec1_picture_options options = {0};
+    EXPECT(sec1_picture_show(key.data, key.len, &options, memory, sizeof memory, out, sizeof out, &len,
+                             &is_key) == SEC1_OK && is_key == 1);
+    EXPECT(len == strlen(pictures[0].text) && memcmp(out, pictures[0].text, len) == 0);
+    EXPECT(sec1_picture_show(key.data, key.len, &options, memory, sizeof out + 1, out, sizeof out,
+                             &len, &is_key) == SEC1_BUFFER && len == 0 && is_key == 0);
+    options.levels = 1;
+    EXPECT(sec1_picture_show(key.data, key.len, &options, memory, sizeof memory, out, sizeof out, &len,
+                             &is_key) == SEC1_OK && is_key == 1);
+    EXPECT(len == strlen(level) && memcmp(out, level, len) == 0);
+    options.json = 1;
+    options.file = (const uint8_t *)"a.der";
+    options.file_len = 5;
+    EXPECT(sec1_picture_show(key.data, key.len, &options, memory, sizeof memory, out, sizeof out, &len,
+                             &is_key) == SEC1_OK && is_key == 1);
+    EXPECT(len > strlen(json) && memcmp(out, json, strlen(json)) == 0 && out[len - 1] == '\n');
+    EXPECT(sec1_picture_show(key.data, key.len, &options, memory, sizeof memory, NULL, 0, &count,
+                             &is_key) == SEC1_BUFFER && count == len && is_key == 0);
+    uint32_t (*draw)(const uint8_t *, size_t, const struct sec1_picture_options *, uint8_t *, size_t,
+                     char *, size_t, size_t *, size_t *) = sec1_picture_show;
+    EXPECT(draw(key.data, key.len, &options, memory, sizeof memory, out, len, &count, &is_key) ==
+               SEC1_OK && count == len && is_key == 1);
+}
+
+/* ---- PEM */
+
+struct pem {
+    const char *text, *label;
+    size_t line;
+    uint32_t status;
+    const char *bytes;
+};
+
+#define BEGIN(label) "-----BEGIN " label "-----\n"
+#define END(label) "-----END " label "-----\n"
+#define BLOCK(label, body) BEGIN(label) body "\n" END(label)
+
+/* "foobar" and "f" are examples of RFC 4648 section 10. */
+static const struct pem pems[] = {
+    {BLOCK("A KEY", "Zm9vYmFy"), "A KEY", 1, SEC1_OK, "666F6F626172"},
+    {BLOCK("A KEY", "Zm9\n vYm\t\r\nFy"), "A KEY", 1, SEC1_OK, "666F6F626172"},
+    {"words\n" BLOCK("B", "Zg==") BLOCK("A", "Zg==") BLOCK("A", "Zm9v"), "A", 5, SEC1_OK, "66"},
+    {"\xEF\xBB\xBF" BLOCK("A", "Zg=="), "A", 1, SEC1_OK, "66"},
+    {BLOCK("A", ""), "A", 1, SEC1_OK, ""},
+    {BLOCK("A", "Zg=="), "AB", 0, SEC1_PEM, ""},
+    {BLOCK("AB", "Zg=="), "A", 0, SEC1_PEM, ""},
+    {BLOCK("A", "Zg=="), "", 0, SEC1_PEM, ""},
+    {"", "A", 0, SEC1_PEM, ""},
+    {BEGIN("A") "Zg==\n", "A", 1, SEC1_PEM, ""},
+    {BEGIN("A") "Zg==\n" END("B"), "A", 1, SEC1_PEM, ""},
+    {BLOCK("A", "Zg=") BLOCK("A", "Zg=="), "A", 1, SEC1_PEM, ""},
+    {BLOCK("A", "Zh=="), "A", 1, SEC1_PEM, ""},
+    {BLOCK("A", "Zg==Zg=="), "A", 1, SEC1_PEM, ""},
+    {BLOCK("A", "Z_8="), "A", 1, SEC1_PEM, ""},
+    {BLOCK("A", "a: b\n\nZg=="), "A", 1, SEC1_PEM, ""},
+    {BLOCK("A", "Proc-Type: 4,ENCRYPTED\n\nZg=="), "A", 1, SEC1_PEM, ""},
+    {BLOCK("OPENSSH PRIVATE KEY", "Zg=="), "OPENSSH PRIVATE KEY", 1, SEC1_PEM, ""},
+    {BLOCK("A", "Zg==") "\x01", "A", 1, SEC1_OK, "66"},
+    {"\x01", "A", 0, SEC1_PEM, ""},
+};
+
+static void expect_pem(const struct pem *pem, enum side side)
+{
+    struct bytes wanted = unhex(pem->bytes);
+    size_t text_len = strlen(pem->text), label_len = strlen(pem->label);
+    /* What is no text and has no block needs two bytes. */
+    size_t least = strcmp(pem->text, "\x01") ? SEC1_PEM_ROOM(text_len) : 2;
+    struct guarded text = map_input(pem->text, text_len, side);
+    struct guarded label = map_input(pem->label, label_len, side);
+    for (size_t size = least - 1; size <= least + 2; size++) {
+        size_t len = 777777, line = 777777;
+        struct guarded room = map_guarded(size, side);
+        memset(room.data, 0xEE, size);
+        uint32_t status = sec1_pem_decode((const char *)text.data, text_len, (const char *)label.data,
+                                          label_len, room.data, size, &len, &line);
+        if (size < least) {
+            EXPECT(status == SEC1_BUFFER && len == 0 && line == 0);
+            EXPECT(all_are(room.data, size, 0xEE));
+        } else {
+            EXPECT(status == pem->status && len == wanted.len && line == pem->line);
+            EXPECT(memcmp(room.data, wanted.data, wanted.len) == 0);
+        }
+        unmap(room);
+    }
+    unmap(text);
+    unmap(label);
+}
+
+static void test_pem(void)
+{
+    for (size_t i = 0; i < sizeof pems / sizeof *pems; i++)
+        for (enum side side = AT_END; side <= AT_START; side++)
+            expect_pem(&pems[i], side);
 }
 
 /* ---- random bytes */
@@ -2330,6 +2433,7 @@ int main(void)
         {"faults of public keys", test_public_key_faults},
         {"faults of containers", test_container_faults},
         {"faults of signatures", test_signature_faults},
+        {"PEM", test_pem},
         {"pictures", test_pictures},
         {"random bytes", test_random_bytes},
     };

@@ -31,12 +31,12 @@ if command -v pkg-config > "$work/said"; then
     check "pkg-config has the version" pkg-config --exact-version="$(sed -n \
         's/^#define SEC1_VERSION_[A-Z]* //p' "$prefix/include/sec1.h" | paste -s -d .)" sec1
     made "C by pkg-config" ./c ${CC:-cc} -std=c99 $warnings "$examples/key_parts.c" $flags -o c
-    check "C that draws" ${CC:-cc} -std=c99 $warnings "$examples/sec1_view.c" $flags -o sec1_view
-    check "it draws examples/p256.der" \
-        eval 'cmp "$here/../examples/p256-view.txt" <(./sec1_view "$here/../examples/p256.der")'
+    check "sec1_dump.c" ${CC:-cc} -std=c99 $warnings "$here/../sec1_dump.c" $flags -o sec1_dump
+    check "sec1_dump draws examples/p256.der" eval 'cmp "$here/../examples/p256-view.txt" \
+        <("$prefix/bin/sec1_dump" "$here/../examples/p256.der")'
     if [[ -f $here/../../tests/dump/programs.py ]]; then
         check "it draws what a second reader draws" \
-            python3 -B "$here/../../tests/dump/programs.py" ./sec1_view
+            python3 -B "$here/../../tests/dump/programs.py" "$prefix/bin/sec1_dump"
     fi
     sed -n '/^```c$/,/^```$/{/^```/d;p}' "$prefix/share/doc/sec1/CALLS.md" > read_key.c
     check "C of CALLS.md" ${CC:-cc} -std=c99 $warnings read_key.c $flags -o read_key
@@ -48,8 +48,8 @@ if command -v pkg-config > "$work/said"; then
     if command -v g++ > "$work/said"; then
         made "C++ by pkg-config" ./cpp \
             g++ -x c++ -std=c++11 $warnings "$examples/key_parts.c" -x none $flags -o cpp
-        check "C++ that draws" \
-            g++ -x c++ -std=c++11 $warnings "$examples/sec1_view.c" -x none $flags -o sec1_view_cpp
+        check "sec1_dump.c as C++" \
+            g++ -x c++ -std=c++11 $warnings "$here/../sec1_dump.c" -x none $flags -o sec1_dump_cpp
     else
         missing g++ g++
     fi

@@ -3,7 +3,7 @@
 # `N passed, M failed`.
 set -uo pipefail
 cd "$(dirname "$0")/.."
-unset MAKEFLAGS MAKELEVEL DESTDIR PREFIX LIBDIR INCLUDEDIR DATADIR MANDIR DOCDIR BUILD PROVED
+unset MAKEFLAGS MAKELEVEL DESTDIR PREFIX BINDIR LIBDIR INCLUDEDIR DATADIR MANDIR DOCDIR BUILD PROVED
 unset CFLAGS CPPFLAGS LDFLAGS
 work=$(mktemp -d)
 trap 'rm -rf "$work"' EXIT
@@ -26,8 +26,9 @@ wanted() { # MODE PATH, or MODE PATH -> TARGET
     printf '644 %s\n' include/sec1.h $lib/cmake/sec1/sec1-config-version.cmake \
         $lib/cmake/sec1/sec1-config.cmake $lib/libsec1.a $lib/pkgconfig/sec1.pc \
         share/doc/sec1/{LICENSE-APACHE,LICENSE-MIT,README.md,CALLS.md,licences.txt} \
-        share/doc/sec1/examples/{key_parts.{c,py,rs},sec1_view.c} share/man/man3/sec1.3
-    printf '755 %s\n' "$lib/libsec1.so.$version"
+        share/doc/sec1/examples/key_parts.{c,py,rs} share/man/man3/sec1.3 \
+        share/man/man1/sec1_dump.1 share/bash-completion/completions/sec1_dump
+    printf '755 %s\n' "$lib/libsec1.so.$version" bin/sec1_dump
     printf '777 %s\n' "$lib/libsec1.so -> libsec1.so.0" "$lib/libsec1.so.0 -> libsec1.so.$version"
     for page in $functions; do echo "777 share/man/man3/$page.3 -> sec1.3"; done
 }
@@ -74,11 +75,11 @@ check "made again" eval "rm -rf '$work/build' && build install $to"
 check "the same shared library" cmp "$work/first.so" "$shared"
 check "the same archive" cmp "$work/first.a" "$archive"
 mkdir -p "$work/elsewhere"
-cp -r Makefile header.c sec1.h sec1-*.s packaging "$work/elsewhere"
+cp -r Makefile header.c sec1.h sec1_dump.c sec1-*.s packaging "$work/elsewhere"
 debugged="-O2 -g"
 check "with debug information" eval "build clean all CFLAGS='$debugged'"
 check "and in another folder" make -C "$work/elsewhere" CFLAGS="$debugged"
-for file in "libsec1.so.$version" libsec1.a; do
+for file in "libsec1.so.$version" libsec1.a sec1_dump; do
     check "the same $file in another folder" \
         cmp "$work/build/$file" "$work/elsewhere/build/$file"
 done
@@ -90,9 +91,9 @@ flags="CFLAGS=-Ome CPPFLAGS=-Dme LDFLAGS=-Wl,--me"
 build -n CC=mycc $flags | tr -s '\\\n\t ' ' ' > "$work/would"
 check "CC, CPPFLAGS and CFLAGS are taken" grep -q 'mycc .* -Dme -Ome -c' "$work/would"
 check "and LDFLAGS" grep -q 'mycc -Ome -shared .* -Wl,--me' "$work/would"
-places="DESTDIR=$work/other PREFIX=/p LIBDIR=/l INCLUDEDIR=/i MANDIR=/m DOCDIR=/d"
+places="DESTDIR=$work/other PREFIX=/p BINDIR=/b LIBDIR=/l INCLUDEDIR=/i MANDIR=/m DOCDIR=/d"
 check "make install elsewhere" eval "build install $places"
-check "the folders are taken" same "$(cd "$work/other" && ls)" "$(printf '%s\n' d i l m)"
+check "the folders are taken" same "$(cd "$work/other" && ls)" "$(printf '%s\n' b d i l m p)"
 check "sec1.pc names them" \
     same "$(sed -n 's/^[a-z]*dir=//p' "$work/other/l/pkgconfig/sec1.pc")" "$(printf '/l\n/i')"
 # In a folder for documents that is shared, and beside files that others have in the folders.
@@ -119,8 +120,14 @@ heading=$(grep -m 1 '^## ' ../CHANGELOG.md)
 check "the version of the CHANGELOG" \
     same "$(grep -oE '[0-9]+\.[0-9]+\.[0-9]+' <<< "$heading")" "$version"
 if command -v groff > "$work/said"; then
-    check "the page has no fault" same "$(groff -man -Tutf8 -ww -z packaging/sec1.3.in 2>&1)" ""
+    for page in sec1.3 sec1_dump.1; do
+        check "$page has no fault" same "$(groff -man -Tutf8 -ww -z packaging/$page.in 2>&1)" ""
+    done
 fi
+for option in $("$work/build/sec1_dump" --help | grep -o -- '--[a-z]*' | sort -u); do
+    check "the page of sec1_dump has $option" grep -q "${option//-/\\\\-}" packaging/sec1_dump.1.in
+    check "the completion has $option" grep -q -- " '*$option" packaging/sec1_dump.bash
+done
 statuses=$(sed -n '/^enum sec1_status/,/^}/s/^ *\(SEC1_[A-Z_]*\) = .*/\1/p' sec1.h)
 for word in $functions $statuses; do
     check "the page has $word" grep -q "\b$word\b" packaging/sec1.3.in

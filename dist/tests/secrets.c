@@ -8,7 +8,7 @@
 #include <string.h>
 #include <valgrind/memcheck.h>
 
-enum { MOST = 600, LONGEST = 300, TEXT = 4000, LINES = 60 };
+enum { MOST = 600, LONGEST = 300, TEXT = 16000, LINES = 60 };
 
 static unsigned long calls, wrong;
 
@@ -43,23 +43,32 @@ static void append(struct bytes *out, size_t tag, const uint8_t *content, size_t
     out->len += len;
 }
 
-/* The calls that draw, without private contents, over all bytes and some of their beginnings. */
+/* The calls that draw, without private contents, with memory for a text as long as the input. In
+ * bytes that are no whole key or container they look for PEM, and so at each byte. */
 static void draw(const struct bytes *input, size_t is_whole_key, size_t private_len)
 {
     static uint8_t room[SEC1_PICTURE_ROOM(MOST, TEXT)];
     static char text[TEXT];
     static struct sec1_picture_line lines[LINES];
-    size_t cut, step = 1 + input->len / 8, len, is_key;
-    for (cut = input->len % step; cut <= input->len; cut += step) {
-        expect(sec1_picture_draw(input->data, cut, 0, room, sizeof room, text, TEXT, &len,
-                                 &is_key) == 0 &&
-                   is_key == (cut == input->len && is_whole_key) &&
-                   VALGRIND_CHECK_MEM_IS_DEFINED(text, len) == 0,
-               "sec1_picture_draw", private_len);
-        expect(sec1_picture_lines(input->data, cut, room, sizeof room, lines, LINES, &len) == 0 &&
-                   VALGRIND_CHECK_MEM_IS_DEFINED(lines, len * sizeof *lines) == 0,
-               "sec1_picture_lines", private_len);
-    }
+    struct sec1_picture_options options = {0};
+    size_t len, is_key;
+    expect(sec1_picture_draw(input->data, input->len, 0, room, sizeof room, text, TEXT, &len,
+                             &is_key) == 0 &&
+               is_key == is_whole_key && VALGRIND_CHECK_MEM_IS_DEFINED(text, len) == 0,
+           "sec1_picture_draw", private_len);
+    expect(sec1_picture_write(input->data, input->len, 0, 1, 0, 0, curve, sizeof curve, room,
+                              sizeof room, text, TEXT, &len, &is_key) == 0 &&
+               is_key == is_whole_key && VALGRIND_CHECK_MEM_IS_DEFINED(text, len) == 0,
+           "sec1_picture_write, JSON", private_len);
+    options.levels = 1;
+    expect(sec1_picture_show(input->data, input->len, &options, room, sizeof room, text, TEXT,
+                             &len, &is_key) == 0 &&
+               is_key == is_whole_key && VALGRIND_CHECK_MEM_IS_DEFINED(text, len) == 0,
+           "sec1_picture_show, one level", private_len);
+    expect(sec1_picture_lines(input->data, input->len, room, sizeof room, lines, LINES, &len) ==
+                   0 &&
+               VALGRIND_CHECK_MEM_IS_DEFINED(lines, len * sizeof *lines) == 0,
+           "sec1_picture_lines", private_len);
 }
 
 /* The calls that read a key, over its bytes and over each of their beginnings. */

@@ -11,13 +11,13 @@ work=$(mktemp -d)
 trap 'rm -rf "$work"' EXIT
 . tests/counts.sh
 
-# The calls of the library that secrets.c doesn't make, without those that get no private key.
+# The calls of the library that secrets.c doesn't make, but for those that get no key in DER.
 not_made() {
     local call
     for call in $(sed -n 's/^ *\(sec1_[a-z0-9_]*\);$/\1/p' packaging/libsec1.map); do
         case ${call#sec1_} in
         point_* | identifier_* | curve_* | public_key_* | certificate_* | signature_*) ;;
-        status_* | version) ;;
+        status_* | version | pem_decode) ;;
         *) grep -q "\b$call(" tests/secrets.c || echo "$call" ;;
         esac
     done
