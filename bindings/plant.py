@@ -1,14 +1,18 @@
-"""What faults.py of each package shares: one fault at a time is planted into a copy of the package,
-and the package's tests have to fail then. Several copies are used side by side.
+#!/usr/bin/env python3
+"""Plants one fault at a time into a copy of a package, and runs the package's tests, which have to
+fail then. Several copies are used side by side.
 
-    faults.py [FIRST [STEP]]    each STEP-th fault from FIRST on, by default all of them
-    JOBS                        how many copies; without it as many as there are processors
+    plant.py PACKAGE.. [FIRST [STEP]]   each STEP-th fault from FIRST on of these packages, by default
+                                        all of them: plant.py rust python js
+    JOBS                                how many copies; without it as many as there are processors
 
-A fault is the name of a file, a text that stands in it once, and another text for that one. Each
-that isn't noticed is printed as `FAILED: ..`, while others are still tried. The last line is
-'N passed, M failed'.
+The table of a package is in its faults.py, with a function that makes a copy, and one that runs the
+tests of it. A fault is the name of a file, a text that stands in it once, and another text for that
+one. Each that isn't noticed is printed as `FAILED: ..`, while others are still tried. The last line
+is 'N passed, M failed', of all packages.
 """
 
+import importlib.util
 import itertools
 import pathlib
 import queue
@@ -56,11 +60,18 @@ def wrong_with(fault, sources, run):
 
 
 def main(faults, copy, run):
-    """Tries the faults that the command's words name. `copy` makes a copy of the package in an
-    empty folder, and returns where its sources are; `run` returns whether the tests of a copy
-    pass."""
+    """Tries the faults that the command's words name, and returns the status."""
     work.end_on_signals()
-    words = [int(word) for word in sys.argv[1:]]
+    name = pathlib.Path(sys.argv[0]).resolve().parent.name
+    passed, failed = tried(name, faults, copy, run, sys.argv[1:])
+    return work.count(passed, failed)
+
+
+def tried(name, faults, copy, run, words):
+    """Tries the faults of a package that these words name, and returns how many were noticed, and how
+    many not. `copy` makes a copy of the package in an empty folder, and returns where its sources
+    are; `run` returns whether the tests of a copy pass."""
+    words = [int(word) for word in words]
     first, step = (words + [0, 1][len(words) :])[:2]
     chosen = list(itertools.islice(faults, first, None, step))
     copies, done, failed = queue.Queue(), [], []
@@ -75,7 +86,6 @@ def main(faults, copy, run):
             say(f"FAILED: {fault[0]}: {fault[1]!r} -> {fault[2]!r}: {wrong}")
 
     far = lambda: f"{len(done)} of {len(chosen)} faults"  # noqa: E731
-    name = pathlib.Path(sys.argv[0]).resolve().parent.name
     with tempfile.TemporaryDirectory() as folder, work.progress(), work.step(name, far):
         number = max(1, min(work.jobs(), len(chosen)))
         folders = [pathlib.Path(folder) / str(it) for it in range(number)]
@@ -85,13 +95,41 @@ def main(faults, copy, run):
             for sources, is_right in pool.map(lambda it: tried_first(copy(it), run), folders):
                 if not is_right:
                     say("FAILED: the tests fail without a fault")
-                    return work.count(0, 1)
+                    return 0, 1
                 copies.put(sources)
             list(pool.map(try_fault, chosen))
     say(f"-- {work.elapsed()} for {len(done)} faults, {number} at a time")
-    return work.count(len(chosen) - len(failed), len(failed))
+    return len(chosen) - len(failed), len(failed)
 
 
 def tried_first(sources, run):
     """Returns a copy of the sources, and whether its tests pass as it is."""
     return sources, run(sources)
+
+
+def table(name):
+    """Returns the module of a package's table."""
+    path = TOP / "bindings" / name / "faults.py"
+    spec = importlib.util.spec_from_file_location(f"faults_of_{name}", path)
+    module = importlib.util.module_from_spec(spec)
+    spec.loader.exec_module(module)
+    return module
+
+
+def of_packages(words):
+    """Tries the faults of the packages that the words begin with, and returns the status."""
+    work.end_on_signals()
+    names = list(itertools.takewhile(lambda word: not word.isdigit(), words))
+    counts = [0, 0]
+    for name in names:
+        module = table(name)
+        found = tried(name, module.FAULTS, module.copy, module.run, words[len(names) :])
+        counts = [sum(both) for both in zip(counts, found)]
+    return work.count(*counts)
+
+
+if __name__ == "__main__":
+    # The tables import this module by its name.
+    import plant
+
+    sys.exit(plant.of_packages(sys.argv[1:]))

@@ -44,8 +44,13 @@ says() { # TEXT COMMAND..: succeeds where the command prints the text and nothin
     test "$("$@")" = "$text"
 }
 
+calls() { # PACKAGE
+    check "its column in bindings/README.md is that of its code" python3 -B "$here/calls.py" "$1"
+}
+
 rust() {
     local crate=$work/crates
+    calls rust
     cp -R "$here/rust" "$work/rust" && rm -rf "$work/rust/target"
     # Links in the repository, and files in what is packed.
     rm -rf "$work/rust/sec1" "$work/rust/sec1-sys"
@@ -65,19 +70,23 @@ rust() {
         -a -s "$crate/sec1-sys/LICENSE-MIT" -a -s "$crate/sec1-sys/LICENSE-APACHE" \
         -a -f "$crate/sec1-sys/licences.txt"
     check "no link is packed" test -z "$(find "$crate" -type l)"
+    check "no test is packed" test ! -e "$crate/sec1/tests" -a ! -e "$crate/sec1/benches"
+    cp -R "$work/rust/sec1/tests" "$crate/sec1"
+    sed -i 's/^autotests = false$/autotests = true/' "$crate/sec1/Cargo.toml"
     local packed=(--config "patch.crates-io.bridgeacacia-sec1-sys.path=\"$crate/sec1-sys\"")
     cd "$crate/sec1" || return
-    check "the packed crate passes its tests" cargo test --features std "${packed[@]}"
+    check "the packed crate passes its tests" cargo test --features std,pem "${packed[@]}"
     check "the packed crate has its examples without std" cargo test "${packed[@]}"
     # What stands in for the assembly elsewhere. The long tests are of the crate's own code.
     check "it passes its tests over sec1.rs, without assembly" env SEC1_LIBRARY=rust \
-        cargo test --release --features std --tests "${packed[@]}"
+        cargo test --release --features std,pem --tests "${packed[@]}"
     on_aarch64 "${packed[@]}"
     check "the example of the packed crate is built" \
-        cargo build --quiet --example view --features std "${packed[@]}"
+        cargo build --quiet --example view --features std,pem "${packed[@]}"
     check "it draws what a second reader draws" \
         python3 -B "$top/tests/dump/programs.py" --several "$CARGO_TARGET_DIR/debug/examples/view"
     cd "$work/rust" || return
+    with_traits
     lints
     check "riscv64 has sec1.rs" eval 'other_target riscv64 64 | grep -qx "cargo::rustc-cfg=sec1_library=\"rust\""'
     refuses "a target of 32 bits is refused" "libsec1 is for targets with pointers of 64 bits, not for riscv32" \
@@ -105,18 +114,30 @@ on_aarch64() { # OPTION..
     check "the packed crate passes its tests for aarch64, under qemu" \
         env RUSTC="$rustc" CARGO_TARGET_AARCH64_UNKNOWN_LINUX_GNU_LINKER=aarch64-linux-gnu-gcc \
         CARGO_TARGET_AARCH64_UNKNOWN_LINUX_GNU_RUNNER='qemu-aarch64 -L /usr/aarch64-linux-gnu' \
-        cargo test --features std --tests --target "$target" "$@"
+        cargo test --features std,pem --tests --target "$target" "$@"
+}
+
+# The crate with the traits of others, of which Debian has sources.
+with_traits() {
+    local registry=/usr/share/cargo/registry
+    if ! compgen -G "$registry/serde-1*" >"$work/output" || ! compgen -G "$registry/subtle-2*" >"$work/output" ||
+        ! compgen -G "$registry/zeroize-1*" >"$work/output"; then
+        skip 1 "crates are missing (Debian: librust-serde-dev librust-subtle-dev librust-zeroize-dev)"
+        return
+    fi
+    check "the traits of serde, subtle and zeroize" cargo test --manifest-path traits/Cargo.toml --all-features \
+        --config 'source.crates-io.replace-with="debian"' --config "source.debian.directory=\"$registry\""
 }
 
 lints() {
     check "clippy finds nothing" \
-        cargo clippy --locked --all-targets --features std -- -D warnings
+        cargo clippy --locked --all-targets --features std,pem -- -D warnings
     check "clippy finds nothing with alloc" \
         cargo clippy --locked --features alloc -- -D warnings
     check "clippy finds nothing without alloc" cargo clippy --locked -- -D warnings
     check "the sources are formatted" cargo fmt --check
     check "the documents have no fault" \
-        env RUSTDOCFLAGS="-D warnings" cargo doc --locked --no-deps --features std
+        env RUSTDOCFLAGS="-D warnings" cargo doc --locked --no-deps --features std,pem
     check "the documents without std have no fault" \
         env RUSTDOCFLAGS="-D warnings" cargo doc --locked --no-deps
 }
@@ -150,7 +171,7 @@ installed() {
         describe "$work/other" 9.9.9
         check "an installed library is found by pkg-config" \
             env PKG_CONFIG_PATH="$work/installed" \
-            cargo test --locked -p bridgeacacia-sec1 --test wiping --features std
+            cargo test --locked -p bridgeacacia-sec1 --test wiping --features std,pem
         refuses "an installed library of another version is refused" \
             "no library: install libsec1" env PKG_CONFIG_PATH="$work/other" "${build[@]}"
     fi
@@ -176,7 +197,7 @@ as_dependency() {
     check "a clone without links" git clone -q -c core.symlinks=false "$repository" "$work/without-links"
     check "it has none" test -f "$work/without-links/bindings/rust/sec1-sys/src/sec1.rs" \
         -a -z "$(find "$work/without-links" -type l)"
-    check "the crate is built there, of sec1.rs" env SEC1_LIBRARY=rust cargo build --locked --features std \
+    check "the crate is built there, of sec1.rs" env SEC1_LIBRARY=rust cargo build --locked --features std,pem \
         --manifest-path "$work/without-links/bindings/rust/sec1/Cargo.toml"
     program "$work/by-git"
     cd "$work/by-git" || return
@@ -243,6 +264,7 @@ is_manylinux() { # LIBRARY
 python() {
     export PIP_NO_INDEX=1 PIP_DISABLE_PIP_VERSION_CHECK=1 PYTHONDONTWRITEBYTECODE=1
     local packed=$work/packed bin=$work/environment/bin
+    calls python
     mkdir -p "$packed/again"
     check "the source archive is made" sdist "$packed"
     check "it has the same bytes each time" bash -c "$(declare -f sdist); here='$here' sdist '$packed/again' &&
@@ -252,6 +274,8 @@ python() {
     check "the source archive has licences and no links" test -s "$work/source/LICENSE-MIT" \
         -a -s "$work/source/LICENSE-APACHE" -a -f "$work/source/licences.txt" \
         -a -z "$(find "$work/source" -type l)"
+    check "it has no tests" test ! -e "$work/source/tests"
+    cp -RL "$here/python/tests" "$work/source"
     check "there is an environment of Python" python3 -m venv "$work/environment"
     check "pip makes a wheel of the repository" "$bin/pip" wheel --no-deps -w "$packed" "$here/python"
     local wheel
@@ -261,7 +285,7 @@ python() {
     # pip and a compiler, and nothing else of this machine: the kit isn't in /usr/bin.
     check "pip installs the source archive by cc alone" env -i PATH="$bin:/usr/bin:/bin" \
         PIP_NO_INDEX=1 "$bin/pip" install "$packed"/bridgeacacia_sec1-*.tar.gz
-    check "the module passes the tests of the source archive" \
+    check "the module passes the tests" \
         "$bin/python" -I "$work/source/tests/test_sec1.py"
     refuses "without a compiler there is no wheel" "there is no C compiler none-such" \
         env CC=none-such "$bin/pip" wheel --no-deps -w "$packed/again" "$here/python"
@@ -408,9 +432,10 @@ js() {
     export npm_config_offline=true npm_config_cache="$work/npm" npm_config_update_notifier=false
     export npm_config_fund=false npm_config_audit=false
     if ! node -e 'process.exit(parseInt(process.versions.node) < 18 ? 1 : 0)'; then
-        skip 37 "JavaScript: node is older than 18"
+        skip 39 "JavaScript: node is older than 18"
         return
     fi
+    calls js
     copied "$repository"
     cd "$repository/bindings/js" || return
     check "npm packs the package" npm pack --pack-destination "$repository"
@@ -427,6 +452,8 @@ js() {
         -f $installed/index.d.ts -a -s $installed/sec1.wasm -a -s $installed/LICENSE-MIT \
         -a -s $installed/LICENSE-APACHE -a -s $installed/licences.txt \
         -a -z "$(find $installed -type l)"
+    check "it has no tests" test ! -e $installed/tests
+    cp -RL "$here/js/tests" $installed
     readme 1 >read.mjs && readme 2 >write.mjs
     cp "$top/dist/examples/p256.der" .
     check "the first program of README.md prints dist/examples/p256.txt" \
@@ -437,7 +464,7 @@ js() {
     check "the script that measures the cost of calls prints five" \
         says 7 eval 'node $installed/tests/cost.js 2 | grep -c "|"'
     check "the module has the calls of sec1.h" says \
-        "sec1_key_len_of sec1_key_write_of sec1_status_text sec1_version" js_names
+        "sec1_key_len_of sec1_key_write_of sec1_picture_show sec1_status_text sec1_version" js_names
     entries
     bundlers
     engines
@@ -623,7 +650,7 @@ for name in ${1:-rust python js}; do
     python) if has python3 && has cc; then part python; fi ;;
     js)
         if command -v node >/dev/null && command -v npm >/dev/null; then part js; else
-            skip 37 "JavaScript: node or npm is missing (Debian: apt-get install nodejs npm)"
+            skip 39 "JavaScript: node or npm is missing (Debian: apt-get install nodejs npm)"
         fi
         ;;
     esac

@@ -2,7 +2,7 @@
 // (RFC 5480), signatures of ECDSA (RFC 3279), points (SEC1 v2.0 section 2.3.3), object identifiers
 // and trees of DER. A module that is proved to meet its contracts decides what is accepted and what
 // is written. index.d.ts says what each name does.
-import { Kind, NUMBERS, call, drawn, picture, ready } from './library.js';
+import { Kind, NUMBERS, call, decoded, divided, drawn, picture, ready } from './library.js';
 import { isSupported } from './module.js';
 
 export const version = '0.2.0';
@@ -95,10 +95,15 @@ export class OtherCurveError extends Sec1Error {
   static status = 12;
 }
 
+export class PemError extends Sec1Error {
+  static kind = 'Pem';
+  static status = 13;
+}
+
 const ERRORS = new Map(
   [
     TruncatedError, TagError, LengthError, TrailingDataError, ValueContentError, OverlengthError,
-    DepthError, PointEncodingError, FieldLengthError, CurveError, OtherCurveError,
+    DepthError, PointEncodingError, FieldLengthError, CurveError, OtherCurveError, PemError,
   ].map((kind) => [kind.status, kind]),
 );
 
@@ -124,6 +129,8 @@ function bytesOf(data) {
 const copyOf = (bytes) => new Uint8Array(bytes);
 
 const ENCODER = new TextEncoder();
+const CODE = new TextDecoder();
+const NOTHING = new Uint8Array(0);
 
 /** Returns the bytes of a text in UTF-8. Anything but a text is a TypeError. */
 function textBytes(text) {
@@ -134,11 +141,18 @@ function textBytes(text) {
 /** Returns the text of these ASCII letters and a byte 0. */
 const textOf = (bytes) => String.fromCharCode(...bytes.subarray(0, -1));
 
-/** Returns a length of field elements. Anything but a whole number is a TypeError. One that is
- * negative, or above 2^64, is another number for the call, which is above 66 or 0 then, too. */
-function wholeNumber(length) {
-  if (!Number.isInteger(length)) throw new TypeError('the length is a whole number');
-  return length;
+/** Returns a length of field elements, or a tag. Anything but a whole number is a TypeError. One
+ * that is negative, or above 2^64, is another number for the call, which is above 255 or 0 then,
+ * too. */
+function wholeNumber(number) {
+  if (!Number.isInteger(number)) throw new TypeError('a whole number is expected');
+  return number;
+}
+
+/** Returns a number of bytes or levels, which the call takes as it is. */
+function countOf(number) {
+  if (wholeNumber(number) < 0) throw new RangeError('the number is negative');
+  return Math.min(number, Number.MAX_SAFE_INTEGER);
 }
 
 /** Returns a value of this class. Anything else is a TypeError. */
@@ -167,7 +181,58 @@ function made(name, ...given) {
   return result;
 }
 
-const NOTHING = new Uint8Array(0);
+// ---- PEM (RFC 7468)
+
+/** Makes a key of what the first block of PEM in a text encodes that has one of these labels, by
+ * the function of that label. What was decoded, and a copy of the text, are overwritten. */
+function ofPem(text, functions) {
+  let copy = NOTHING;
+  let bytes = NOTHING;
+  if (typeof text === 'string') {
+    copy = new Uint8Array(new ArrayBuffer(3 * text.length));
+    bytes = copy.subarray(0, ENCODER.encodeInto(text, copy).written);
+  } else {
+    bytes = bytesOf(text);
+  }
+  const blocks = [];
+  try {
+    for (const [label, make] of Object.entries(functions)) {
+      const [line, status, found] = decoded(bytes, ENCODER.encode(label));
+      blocks.push({ line, status, found, make });
+    }
+    const first = blocks.filter((it) => it.line).sort((a, b) => a.line - b.line)[0];
+    check(first ? first.status : PemError.status);
+    return first.make(first.found);
+  } finally {
+    for (const { found } of blocks) found.fill(0);
+    copy.fill(0);
+  }
+}
+
+const DIGITS = ENCODER.encode('ABCDEFGHIJKLMNOPQRSTUVWXYZabcdefghijklmnopqrstuvwxyz0123456789+/');
+const [COLUMNS, EQUALS, LINE_FEED] = [64, 61, 10];
+
+/** Returns bytes in PEM, in the strict form, whose lines have 64 digits, and overwrites the
+ * bytes. */
+function pem(label, bytes) {
+  const [head, tail] = ['BEGIN', 'END'].map((it) => ENCODER.encode(`-----${it} ${label}-----\n`));
+  const count = 4 * Math.ceil(bytes.length / 3);
+  const length = head.length + count + Math.ceil(count / COLUMNS) + tail.length;
+  const text = new Uint8Array(new ArrayBuffer(length)).fill(LINE_FEED);
+  text.set(head);
+  for (let at = 0; at < count; at += 1) {
+    // Digit `at` is of the six bits from this one on, of two bytes.
+    const first = Math.floor((6 * at) / 8);
+    const two = bytes[first] * 256 + (bytes[first + 1] ?? 0);
+    const digit = first < bytes.length ? DIGITS[(two >> (10 - (6 * at) % 8)) & 63] : EQUALS;
+    text[head.length + at + Math.floor(at / COLUMNS)] = digit;
+  }
+  text.set(tail, length - tail.length);
+  const written = CODE.decode(text);
+  bytes.fill(0);
+  text.fill(0);
+  return written;
+}
 
 /** Marks bytes that the library has read or written, and that are nobody else's: a constructor that
  * gets it neither copies nor checks them. No other module has it. */
@@ -273,12 +338,17 @@ export class EcPrivateKey {
     // What isn't a container is refused here, also a key by itself.
     const [status, offset] = call('sec1_private_key_info_fault_at', bytesOf(data));
     check(status, offset);
-    return EcPrivateKey.read(data);
+    return EcPrivateKey.fromDerOrPkcs8(data);
   }
 
-  static read(data) {
+  static fromDerOrPkcs8(data) {
     const faultAt = 'sec1_private_key_fault_at';
     return EcPrivateKey.#ofParts(...read('sec1_private_key_read', faultAt, bytesOf(data)));
+  }
+
+  static fromPem(text) {
+    const { fromDer, fromPkcs8Der } = EcPrivateKey;
+    return ofPem(text, { 'EC PRIVATE KEY': fromDer, 'PRIVATE KEY': fromPkcs8Der });
   }
 
   static #ofParts(privateKey, curve, publicKey) {
@@ -312,6 +382,14 @@ export class EcPrivateKey {
     return this.#written('sec1_private_key_info_write');
   }
 
+  toPem() {
+    return pem('EC PRIVATE KEY', this.toDer());
+  }
+
+  toPkcs8Pem() {
+    return pem('PRIVATE KEY', this.toPkcs8Der());
+  }
+
   #written(name) {
     const curve = this.#curve?.content ?? NOTHING;
     const hasPublicKey = Number(this.#publicKey !== null);
@@ -336,6 +414,10 @@ export class EcPublicKey {
     return new EcPublicKey(new ObjectIdentifier(curve, MADE), publicKey);
   }
 
+  static fromPem(text) {
+    return ofPem(text, { 'PUBLIC KEY': EcPublicKey.fromDer });
+  }
+
   get curve() {
     return this.#curve;
   }
@@ -355,6 +437,10 @@ export class EcPublicKey {
 
   toDer() {
     return made('sec1_public_key_write', this.#curve.content, this.#publicKey);
+  }
+
+  toPem() {
+    return pem('PUBLIC KEY', this.toDer());
   }
 }
 
@@ -501,7 +587,42 @@ export class Point {
   }
 }
 
-// ---- trees of elements
+// ---- elements and trees of them
+
+export class Element {
+  // Private, as that of a key: the content may be one.
+  #tag;
+  #content;
+
+  constructor(tag, content) {
+    this.#tag = wholeNumber(tag);
+    this.#content = bytesOf(content);
+  }
+
+  static read(data) {
+    const bytes = bytesOf(data);
+    const [status, content, rest] = divided(bytes);
+    check(status);
+    return [new Element(bytes[0], content), rest];
+  }
+
+  get tag() {
+    return this.#tag;
+  }
+
+  get content() {
+    return this.#content;
+  }
+
+  equals(other) {
+    return other instanceof Element && this.#tag === other.#tag &&
+      same(this.#content, other.#content);
+  }
+
+  toDer() {
+    return made('sec1_element_write', this.#tag, this.#content);
+  }
+}
 
 export function checkTree(data) {
   return read('sec1_tree_check', 'sec1_tree_fault_at', bytesOf(data))[0];
@@ -513,7 +634,8 @@ export function documentLength(data) {
 
 // ---- pictures
 
-const CODE = new TextDecoder();
+/** The greatest number of bytes that are drawn. */
+const LONGEST = 16777215;
 
 /** Returns the rows of a picture, by its text and the numbers of its lines. */
 function rowsOf(text, numbers) {
@@ -531,20 +653,26 @@ function rowsOf(text, numbers) {
   return rows;
 }
 
-export function draw(data, { all = false } = {}) {
+export function draw(data, { all = false, levels = 0, offset = 0 } = {}) {
   const bytes = bytesOf(data);
+  if (bytes.length > LONGEST) throw new RangeError('more than 16,777,215 bytes');
+  const limits = [countOf(levels), countOf(offset)];
   const plain = picture(bytes);
   check(plain.status);
-  const [status, encoded, isKey] = all ? drawn(bytes, 1) : [0, plain.text, plain.isKey];
-  check(status);
-  const [text, hidden] = [CODE.decode(encoded), CODE.decode(plain.text)];
-  encoded.fill(0);
+  const [hidden, numbers, hasKey] = [CODE.decode(plain.text), plain.numbers, plain.isKey === 1];
+  let text = hidden;
+  if (all || limits.some(Boolean)) {
+    const [status, encoded] = drawn(bytes, Number(Boolean(all)), ...limits);
+    check(status);
+    text = CODE.decode(encoded);
+    encoded.fill(0);
+  }
   let rows = null;
   return {
     text,
-    hasKey: isKey === 1,
+    hasKey,
     get rows() {
-      rows ??= rowsOf(hidden, plain.numbers);
+      rows ??= rowsOf(hidden, numbers);
       return rows;
     },
   };

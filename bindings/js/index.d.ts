@@ -59,6 +59,11 @@ export class FieldLengthError extends Sec1Error {}
 export class CurveError extends Sec1Error {}
 /** A key names another curve than its container. */
 export class OtherCurveError extends Sec1Error {}
+/**
+ * A text has no block of PEM with the label of what is to be read, or the first one has headers, as
+ * an encrypted one has, or no last line, or what is between isn't base64.
+ */
+export class PemError extends Sec1Error {}
 
 /** An object identifier (X.690 section 8.19). */
 export class ObjectIdentifier {
@@ -138,7 +143,14 @@ export class EcPrivateKey {
    * INTEGER and the tag of a SEQUENCE, are read as a container.
    * @throws {Sec1Error} as `fromDer` or `fromPkcs8Der`.
    */
-  static read(data: Bytes): EcPrivateKey;
+  static fromDerOrPkcs8(data: Bytes): EcPrivateKey;
+  /**
+   * Reads a key from the first block of PEM in a text whose label is EC PRIVATE KEY, as `fromDer`
+   * does, or PRIVATE KEY, as `fromPkcs8Der` does. Other blocks may be around it.
+   * @throws {PemError}
+   * @throws {Sec1Error} as these, with the offset in what the block encodes.
+   */
+  static fromPem(text: string | Bytes): EcPrivateKey;
   readonly privateKey: Uint8Array;
   readonly curve: ObjectIdentifier | null;
   /** The bytes of the public key, which may be none. */
@@ -156,6 +168,16 @@ export class EcPrivateKey {
    * @throws {OverlengthError}
    */
   toPkcs8Der(): Uint8Array;
+  /**
+   * Returns the DER encoding in PEM, with the label EC PRIVATE KEY. A text can't be wiped.
+   * @throws {OverlengthError}
+   */
+  toPem(): string;
+  /**
+   * Returns the container in PEM, with the label PRIVATE KEY.
+   * @throws {Sec1Error} as `toPkcs8Der`.
+   */
+  toPkcs8Pem(): string;
 }
 
 /** A public key with its curve (RFC 5480 section 2). */
@@ -168,6 +190,13 @@ export class EcPublicKey {
    * the algorithm isn't id-ecPublicKey with a curve of the table; PointEncoding.
    */
   static fromDer(data: Bytes): EcPublicKey;
+  /**
+   * Reads a key, as `fromDer` does, from the first block of PEM in a text whose label is PUBLIC
+   * KEY.
+   * @throws {PemError}
+   * @throws {Sec1Error} as `fromDer`, with the offset in what the block encodes.
+   */
+  static fromPem(text: string | Bytes): EcPublicKey;
   readonly curve: ObjectIdentifier;
   /** A copy of the point's encoding. */
   readonly publicKey: Uint8Array;
@@ -183,6 +212,11 @@ export class EcPublicKey {
    * @throws {PointEncodingError} if the public key isn't a point over its field.
    */
   toDer(): Uint8Array;
+  /**
+   * Returns the SubjectPublicKeyInfo in PEM, with the label PUBLIC KEY.
+   * @throws {Sec1Error} as `toDer`.
+   */
+  toPem(): string;
 }
 
 /**
@@ -281,6 +315,31 @@ export class Point {
 }
 
 /**
+ * An element of DER (X.690 section 8.1). `console.log` and `JSON.stringify` don't show its content,
+ * which may be a private key.
+ */
+export class Element {
+  /** Makes an element with this tag, its first byte. The content isn't copied. */
+  constructor(tag: number, content: Bytes);
+  /**
+   * Reads the element at the beginning of the bytes, with any content, and returns it, and a copy
+   * of the bytes after it.
+   * @throws {Sec1Error} Tag or Length, if the bytes don't begin with a header of DER; Truncated, if
+   * they end inside the header or the content. The offset is `null`.
+   */
+  static read(data: Bytes): [element: Element, rest: Uint8Array];
+  readonly tag: number;
+  readonly content: Uint8Array;
+  equals(other: unknown): boolean;
+  /**
+   * Returns the DER encoding.
+   * @throws {TagError} if no element has the tag: 0, one above 255, or one of more than one byte.
+   * @throws {OverlengthError}
+   */
+  toDer(): Uint8Array;
+}
+
+/**
  * Returns the number of elements of the one tree of DER that the bytes are.
  * @throws {Sec1Error} Truncated, Tag, Length, TrailingData or Depth: the first fault.
  */
@@ -316,13 +375,17 @@ export interface Picture {
   readonly text: string;
   /** Whether some part of the input is an EC private key (RFC 5915). */
   readonly hasKey: boolean;
-  /** The rows of all parts, as they are without `all`: made when they are first asked for. */
+  /** The rows of all parts, as they are without options: made when they are first asked for. */
   readonly rows: readonly PictureRow[];
 }
 
 /**
- * Returns the picture of any bytes: of DER, damaged perhaps, or of what a text of PEM, hexadecimal or
- * base64 encodes. Each byte is in one row. No content of what may be a private key is in the text,
- * unless `all` is true.
+ * Returns the picture of any bytes: of DER, damaged perhaps, or of what a text of PEM, hexadecimal
+ * or base64 encodes. Each byte is in one row. Shown are headers, contents that a form makes public,
+ * and short numbers and identifiers; all contents if `all` is true. If they aren't 0, the text is of so
+ * many `levels` alone, and of the element that begins at the `offset` alone.
+ * @throws {RangeError} of more than 16,777,215 bytes, or a negative number.
  */
-export function draw(data: Bytes, options?: { all?: boolean }): Picture;
+export function draw(
+  data: Bytes, options?: { all?: boolean; levels?: number; offset?: number },
+): Picture;

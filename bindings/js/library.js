@@ -14,8 +14,9 @@ const KEPT = 4194304;
 /** The room that a picture of a long input gets at first, in bytes. */
 const DRAWN = 1048576;
 /** Where the stack begins, which grows towards 0. Then how many bytes of it are used at most by
- * calls that draw, and by all others: tests/dist/stack.py computes whether they are enough. */
-const [STACK, DEEP, FLAT] = [65536, 24576, 4096];
+ * calls that draw or decode PEM, and by all others: tests/dist/stack.py computes whether they are
+ * enough. */
+const [STACK, DEEP, FLAT] = [65536, 61440, 4096];
 /** What a line of a picture is: enum sec1_line of sec1.h. */
 export const Kind = Object.freeze({ HEADING: 0, ROW: 1, MARK: 2, WORDS: 3, COMMAND: 4 });
 /** How many numbers a line has: its kind, and of a row its offset, the lengths of its header and of
@@ -202,6 +203,7 @@ const CALLS = {
   sec1_tree_check: stores([size]),
   sec1_tree_fault_at: stores([size]),
   sec1_document_len: stores([size]),
+  sec1_element_write: writesSecret,
   sec1_status_to_text: writes,
 };
 
@@ -231,6 +233,38 @@ export function call(name, ...given) {
   }
 }
 
+/** Returns the status, the content of the element that the bytes begin with, and the bytes after
+ * it. */
+export function divided(input) {
+  if (!exports) take(instantiated());
+  try {
+    const words = placed([input]);
+    const status = exports.sec1_element_read(...words, STORED_WORD, STORED_WORD + 8n);
+    if (status) return [status];
+    const [header, length] = [wordAt(STORED), wordAt(STORED + 8)];
+    const end = header + length;
+    return [status, copied(GIVEN + header, length), copied(GIVEN + end, lengthOf(input) - end)];
+  } finally {
+    wipe(FLAT);
+  }
+}
+
+/** Returns the number of the first line of the first block of PEM in a text that has this label, or
+ * 0 if none has, the status, and what the block encodes. */
+export function decoded(text, label) {
+  if (!exports) take(instantiated());
+  try {
+    const words = placed([text, label]);
+    const length = 2 * lengthOf(text) + 2;
+    const room = reserve(length);
+    const places = [room, length, STORED, STORED + 8].map(BigInt);
+    const status = exports.sec1_pem_decode(...words, ...places);
+    return [wordAt(STORED + 8), status, copied(room, wordAt(STORED))];
+  } finally {
+    wipe(DEEP);
+  }
+}
+
 /** Returns the length of what the two calls of pictures decode an input into. DER needs 2 bytes of
  * it, so that a long input gets no more until a call refuses that. */
 function roomFor(length, isWhole) {
@@ -239,18 +273,20 @@ function roomFor(length, isWhole) {
 }
 
 /** Returns the status, the text of the picture of an input, and 1 if the input has a key: with all
- * contents, if the number isn't 0. */
-export function drawn(input, all) {
+ * contents, of so many levels alone, of the element that begins after so many bytes alone, each if
+ * the number isn't 0. */
+export function drawn(input, all = 0, levels = 0, offset = 0) {
   if (!exports) take(instantiated());
   const size = lengthOf(input);
   // Room for most pictures of short inputs; a longer one is drawn once more.
   for (let [most, isWhole] = [Math.min(8 * size + 4096, DRAWN), false]; ;) {
     try {
-      const words = placed([input, all]);
+      // No JSON, and no name of a file.
+      const words = placed([input, all, 0, levels, offset, new Uint8Array(0)]);
       const length = roomFor(size, isWhole) + most;
       const [room, text] = [reserve(length), reserve(most)];
       const places = [room, length, text, most, STORED, STORED + 8].map(BigInt);
-      const status = exports.sec1_picture_draw(...words, ...places);
+      const status = exports.sec1_picture_write(...words, ...places);
       const wanted = wordAt(STORED);
       if (status !== BUFFER || (wanted <= most && (wanted || isWhole))) {
         return [status, copied(text, wanted), wordAt(STORED + 8)];
@@ -296,7 +332,7 @@ function lined(input, count, isDecodedWanted) {
 
 /** Returns the same as `drawn` of the picture without private contents, and what `lined` does. */
 export function picture(input, isDecodedWanted = false) {
-  const [status, text, isKey] = drawn(input, 0);
+  const [status, text, isKey] = drawn(input);
   let count = 0;
   for (let at = text.indexOf(10); at >= 0; at = text.indexOf(10, at + 1)) count += 1;
   const told = lined(input, count, isDecodedWanted);

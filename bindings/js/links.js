@@ -67,11 +67,9 @@ function restore() {
 
 /** Puts a file in the place of each link. */
 function follow() {
-  const names = ['.', 'tests', 'tests/data'].flatMap((folder) =>
-    fs.readdirSync(path.join(here, folder)).map((name) => path.join(folder, name)));
-  const found = names.map(linkAt).filter((it) => it.target !== null);
+  const found = fs.readdirSync(here).map(linkAt).filter((it) => it.target !== null);
   const files = found.map(({ name, target }) => {
-    const file = path.join(here, path.dirname(name), target);
+    const file = path.join(here, target);
     if (!fs.existsSync(file)) throw new Error(`${name} leads to ${target}, where nothing is`);
     return fs.readFileSync(file);
   });

@@ -23,7 +23,7 @@ import zipfile
 HERE = pathlib.Path(__file__).resolve().parent
 # Beside the module in the wheel, and in the source archive; of each folder what is in the repository.
 LICENCES = ("LICENSE-APACHE", "LICENSE-MIT", "licences.txt")
-SOURCES = ("pyproject.toml", "build_wheel.py", "README.md", *LICENCES, "library", "src", "tests")
+SOURCES = ("pyproject.toml", "build_wheel.py", "README.md", *LICENCES, "library", "src")
 # The options by which a compiler makes a shared library, by the system that it is for.
 OPTIONS = {
     "linux": ["-nostartfiles", "-s", "-Wl,-z,relro,-z,now,-z,noexecstack,-z,defs,-z,text,-soname,libsec1.so"],

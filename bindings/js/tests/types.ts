@@ -1,16 +1,17 @@
 // A program of each name, for `tsc --strict`; the lines below the last comment are refused by it.
 import {
   type Bytes, certificatePublicKey, checkTree, Curve, CurveError, DepthError, documentLength,
-  draw, EcPrivateKey, EcPublicKey, FieldLengthError, isSupported, LengthError, ObjectIdentifier,
-  OtherCurveError, OverlengthError, type Picture, type PictureRow, Point, PointEncodingError, ready,
-  Sec1Error, Signature, Tag, TagError, TrailingDataError, TruncatedError, ValueContentError, version,
+  draw, EcPrivateKey, EcPublicKey, Element, FieldLengthError, isSupported, LengthError,
+  ObjectIdentifier, OtherCurveError, OverlengthError, PemError, type Picture, type PictureRow,
+  Point, PointEncodingError, ready, Sec1Error, Signature, Tag, TagError, TrailingDataError,
+  TruncatedError, ValueContentError, version,
 } from 'bridgeacacia-sec1';
 import { Curve as Inside } from 'bridgeacacia-sec1/inline';
 
 const bytes: Bytes = new Uint8Array(1);
 const errors: (typeof Sec1Error)[] = [
   CurveError, DepthError, FieldLengthError, LengthError, OtherCurveError, OverlengthError,
-  PointEncodingError, TagError, TrailingDataError, TruncatedError, ValueContentError,
+  PemError, PointEncodingError, TagError, TrailingDataError, TruncatedError, ValueContentError,
 ];
 const refused: [string | null, number | null, number | null] = ((e: Sec1Error) =>
   [e.kind, e.status, e.offset] as [string | null, number | null, number | null])(new TagError(3));
@@ -20,10 +21,13 @@ const key: EcPrivateKey = new EcPrivateKey(bytes, identifier, bytes);
 const parts: [Uint8Array, ObjectIdentifier | null, Uint8Array | null] =
   [key.privateKey, key.curve, key.publicKey];
 const keys: EcPrivateKey[] = [
-  EcPrivateKey.fromDer(bytes), EcPrivateKey.fromPkcs8Der(bytes), EcPrivateKey.read(bytes),
+  EcPrivateKey.fromDer(bytes), EcPrivateKey.fromPkcs8Der(bytes), EcPrivateKey.fromDerOrPkcs8(bytes),
+  EcPrivateKey.fromPem(key.toPem()), EcPrivateKey.fromPem(bytes),
   new EcPrivateKey(new ArrayBuffer(1), null), new EcPrivateKey(new DataView(new ArrayBuffer(1))),
 ];
-const written: Uint8Array[] = [key.toDer(), key.toPkcs8Der()];
+const [element, rest]: [Element, Uint8Array] = Element.read(bytes);
+const written: Uint8Array[] =
+  [key.toDer(), key.toPkcs8Der(), element.toDer(), element.content, rest];
 const publicKey: EcPublicKey = EcPublicKey.fromDer(certificatePublicKey(bytes));
 const point: Point = publicKey.point;
 const points: Point[] = [
@@ -36,16 +40,17 @@ const isHybrid: boolean = point.tag === Tag.HYBRID_EVEN || point.tag === Tag.HYB
 const signature: Signature = new Signature(bytes, bytes);
 const numbers: number[] = [checkTree(bytes), curve.fieldLength, ...identifier.arcs];
 const length: number | null = documentLength(bytes);
-const picture: Picture = draw(bytes, { all: true });
+const picture: Picture = draw(bytes, { all: true, levels: 2, offset: element.tag });
 const row: PictureRow = draw(bytes).rows[0];
 const drawn: [boolean, number, readonly string[]] = [picture.hasKey, row.depth, row.marks];
 const texts: string[] = [
-  picture.text, row.line, version, curve.name, point.hex(true), `${identifier}`,
+  key.toPkcs8Pem(), EcPublicKey.fromPem(publicKey.toPem()).toPem(), picture.text, row.line, version,
+  curve.name, point.hex(true), `${identifier}`,
 ];
 const loaded: [boolean, Promise<void>, Curve] = [isSupported(), ready(), Inside.fromName('P-256')];
 export default {
-  loaded, errors, refused, parts, keys, written, coordinates, isHybrid, signature, numbers, length, texts,
-  drawn,
+  loaded, errors, refused, parts, keys, written, coordinates, isHybrid, signature, numbers, length,
+  texts, drawn,
 };
 
 // Refused, each.
@@ -71,5 +76,11 @@ identifier.compare('1.2');
 new TagError('text');
 // @ts-expect-error
 new TagError(3).offset.toFixed();
+// @ts-expect-error
+EcPrivateKey.fromPem([1, 2]);
+// @ts-expect-error
+draw(bytes, { levels: '2' });
+// @ts-expect-error
+Element.read(bytes).tag;
 // @ts-expect-error
 checkTree([1, 2]);

@@ -3,12 +3,15 @@ signatures of ECDSA (RFC 3279) and points of elliptic curves (SEC1 v2.0 section 
 meet its contracts decides what is accepted and what is written."""
 from __future__ import annotations
 
+import binascii
+import dataclasses
 import functools
 import operator
+from array import array
 from ctypes import byref, c_int32, c_size_t
 from dataclasses import dataclass, field
 from enum import IntEnum
-from typing import Any, ClassVar, List, Optional, Tuple
+from typing import Any, ClassVar, Iterator, List, Optional, Tuple, Type, Union
 
 from . import _library
 from ._library import ROOM, SIZES, KeyParts, given, new_place, number, places
@@ -23,13 +26,16 @@ __all__ = [
     "DepthError",
     "EcPrivateKey",
     "EcPublicKey",
+    "Element",
     "Error",
     "FieldLengthError",
     "LengthError",
     "ObjectIdentifier",
     "OtherCurveError",
     "OverlengthError",
+    "PemError",
     "Picture",
+    "PictureRow",
     "Point",
     "PointEncodingError",
     "Signature",
@@ -139,6 +145,13 @@ class OtherCurveError(Error):
     status = 12
 
 
+class PemError(Error):
+    """A text has no block of PEM with the label of what is to be read, or the first one has headers, as an encrypted
+    one has, or no last line, or what is between isn't base64."""
+
+    status = 13
+
+
 _ERRORS = {kind.status: kind for kind in Error.__subclasses__()}
 for _kind in Error.__subclasses__():
     _kind.text = _library.written("sec1_status_to_text", number(_kind.status))[1][:-1].decode("ascii")  # type: ignore[arg-type]
@@ -157,17 +170,22 @@ def _text(text: str) -> bytes:
     return _encode(text, "utf-8", "surrogatepass")
 
 
+def _number(value: int, refused: Type[ValueError]) -> int:
+    """Returns a number that C can take, or raises this error. Anything but a whole number is a TypeError."""
+    if type(value) is not int:
+        if isinstance(value, bool):
+            raise TypeError("a number is expected, not a bool")
+        # A class below `int` may say anything of how its numbers compare.
+        value = int.__index__(operator.index(value))
+    # A negative number, or one of more than 64 bits, would become another one in C.
+    if not 0 <= value < 1 << 64:
+        raise refused
+    return value
+
+
 def _length(field_length: int) -> int:
     """Returns the length of field elements. Anything but a whole number is a TypeError."""
-    if type(field_length) is not int:
-        if isinstance(field_length, bool):
-            raise TypeError("the length of field elements is a number, not a bool")
-        # A class below `int` may say anything of how its numbers compare.
-        field_length = int.__index__(operator.index(field_length))
-    # A negative number, or one of more than 64 bits, would become another one in C.
-    if not 0 <= field_length < 1 << 64:
-        raise FieldLengthError
-    return field_length
+    return _number(field_length, FieldLengthError)
 
 
 def _identifier(identifier: ObjectIdentifier) -> ObjectIdentifier:
@@ -194,16 +212,33 @@ def _written(name: str, *arguments: Any) -> bytes:
     return data
 
 
-def _read(name: str, parts: Any, data: bytes) -> None:
-    """Stores the places of the parts that a call reads, or raises."""
-    _check(_library.call(f"sec1_{name}_read", *given(data), byref(parts)), f"sec1_{name}_fault_at", data)
+def _read(name: str, fault_at: str, parts: Any, data: bytes) -> None:
+    """Stores the places of the parts that a call reads, or raises, with the offset that another one stores."""
+    _check(_library.call(name, *given(data), byref(parts)), fault_at, data)
 
 
-def _pair(name: str, data: bytes) -> Tuple[bytes, bytes]:
+def _pair(name: str, fault_at: str, data: bytes) -> Tuple[bytes, bytes]:
     """Returns the two parts that a call reads, which are always present, or raises."""
     parts = _library.Pair()
-    _read(name, parts, data)
+    _read(name, fault_at, parts, data)
     return parts[0].of(data) or b"", parts[1].of(data) or b""
+
+
+def _decoded(text: Union[str, bytes], *labels: str) -> Tuple[str, bytes]:
+    """Returns the label of the first block of PEM (RFC 7468) in a text that has one of these, and what it encodes,
+    or raises PemError."""
+    data = _text(text) if isinstance(text, str) else _bytes(text)
+    blocks = [(*_library.pem_decoded(data, label.encode("ascii")), label) for label in labels]
+    line, status, found, label = min((it for it in blocks if it[0]), default=(0, PemError.status, b"", ""))
+    _check(status)
+    return label, found
+
+
+def _pem(label: str, data: bytes) -> str:
+    """Returns bytes in PEM, in the strict form (RFC 7468 section 3), whose lines have 64 digits."""
+    digits = binascii.b2a_base64(data, newline=False).decode("ascii")
+    lines = [digits[at : at + 64] for at in range(0, len(digits), 64)]
+    return "\n".join([f"-----BEGIN {label}-----", *lines, f"-----END {label}-----", ""])
 
 
 class Tag(IntEnum):
@@ -372,7 +407,7 @@ class EcPrivateKey:
         algorithm, if that names no curve of the table; OtherCurveError if the key in it names another
         curve."""
         data, parts = _bytes(data), KeyParts()
-        _read("private_key", parts, data)
+        _read("sec1_private_key_read", "sec1_private_key_fault_at", parts, data)
         return cls._with(data, parts[:])
 
     @classmethod
@@ -383,6 +418,16 @@ class EcPrivateKey:
         if status := _library.call("sec1_private_key_info_fault_at", *given(data), byref(offset)):
             raise _ERRORS.get(status, Error)(offset.value)
         return cls.from_der_or_pkcs8(data)
+
+    @classmethod
+    def from_pem(cls, text: Union[str, bytes]) -> EcPrivateKey:
+        """Reads a key from the first block of PEM in a text whose label is EC PRIVATE KEY, as `from_der` does, or
+        PRIVATE KEY, as `from_pkcs8_der` does. Other blocks may be around it.
+
+        Raises PemError if there is none, or it isn't whole or is encrypted; and what these raise, with the offset in
+        what the block encodes."""
+        label, data = _decoded(text, "EC PRIVATE KEY", "PRIVATE KEY")
+        return cls.from_der(data) if label == "EC PRIVATE KEY" else cls.from_pkcs8_der(data)
 
     @classmethod
     def _with(cls, data: bytes, parts: List[int]) -> EcPrivateKey:
@@ -408,6 +453,14 @@ class EcPrivateKey:
         """Returns the container in DER, a PrivateKeyInfo without attributes. Raises CurveError if the table
         doesn't have the curve, or there is none, or OverlengthError."""
         return self._written("sec1_private_key_info_write")
+
+    def to_pem(self) -> str:
+        """Returns the DER encoding in PEM, with the label EC PRIVATE KEY, or raises as `to_der` does."""
+        return _pem("EC PRIVATE KEY", self.to_der())
+
+    def to_pkcs8_pem(self) -> str:
+        """Returns the container in PEM, with the label PRIVATE KEY, or raises as `to_pkcs8_der` does."""
+        return _pem("PRIVATE KEY", self.to_pkcs8_der())
 
     def _written(self, name: str) -> bytes:
         """Returns what a function writes of the parts, or raises."""
@@ -446,8 +499,16 @@ class EcPublicKey:
         Raises TruncatedError, TagError, LengthError, TrailingDataError or ValueContentError, the first
         fault from left to right; CurveError if the algorithm isn't id-ecPublicKey with a curve of the table;
         PointEncodingError if the key isn't a point over its field."""
-        curve, public_key = _pair("public_key", _bytes(data))
+        curve, public_key = _pair("sec1_public_key_read", "sec1_public_key_fault_at", _bytes(data))
         return cls(ObjectIdentifier._of(curve), public_key)
+
+    @classmethod
+    def from_pem(cls, text: Union[str, bytes]) -> EcPublicKey:
+        """Reads a key, as `from_der` does, from the first block of PEM in a text whose label is PUBLIC KEY.
+
+        Raises PemError if there is none, or it isn't whole; and what `from_der` raises, with the offset in what the
+        block encodes."""
+        return cls.from_der(_decoded(text, "PUBLIC KEY")[1])
 
     @property
     def point(self) -> Point:
@@ -458,6 +519,10 @@ class EcPublicKey:
         """Returns the SubjectPublicKeyInfo in DER. Raises CurveError if the table doesn't have the curve, or
         PointEncodingError if the key isn't a point over its field."""
         return _written("sec1_public_key_write", *given(self.curve.content), *given(self.public_key))
+
+    def to_pem(self) -> str:
+        """Returns the SubjectPublicKeyInfo in PEM, with the label PUBLIC KEY, or raises as `to_der` does."""
+        return _pem("PUBLIC KEY", self.to_der())
 
     def __reduce__(self) -> Any:
         return type(self), (self.curve, self.public_key)
@@ -484,7 +549,7 @@ class Signature:
 
         Raises TruncatedError, TagError, LengthError, TrailingDataError or ValueContentError, the first
         fault from left to right."""
-        return cls(*_pair("signature", _bytes(data)))
+        return cls(*_pair("sec1_signature_read", "sec1_signature_fault_at", _bytes(data)))
 
     def to_der(self) -> bytes:
         """Returns the DER encoding, or raises OverlengthError."""
@@ -590,6 +655,11 @@ class Point:
         """Returns the compressed form of an uncompressed or hybrid point, any other as it is."""
         return self._form("sec1_point_compress")
 
+    def uncompress(self) -> Point:
+        """Returns the uncompressed form of a hybrid point, any other as it is: no y is computed."""
+        _, x, y = self._read()
+        return self if x is None or y is None else Point.from_coordinates(x, y)
+
     def to_hybrid(self) -> Point:
         """Returns the hybrid form of an uncompressed point, any other as it is."""
         return self._form("sec1_point_to_hybrid")
@@ -634,9 +704,44 @@ def certificate_public_key(data: bytes) -> bytes:
     Raises TruncatedError, TagError, LengthError, TrailingDataError or ValueContentError, the first fault
     from left to right."""
     data, part = _bytes(data), _library.Part()
-    status = _library.call("sec1_certificate_read_public_key", *given(data), byref(part))
-    _check(status, "sec1_certificate_fault_at", data)
+    _read("sec1_certificate_read_public_key", "sec1_certificate_fault_at", part, data)
     return part.of(data) or b""
+
+
+@dataclass(frozen=True)
+class Element:
+    """An element of DER (X.690 section 8.1), by its tag, the first byte, and its content. Its `repr` doesn't show the
+    content, which may be a private key."""
+
+    __slots__ = ("tag", "content", "__weakref__")
+    tag: int
+    content: bytes
+
+    def __post_init__(self) -> None:
+        object.__setattr__(self, "tag", _number(self.tag, TagError))
+        object.__setattr__(self, "content", _bytes(self.content))
+
+    @classmethod
+    def read(cls, data: bytes) -> Tuple[Element, bytes]:
+        """Reads the element at the beginning of the bytes, with any content, and returns it and the bytes after it.
+
+        Raises TagError or LengthError if the bytes don't begin with a header of DER, and TruncatedError if they end
+        inside the header or the content. The offset is None."""
+        data, header, length = _bytes(data), c_size_t(), c_size_t()
+        _check(_library.call("sec1_element_read", *given(data), byref(header), byref(length)))
+        end = header.value + length.value
+        return cls(data[0], data[header.value : end]), data[end:]
+
+    def to_der(self) -> bytes:
+        """Returns the DER encoding, or raises OverlengthError, or TagError if no element has the tag: 0, one above
+        255, or one of more than one byte."""
+        return _written("sec1_element_write", number(self.tag), *given(self.content))
+
+    def __reduce__(self) -> Any:
+        return type(self), (self.tag, self.content)
+
+    def __repr__(self) -> str:
+        return f"{type(self).__qualname__}(tag={self.tag:#04x})"
 
 
 def check_tree(data: bytes) -> int:
@@ -657,19 +762,68 @@ def document_length(data: bytes) -> Optional[int]:
 
 
 @dataclass(frozen=True)
+class PictureRow:
+    """A row of a picture: an element's header, or bytes that are no element."""
+
+    __slots__ = ("line", "marks", "offset", "header_length", "content_length", "depth", "is_hidden", "__weakref__")
+    line: str
+    """The line that is printed."""
+    marks: Tuple[str, ...]
+    """The lines below it, which say what is wrong with it."""
+    offset: int
+    """The number of bytes before it, in the part that it is of."""
+    header_length: int
+    content_length: int
+    """The number of bytes of its content that have no other row."""
+    depth: int
+    """The number of elements around it."""
+    is_hidden: bool
+    """Whether its content isn't shown, and isn't known to be public."""
+
+    def __reduce__(self) -> Any:
+        return type(self), dataclasses.astuple(self)
+
+
+@dataclass(frozen=True)
 class Picture:
     """A picture of bytes: its text, of lines of ASCII that each end in a line feed, and whether some part of
     the bytes is an EC private key (RFC 5915)."""
 
     text: str
     has_key: bool
+    _plain: str = field(default="", repr=False, compare=False)
+    _numbers: array[int] = field(default_factory=lambda: array("Q"), repr=False, compare=False)
+
+    @property
+    def rows(self) -> Iterator[PictureRow]:
+        """The rows of all parts, in order, as they are without options."""
+        row, marks = None, []
+        numbers = zip(*[iter(self._numbers)] * _library.LINE)
+        for line, (kind, offset, header, content, depth, hidden) in zip(self._plain.splitlines(), numbers):
+            if kind == _library.MARK:
+                marks.append(line)
+            elif kind == _library.ROW:
+                if row:
+                    yield PictureRow(row[0], tuple(marks), *row[1:])
+                row, marks = (line, offset, header, content, depth, hidden == 1), []
+        if row:
+            yield PictureRow(row[0], tuple(marks), *row[1:])
 
 
-def draw(data: bytes, show_all: bool = False) -> Picture:
+def draw(data: bytes, show_all: bool = False, *, levels: int = 0, offset: int = 0) -> Picture:
     """Returns the picture of any bytes: of DER, damaged perhaps, or of what a text of PEM, hexadecimal or
-    base64 encodes. Each byte is in one row. No content of what may be a private key is shown, unless
-    `show_all` is true."""
+    base64 encodes. Each byte is in one row. Shown are headers, contents that a form makes public, and short
+    numbers and identifiers; all contents if `show_all` is true. If they aren't 0, the text is of so many `levels`
+    alone, and of the element that begins at the `offset` alone. An element above 16,777,215 bytes isn't drawn."""
     data = _bytes(data)
-    status, text, is_key = _library.drawn(data, bool(show_all))
+    levels, offset = _number(levels, ValueError), _number(offset, ValueError)
+    status, text, is_key = _library.drawn(data, False)
     _check(status)
-    return Picture(text.decode("ascii"), is_key == 1)
+    status, numbers = _library.lined(data, text.count(b"\n"))
+    _check(status)
+    plain = shown = text.decode("ascii")
+    if show_all or levels or offset:
+        status, text, _ = _library.drawn(data, bool(show_all), levels, offset)
+        _check(status)
+        shown = text.decode("ascii")
+    return Picture(shown, is_key == 1, plain, numbers)

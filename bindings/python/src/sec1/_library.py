@@ -10,6 +10,7 @@ from __future__ import annotations
 import ctypes
 import pathlib
 import sys
+from array import array
 from ctypes import Structure, byref, c_char, c_size_t, c_uint32
 from typing import Any, Dict, List, Optional, Tuple
 
@@ -45,7 +46,8 @@ _QUICK = """sec1_key_read_at sec1_identifier_check sec1_identifier_from_text sec
 _OTHERS = """sec1_key_write sec1_private_key_read sec1_private_key_fault_at sec1_private_key_info_fault_at
     sec1_private_key_info_write sec1_public_key_read sec1_public_key_fault_at sec1_public_key_write
     sec1_signature_read sec1_signature_fault_at sec1_signature_write sec1_certificate_read_public_key
-    sec1_certificate_fault_at sec1_tree_check sec1_tree_fault_at sec1_document_len sec1_picture_draw""".split()
+    sec1_certificate_fault_at sec1_tree_check sec1_tree_fault_at sec1_document_len sec1_element_read
+    sec1_element_write sec1_pem_decode sec1_picture_write sec1_picture_lines""".split()
 _FUNCTIONS: Dict[str, Any] = {}
 for _calls, _names in ((ctypes.PyDLL(_PATH), _QUICK), (ctypes.CDLL(_PATH), _OTHERS)):
     for _name in _names:
@@ -114,18 +116,50 @@ def written(name: str, *arguments: Any) -> Tuple[int, bytes]:
     return status, data
 
 
-def drawn(data: bytes, show_all: bool) -> Tuple[int, bytes, int]:
+def pem_decoded(text: bytes, label: bytes) -> Tuple[int, int, bytes]:
+    """Returns the number of the first line of the first block of PEM with this label, or 0 if there is none, the
+    status, and what the block encodes. Where it was decoded it is overwritten."""
+    length, line = c_size_t(), c_size_t()
+    room: Any = ctypes.create_string_buffer(2 * length_of(text) + 2)
+    into = (byref(room), number(len(room)), byref(length), byref(line))
+    status = call("sec1_pem_decode", *given(text), *given(label), *into)
+    data = room[: length.value]
+    ctypes.memset(room, 0, len(room))
+    return line.value, status, data
+
+
+def drawn(data: bytes, show_all: bool, levels: int = 0, offset: int = 0) -> Tuple[int, bytes, int]:
     """Returns the status, the text of a picture, and whether some part of the bytes is a key. What was
     decoded, and the text, are overwritten in the memory that was theirs."""
     length, is_key, most = c_size_t(), c_size_t(), 4096
+    # No JSON, and no name of a file.
+    options = (number(show_all), number(0), number(levels), number(offset), *given(b""))
     while True:
         room = ctypes.create_string_buffer(2 * length_of(data) + 2 + most)
         text = ctypes.create_string_buffer(most)
         into = (byref(room), number(len(room)), byref(text), number(most), byref(length), byref(is_key))
-        status = call("sec1_picture_draw", *given(data), number(show_all), *into)
+        status = call("sec1_picture_write", *given(data), *options, *into)
         found = text.raw[: length.value] if status == 0 else b""
         for buffer in (room, text):
             ctypes.memset(buffer, 0, len(buffer))
         if status != BUFFER or length.value <= most:
             return status, found, is_key.value
         most = length.value
+
+
+# How many numbers a line of a picture has: its kind, and of a row its offset, the lengths of its header and of its
+# content, its depth, and 1 if the content is hidden. The kinds are those of enum sec1_line.
+LINE = 6
+ROW, MARK = 1, 2
+
+
+def lined(data: bytes, count: int) -> Tuple[int, array[int]]:
+    """Returns the status, and the numbers of so many lines of the picture that shows no private content. What was
+    decoded is overwritten in the memory that was its."""
+    found, numbers = c_size_t(), array("Q", bytes(8)) * (LINE * count)
+    lines = (c_size_t * len(numbers)).from_buffer(numbers)
+    room = ctypes.create_string_buffer(2 * length_of(data) + 2)
+    into = (byref(room), number(len(room)), byref(lines), number(count), byref(found))
+    status = call("sec1_picture_lines", *given(data), *into)
+    ctypes.memset(room, 0, len(room))
+    return status, numbers

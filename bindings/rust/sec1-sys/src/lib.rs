@@ -36,6 +36,8 @@ pub const SEC1_FIELD_LENGTH: u32 = 10;
 pub const SEC1_CURVE: u32 = 11;
 /// A key names another curve than its container.
 pub const SEC1_OTHER_CURVE: u32 = 12;
+/// No block of PEM with a label, or one that isn't whole.
+pub const SEC1_PEM: u32 = 13;
 
 /// The point at infinity.
 pub const SEC1_POINT_IDENTITY: u8 = 0;
@@ -133,6 +135,37 @@ pub struct sec1_point_parts {
     pub x: sec1_part,
     /// Present for uncompressed and hybrid points.
     pub y: sec1_part,
+}
+
+/// A line that stands above the rows of a part that was decoded.
+pub const SEC1_LINE_HEADING: usize = 0;
+/// A row: an element's header, or bytes that are none.
+pub const SEC1_LINE_ROW: usize = 1;
+/// A line that says what is wrong with the row above it.
+pub const SEC1_LINE_MARK: usize = 2;
+/// A line that says what a part is.
+pub const SEC1_LINE_WORDS: usize = 3;
+/// A command that helps.
+pub const SEC1_LINE_COMMAND: usize = 4;
+
+/// A line of a picture. A member that says nothing of a line of its kind is 0.
+#[repr(C)]
+#[derive(Clone, Copy, Debug, Default, Eq, PartialEq)]
+pub struct sec1_picture_line {
+    /// One of `SEC1_LINE_..`.
+    pub kind: usize,
+    /// Of a row, the number of bytes before it; of a heading, where in the room the bytes begin that
+    /// were decoded.
+    pub offset: usize,
+    /// Of a row, the number of bytes of its header.
+    pub header_len: usize,
+    /// Of a row, the number of bytes of its content that have no other row; of a heading, the number
+    /// of bytes that were decoded.
+    pub content_len: usize,
+    /// Of a row, the number of elements around it.
+    pub depth: usize,
+    /// Of a row, 1 if its content isn't shown and isn't known to be public.
+    pub hidden: usize,
 }
 
 unsafe extern "C" {
@@ -574,6 +607,23 @@ unsafe extern "C" {
         arcs_len: usize,
         count: *mut usize,
     ) -> u32;
+    /// Decodes the first block of PEM with this label in a text into the beginning of `room`, and
+    /// stores the length of that and the number of the block's first line.
+    ///
+    /// # Safety
+    ///
+    /// Each `*const` is readable for the length after it. `room` is writable for `room_len` bytes,
+    /// `len` and `line` are writable, and none of these overlaps another argument.
+    pub fn sec1_pem_decode(
+        text: *const u8,
+        text_len: usize,
+        label: *const u8,
+        label_len: usize,
+        room: *mut u8,
+        room_len: usize,
+        len: *mut usize,
+        line: *mut usize,
+    ) -> u32;
     /// Writes the picture of an input, and stores its length and whether it has a key.
     ///
     /// # Safety
@@ -590,6 +640,44 @@ unsafe extern "C" {
         text_len: usize,
         len: *mut usize,
         is_key: *mut usize,
+    ) -> u32;
+    /// Writes a picture as `sec1_picture_draw` does, or as JSON, of some levels or of one element.
+    ///
+    /// # Safety
+    ///
+    /// `input` and `file` are readable for the lengths after them, `room` and `text` are writable for
+    /// the lengths after them, `len` and `is_key` are writable, and none of these overlaps another
+    /// argument.
+    pub fn sec1_picture_write(
+        input: *const u8,
+        input_len: usize,
+        all: usize,
+        json: usize,
+        levels: usize,
+        offset: usize,
+        file: *const u8,
+        file_len: usize,
+        room: *mut u8,
+        room_len: usize,
+        text: *mut u8,
+        text_len: usize,
+        len: *mut usize,
+        is_key: *mut usize,
+    ) -> u32;
+    /// Stores what each line of the picture of an input is of, and the number of lines.
+    ///
+    /// # Safety
+    ///
+    /// `input` is readable for `input_len` bytes, `room` is writable for `room_len` bytes, `lines`
+    /// for `lines_len` lines, and `count` is writable, and none of these overlaps another argument.
+    pub fn sec1_picture_lines(
+        input: *const u8,
+        input_len: usize,
+        room: *mut u8,
+        room_len: usize,
+        lines: *mut sec1_picture_line,
+        lines_len: usize,
+        count: *mut usize,
     ) -> u32;
     /// Writes the text of a status and a byte 0, and stores the length of both.
     ///

@@ -20,6 +20,7 @@ extern crate std;
 
 pub mod consts;
 pub mod der;
+pub mod pem;
 pub mod point;
 pub mod subtle;
 pub mod zeroize;
@@ -27,6 +28,7 @@ pub mod zeroize;
 mod certificate;
 mod curve;
 mod error;
+mod others;
 mod parameters;
 #[cfg(feature = "alloc")]
 mod picture;
@@ -43,8 +45,9 @@ pub use crate::consts::Array;
 pub use crate::curve::Curve;
 pub use crate::error::{Error, Result};
 pub use crate::parameters::EcParameters;
+pub use crate::pem::LineEnding;
 #[cfg(feature = "alloc")]
-pub use crate::picture::{Picture, draw};
+pub use crate::picture::{DrawOptions, Picture, PictureRow, draw, draw_with};
 pub use crate::point::EncodedPoint;
 pub use crate::private_key::EcPrivateKey;
 pub use crate::public_key::EcPublicKey;

@@ -2,10 +2,14 @@
 
 use crate::der::asn1::ObjectIdentifier;
 use crate::der::{self, ErrorKind};
+#[cfg(feature = "pem")]
+use crate::pem::LineEnding;
 use crate::point::{EncodedPoint, ModulusSize};
 use crate::raw::{self, Status};
 use crate::written::{self, Written};
-use crate::{Curve, Error, Result};
+use crate::{Curve, Error, Result, pem};
+#[cfg(feature = "pem")]
+use alloc::string::String;
 #[cfg(feature = "alloc")]
 use alloc::vec::Vec;
 
@@ -58,6 +62,48 @@ impl<'a> EcPublicKey<'a> {
         let curve = raw::part(bytes, parts.curve).map_err(outside)?.unwrap_or_default();
         let public_key = raw::part(bytes, parts.public_key).map_err(outside)?.unwrap_or_default();
         Ok(EcPublicKey { curve: ObjectIdentifier::of_content(curve)?, public_key })
+    }
+
+    /// Reads a key, as [`from_der`](Self::from_der) does, from the first block of PEM in a text
+    /// whose label is PUBLIC KEY. What is decoded, and borrowed by the key, is in `room`, which is
+    /// as long as [`room_len`](crate::pem::room_len) says.
+    ///
+    /// # Errors
+    ///
+    /// [`Error::Asn1`] with [`ErrorKind::Pem`] if there is no such block, or it isn't whole, and
+    /// with [`ErrorKind::Buffer`] if the room is too short; and those of `from_der`, with the
+    /// offset in what the block encodes.
+    ///
+    /// # Examples
+    ///
+    /// ```
+    /// use sec1::EcPublicKey;
+    ///
+    /// assert!(EcPublicKey::from_pem("-----BEGIN PUBLIC KEY-----", &mut [0; 60]).is_err());
+    /// ```
+    pub fn from_pem(text: &str, room: &'a mut [u8]) -> Result<Self> {
+        Self::from_der(pem::decode(text, &[pem::PUBLIC_KEY], room)?.1)
+    }
+
+    /// Returns the key in PEM, with the label PUBLIC KEY.
+    ///
+    /// # Errors
+    ///
+    /// Those of [`to_der`](Self::to_der).
+    ///
+    /// # Examples
+    ///
+    /// ```
+    /// use sec1::{Curve, EcPublicKey, LineEnding};
+    ///
+    /// let curve = Curve::new("P-256")?.identifier();
+    /// let text = EcPublicKey { curve, public_key: &[2; 33] }.to_pem(LineEnding::LF)?;
+    /// assert_eq!(text.lines().count(), 4);
+    /// # Ok::<(), sec1::Error>(())
+    /// ```
+    #[cfg(feature = "pem")]
+    pub fn to_pem(&self, line_ending: LineEnding) -> Result<String> {
+        Ok(core::mem::take(&mut *pem::encode(pem::PUBLIC_KEY, &self.to_der()?, line_ending)?))
     }
 
     /// Returns the point. One in hybrid form is read by [`HybridPoint`](crate::point::HybridPoint)

@@ -11,6 +11,10 @@ use core::num::NonZeroU32;
 use core::sync::atomic::{Ordering as Fence, compiler_fence};
 use sec1_sys::*;
 
+#[cfg(feature = "alloc")]
+use crate::picture::DrawOptions;
+#[cfg(feature = "alloc")]
+pub(crate) use sec1_sys::sec1_picture_line as PictureLine;
 pub(crate) use sec1_sys::{sec1_key_parts as KeyParts, sec1_part as Part};
 pub(crate) use sec1_sys::{
     sec1_public_key_parts as PublicKeyParts, sec1_signature_parts as SignatureParts,
@@ -515,20 +519,25 @@ pub(crate) fn document_len(bytes: &[u8]) -> Result<usize, Status> {
 ///
 /// The refusal, and the length of the picture.
 #[cfg(feature = "alloc")]
-pub(crate) fn picture_draw(
+pub(crate) fn picture_write(
     input: &[u8],
-    all: bool,
+    options: DrawOptions,
     room: &mut [u8],
     text: &mut [u8],
 ) -> Result<(usize, bool), (Status, usize)> {
     let (mut len, mut is_key) = (0, 0);
-    // SAFETY: each pointer and length are of one slice, `room` and `text` are borrowed by `&mut`,
-    // and `len` and `is_key` are places of this function.
+    // SAFETY: each pointer and length are of one slice, but NULL and 0, `room` and `text` are borrowed
+    // by `&mut`, and `len` and `is_key` are places of this function.
     let status = unsafe {
-        sec1_picture_draw(
+        sec1_picture_write(
             input.as_ptr(),
             input.len(),
-            usize::from(all),
+            usize::from(options.all),
+            0,
+            options.levels,
+            options.offset,
+            core::ptr::null(),
+            0,
             room.as_mut_ptr(),
             room.len(),
             text.as_mut_ptr(),
@@ -538,6 +547,57 @@ pub(crate) fn picture_draw(
         )
     };
     answer(status, (len, is_key == 1)).map_err(|status| (status, len))
+}
+
+/// Stores what each line of the picture of an input is of, as many as there is room for, and returns
+/// their number. What is decoded is written into `room`.
+#[cfg(feature = "alloc")]
+pub(crate) fn picture_lines(
+    input: &[u8],
+    room: &mut [u8],
+    lines: &mut [PictureLine],
+) -> Result<usize, Status> {
+    let mut count = 0;
+    // SAFETY: each pointer and length are of one slice, `room` and `lines` are borrowed by `&mut`,
+    // and `count` is a place of this function.
+    let status = unsafe {
+        sec1_picture_lines(
+            input.as_ptr(),
+            input.len(),
+            room.as_mut_ptr(),
+            room.len(),
+            lines.as_mut_ptr(),
+            lines.len(),
+            &mut count,
+        )
+    };
+    answer(status, count)
+}
+
+/// Decodes the first block of PEM with this label in a text into the beginning of `room`, and
+/// returns the length of that and the number of the block's first line, or the refusal and that
+/// number, which is 0 if there is no such block.
+pub(crate) fn pem_decode(
+    text: &str,
+    label: &str,
+    room: &mut [u8],
+) -> Result<(usize, usize), (Status, usize)> {
+    let (mut len, mut line) = (0, 0);
+    // SAFETY: each pointer and length are of one slice, `room` is borrowed by `&mut`, and `len` and
+    // `line` are places of this function.
+    let status = unsafe {
+        sec1_pem_decode(
+            text.as_ptr(),
+            text.len(),
+            label.as_ptr(),
+            label.len(),
+            room.as_mut_ptr(),
+            room.len(),
+            &mut len,
+            &mut line,
+        )
+    };
+    answer(status, (len, line)).map_err(|status| (status, line))
 }
 
 /// Writes the text of a status and a byte 0, and returns the length of both.

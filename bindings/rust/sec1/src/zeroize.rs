@@ -14,7 +14,7 @@ use crate::EncodedPoint;
 use crate::point::ModulusSize;
 use crate::raw;
 #[cfg(feature = "alloc")]
-use alloc::vec::Vec;
+use alloc::{string::String, vec::Vec};
 use core::fmt;
 use core::ops::{Deref, DerefMut};
 
@@ -49,6 +49,32 @@ pub trait Zeroize {
     fn zeroize(&mut self);
 }
 
+/// A type whose values are overwritten when they are dropped.
+///
+/// # Examples
+///
+/// ```
+/// use sec1::zeroize::{ZeroizeOnDrop, Zeroizing};
+///
+/// fn keep<T: ZeroizeOnDrop>(secret: T) -> T {
+///     secret
+/// }
+///
+/// assert_eq!(*keep(Zeroizing::new([7_u8; 2])), [7, 7]);
+/// ```
+pub trait ZeroizeOnDrop {}
+
+impl<Z: Zeroize> ZeroizeOnDrop for Zeroizing<Z> {}
+
+impl<Z: Zeroize> Zeroize for Zeroizing<Z> {
+    fn zeroize(&mut self) {
+        self.0.zeroize();
+    }
+}
+
+#[cfg(feature = "alloc")]
+impl ZeroizeOnDrop for crate::der::SecretDocument {}
+
 impl Zeroize for [u8] {
     fn zeroize(&mut self) {
         raw::wipe(self);
@@ -70,6 +96,14 @@ impl Zeroize for Vec<u8> {
         self.resize(capacity, 0);
         raw::wipe(self);
         self.clear();
+    }
+}
+
+/// As of a vector.
+#[cfg(feature = "alloc")]
+impl Zeroize for String {
+    fn zeroize(&mut self) {
+        core::mem::take(self).into_bytes().zeroize();
     }
 }
 

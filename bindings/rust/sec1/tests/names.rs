@@ -1,7 +1,7 @@
 //! The public names of `sec1` 0.8.1, and those of `der` 0.8, `subtle` 2.6, `const_oid` 0.10,
 //! `hybrid_array` 0.4 and `zeroize` 1.8 that a program reaches by its signatures. Each is used here,
 //! or stands between backquotes in the first column of the README's table of what is left out.
-#![cfg(feature = "std")]
+#![cfg(all(feature = "std", feature = "pem"))]
 
 use core::fmt::{Debug, Display, LowerHex, UpperHex};
 use core::hash::Hash;
@@ -13,10 +13,13 @@ use sec1::der::asn1::{AnyRef, BitStringRef, ObjectIdentifier, OctetStringRef};
 use sec1::der::oid::{AssociatedOid, DynAssociatedOid};
 use sec1::der::{self, Decode, DecodeValue, Encode, EncodeValue, FixedTag, Header, Length, Reader};
 use sec1::der::{SecretDocument, Sequence, SliceReader, SliceWriter, Tagged, Writer};
+use sec1::pem::PemLabel;
 use sec1::point::{Coordinates, ModulusSize, Tag};
 use sec1::subtle::{Choice, ConditionallySelectable, ConstantTimeEq};
-use sec1::zeroize::{Zeroize, Zeroizing};
-use sec1::{DecodeEcPrivateKey, EcParameters, EcPrivateKey, EncodeEcPrivateKey, EncodedPoint};
+use sec1::zeroize::{Zeroize, ZeroizeOnDrop, Zeroizing};
+use sec1::{
+    DecodeEcPrivateKey, EcParameters, EcPrivateKey, EncodeEcPrivateKey, EncodedPoint, LineEnding,
+};
 
 type Point = EncodedPoint<U32>;
 type Bytes = Array<u8, U32>;
@@ -76,7 +79,7 @@ fn of_sec1() -> Vec<&'static str> {
         value!(sec1::Error::Crypto),
         value!(sec1::Error::PointEncoding),
         value!(sec1::Error::Version),
-        has!(sec1::Error: core::error::Error + Clone + Eq + Debug + Display + From<der::Error>),
+        has!(sec1::Error: core::error::Error + Copy + Eq + Debug + Display + From<der::Error>),
         kind!(sec1::Result<u8>),
         kind!(EcPrivateKey<'_>),
         value!(|key: &EcPrivateKey<'static>| key.private_key),
@@ -89,6 +92,8 @@ fn of_sec1() -> Vec<&'static str> {
         value!(EcParameters::named_curve),
         has!(EcParameters: Clone + Copy + Debug + Eq + FixedTag + From<ObjectIdentifier>),
         has!(EcParameters: DecodeValue<'static> + EncodeValue),
+        has!(AnyRef<'static>: From<&'static EcParameters> + Copy + Debug + Eq),
+        has!(SecretDocument: TryFrom<EcPrivateKey<'static>> + TryFrom<&'static EcPrivateKey<'static>>),
         value!(<Own as DecodeEcPrivateKey>::from_sec1_der),
         value!(|path: &str| Own::read_sec1_der_file(path)),
         value!(<Own as EncodeEcPrivateKey>::to_sec1_der),
@@ -109,7 +114,7 @@ fn of_sec1() -> Vec<&'static str> {
         value!(Point::coordinates),
         value!(Point::x),
         value!(Point::y),
-        has!(Point: Copy + Debug + Display + Eq + Hash + LowerHex + Ord + UpperHex + FromStr),
+        has!(Point: Copy + Debug + Default + Display + Eq + Hash + LowerHex + Ord + UpperHex + FromStr),
         has!(Point: AsRef<[u8]> + TryFrom<&'static [u8]> + ConditionallySelectable + Zeroize),
         has!(U66: ModulusSize),
         kind!(<U32 as ModulusSize>::CompressedPointSize),
@@ -121,6 +126,7 @@ fn of_sec1() -> Vec<&'static str> {
         value!(Coordinates::<U32>::Identity),
         value!(|x: &'static Bytes| Coordinates::Uncompressed { x, y: x }),
         value!(Coordinates::<U32>::tag),
+        has!(Coordinates<'static, U32>: Copy + Debug + Eq),
         value!([Tag::Identity, Tag::Compact, Tag::Uncompressed]),
         value!([Tag::CompressedEvenY, Tag::CompressedOddY]),
         value!(Tag::from_u8),
@@ -130,6 +136,15 @@ fn of_sec1() -> Vec<&'static str> {
         value!(Tag::message_len),
         has!(Tag: Copy + Debug + Eq + TryFrom<u8> + Into<u8>),
         kind!(consts::U48),
+        kind!(LineEnding),
+        value!([LineEnding::CR, LineEnding::LF, LineEnding::CRLF]),
+        has!(LineEnding: Copy + Debug + Default + Eq),
+        value!(<EcPrivateKey<'_> as PemLabel>::PEM_LABEL),
+        value!(<EcPrivateKey<'_> as PemLabel>::validate_pem_label),
+        value!(<Own as DecodeEcPrivateKey>::from_sec1_pem),
+        value!(|path: &str| Own::read_sec1_pem_file(path)),
+        value!(<Own as EncodeEcPrivateKey>::to_sec1_pem),
+        value!(|path: &str| Own.write_sec1_pem_file(path, LineEnding::LF)),
     ]
 }
 
@@ -215,7 +230,11 @@ fn of_der() -> Vec<&'static str> {
         value!(SecretDocument::decode_msg::<u8>),
         value!(|path: &str| SecretDocument::read_der_file(path)),
         value!(|it: &SecretDocument, path: &str| it.write_der_file(path)),
-        has!(SecretDocument: AsRef<[u8]> + Clone + Debug + TryFrom<Vec<u8>>),
+        value!(|text: &'static str| SecretDocument::from_pem(text)),
+        value!(|it: &SecretDocument| it.to_pem("A", LineEnding::LF)),
+        value!(|path: &str| SecretDocument::read_pem_file(path)),
+        value!(|it: &SecretDocument, path: &str| it.write_pem_file(path, "A", LineEnding::LF)),
+        has!(SecretDocument: AsRef<[u8]> + Clone + Debug + TryFrom<Vec<u8>> + ZeroizeOnDrop),
         value!(AnyRef::new),
         value!(AnyRef::tag),
         value!(AnyRef::value),
@@ -269,19 +288,17 @@ fn of_others() -> Vec<&'static str> {
         has!(&'static Bytes: IntoIterator + TryFrom<&'static [u8]> + From<&'static [u8; 32]>),
         has!(&'static mut Bytes: IntoIterator + TryFrom<&'static mut [u8]>),
         value!(<[u8; 2] as Zeroize>::zeroize),
+        has!(Zeroizing<[u8; 2]>: Zeroize + ZeroizeOnDrop),
         value!(Zeroizing::<Vec<u8>>::new),
         has!(Zeroizing<Vec<u8>>: Clone + core::ops::Deref + core::ops::DerefMut + From<Vec<u8>>),
     ]
 }
 
 /// The names that are left out, as the README's table has them.
-const LEFT_OUT: [&str; 40] = [
-    "pem",
-    "LineEnding",
-    "from_sec1_pem",
-    "read_sec1_pem_file",
-    "to_sec1_pem",
-    "write_sec1_pem_file",
+const LEFT_OUT: [&str; 39] = [
+    "pem::Error",
+    "DecodePem",
+    "EncodePem",
     "serde",
     "ctutils",
     "ErrorKind::FileNotFound",
@@ -314,7 +331,9 @@ const LEFT_OUT: [&str; 40] = [
     "Tag::ContextSpecific { .. }",
     "Tag::number",
     "Array::concat",
+    "Array::from_slice",
     "Array::split",
+    "FromIterator",
     "ObjectIdentifier::push_arc",
 ];
 
@@ -334,5 +353,5 @@ fn each_name_is_here_or_in_the_table() {
         assert!(rows.iter().any(|row| row.contains(&quoted)), "{name} is neither here nor there");
     }
     println!("{} names are used, {} are left out", used.len(), LEFT_OUT.len());
-    assert!(used.len() >= 170, "{} names", used.len());
+    assert!(used.len() >= 206, "{} names", used.len());
 }

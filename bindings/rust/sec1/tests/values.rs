@@ -4,13 +4,14 @@
 #![allow(clippy::unwrap_used, clippy::indexing_slicing, clippy::arithmetic_side_effects)]
 
 use sec1::consts::{U2, U32};
-use sec1::der::asn1::{AnyRef, BitStringRef, ObjectIdentifier};
+use sec1::der::SecretDocument;
+use sec1::der::asn1::{AnyRef, BitStringRef, ObjectIdentifier, OctetStringRef};
 use sec1::der::{
     Choice, Decode, DecodeValue, Element, Encode, EncodeValue, ErrorKind, FixedTag, Header, Length,
     Reader, Result, Sequence, SliceReader, SliceWriter, Tag, Tagged, Writer,
 };
 use sec1::subtle::{self, ConstantTimeEq};
-use sec1::zeroize::Zeroize;
+use sec1::zeroize::{Zeroize, Zeroizing};
 use sec1::{ALGORITHM_OID, Array, Curve, EcParameters, EcPrivateKey};
 
 mod support;
@@ -507,6 +508,9 @@ fn values_are_wiped() {
     bytes.zeroize();
     vector.zeroize();
     assert_eq!((bytes, vector), ([0; 3], vec![]));
+    let mut kept = Zeroizing::new([7, 8]);
+    Zeroize::zeroize(&mut kept);
+    assert_eq!(*kept, [0, 0]);
 }
 
 #[test]
@@ -565,6 +569,13 @@ fn values_that_differ_in_one_part_differ() {
     all_differ(&[bits(0, &[8]), bits(1, &[8]), bits(0, &[0]), bits(0, &[8, 8])]);
     let pictures = [&[2, 1, 1], &[2, 1, 2], &[5, 1, 1]];
     all_differ(&pictures.map(|bytes| sec1::draw(bytes, true)));
+    let none = sec1::DrawOptions::default();
+    let [all, levels, offset] = [
+        sec1::DrawOptions { all: true, ..none },
+        sec1::DrawOptions { levels: 1, ..none },
+        sec1::DrawOptions { offset: 1, ..none },
+    ];
+    all_differ(&[none, all, levels, offset]);
 }
 
 #[test]
@@ -584,4 +595,29 @@ fn identifiers_are_ordered_by_their_contents() {
     assert!(long.cmp(&short).is_lt() && short.cmp(&long).is_gt() && long.cmp(&long).is_eq());
     assert!(long < short);
     assert!(ObjectIdentifier::from_bytes(&[0x2A]).unwrap() < long);
+}
+
+/// Nothing that holds a private key prints a byte of it.
+#[test]
+fn what_holds_a_key_is_printed_without_it() -> Result<(), sec1::Error> {
+    let secret = [0xA5; 8];
+    let key = EcPrivateKey { private_key: &secret, parameters: None, public_key: None };
+    let document = SecretDocument::try_from(&key)?;
+    let der = document.as_bytes();
+    let texts = [
+        format!("{key:?} {key:#?}"),
+        format!("{document:?} {document:#?}"),
+        format!("{:?} {:#?}", document.to_bytes(), Zeroizing::new(secret)),
+        format!("{:?} {:#?}", Element::read(der)?, AnyRef::from_der(der)?),
+        format!("{:?} {:#?}", OctetStringRef::new(&secret)?, BitStringRef::new(0, &secret)?),
+        #[cfg(feature = "pem")]
+        format!("{:?}", document.to_pem("A", sec1::LineEnding::LF)?),
+        format!("{:?}", sec1::draw(der, false)),
+        format!("{:?}", EcPrivateKey::try_from(&der[1..]).map(|_| ())),
+    ];
+    for text in texts {
+        let shown = ["165", "a5", "A5", "paWl"].iter().find(|part| text.contains(*part));
+        assert_eq!(shown, None, "{text}");
+    }
+    Ok(())
 }

@@ -1,19 +1,22 @@
-//! A document, and what a picture decodes, are wiped before their memory is given back.
-#![cfg(feature = "std")]
+//! Documents, texts in PEM, and what is decoded, are wiped before their memory is given back.
+#![cfg(all(feature = "std", feature = "pem"))]
 #![allow(clippy::unwrap_used)]
 
 use sec1::der::SecretDocument;
-use sec1::{EcPrivateKey, draw};
+use sec1::{EcPrivateKey, LineEnding, draw};
 use std::alloc::{GlobalAlloc, Layout, System};
 use std::sync::atomic::{AtomicUsize, Ordering};
 
 /// A byte that no other memory of the test holds: it is in no text and in no header.
 const BYTE: u8 = 0xF5;
 const SECRET: [u8; 32] = [BYTE; 32];
+/// Three of them in base64.
+const DIGITS: &[u8] = b"9fX1";
 
 static FREED: AtomicUsize = AtomicUsize::new(0);
 
-/// The allocator of the system, which counts the blocks that hold a byte of the secret when they are freed.
+/// The allocator of the system, which counts the blocks that hold a part of the secret when they are
+/// freed.
 struct Watching;
 
 // SAFETY: each call is that of the system's allocator. A block is read before it is freed, and only
@@ -27,7 +30,7 @@ unsafe impl GlobalAlloc for Watching {
     unsafe fn dealloc(&self, block: *mut u8, layout: Layout) {
         // SAFETY: the block has this size, and was zeroed when it was allocated.
         let bytes = unsafe { std::slice::from_raw_parts(block, layout.size()) };
-        if bytes.contains(&BYTE) {
+        if bytes.contains(&BYTE) || bytes.windows(4).any(|it| it == DIGITS) {
             FREED.fetch_add(1, Ordering::SeqCst);
         }
         // SAFETY: as the caller promises.
@@ -75,6 +78,23 @@ fn secrets_are_wiped() {
     assert_eq!(read(whole.split_last().unwrap().1), 0);
     // One of which the bytes that are read first have a part of the secret.
     assert_eq!(read(&[&[4, 32], &SECRET[..]].concat()), 0);
+    std::fs::remove_file(&path).unwrap();
+    // One in PEM, whole, cut, and in a file that grows while it is read.
+    let text = document.to_pem("EC PRIVATE KEY", LineEnding::LF).unwrap().to_string();
+    assert_eq!(freed(|| drop(text.clone())), 1, "the allocator watches");
+    assert_eq!(freed(|| drop(document.to_pem("A", LineEnding::CRLF))), 0);
+    assert_eq!(freed(|| drop(key.to_pem(LineEnding::LF))), 0);
+    assert_eq!(freed(|| drop(SecretDocument::from_pem(&text))), 0);
+    assert_eq!(freed(|| drop(SecretDocument::from_pem(&text[..text.len() - 9]))), 0);
+    for words in [0, 5000, 20_000] {
+        std::fs::write(&path, format!("{}\n{text}{}", "a".repeat(words), "b".repeat(words)))
+            .unwrap();
+        assert_eq!(freed(|| drop(SecretDocument::read_pem_file(&path).unwrap())), 0);
+    }
+    std::fs::write(&path, format!("{text}\0")).unwrap();
+    assert_eq!(freed(|| assert!(SecretDocument::read_pem_file(&path).is_err())), 0);
+    std::fs::write(&path, [text.as_bytes(), b"\xFF"].concat()).unwrap();
+    assert_eq!(freed(|| assert!(SecretDocument::read_pem_file(&path).is_err())), 0);
     std::fs::remove_file(&path).unwrap();
     // Copies have memory of their own.
     assert_eq!(freed(|| drop(document.to_bytes())), 0);

@@ -60,6 +60,9 @@ pub enum ErrorKind {
     Curve,
     /// A private key names another curve than its container.
     OtherCurve,
+    /// A text has no block of PEM with the label, or the first one has headers, no last line, or a
+    /// body that isn't base64.
+    Pem,
     /// The library returned what its contract rules out.
     Failed,
     /// The memory for the result couldn't be allocated.
@@ -70,7 +73,7 @@ pub enum ErrorKind {
 }
 
 /// The kinds that are statuses of the library.
-const STATUSES: [(u32, ErrorKind); 10] = [
+const STATUSES: [(u32, ErrorKind); 11] = [
     (sec1_sys::SEC1_TRUNCATED, ErrorKind::Truncated),
     (sec1_sys::SEC1_TAG, ErrorKind::Tag),
     (sec1_sys::SEC1_LENGTH, ErrorKind::Length),
@@ -81,6 +84,7 @@ const STATUSES: [(u32, ErrorKind); 10] = [
     (sec1_sys::SEC1_DEPTH, ErrorKind::Depth),
     (sec1_sys::SEC1_CURVE, ErrorKind::Curve),
     (sec1_sys::SEC1_OTHER_CURVE, ErrorKind::OtherCurve),
+    (sec1_sys::SEC1_PEM, ErrorKind::Pem),
 ];
 
 impl Error {
