@@ -6,7 +6,7 @@ import { List } from './list.js';
 const [WIDE, NARROW] = [16, 8];
 const LITTLE = matchMedia('(max-width: 40rem)');
 /** About the height of a line in pixels, and up to how many lines all are made. */
-const [LINE, FEW] = [20, 64];
+const [LINE, FEW] = [18, 64];
 /** What stands in the place of a private byte. */
 const VEIL = '\u00b7\u00b7';
 
@@ -21,6 +21,7 @@ export class Dump {
   #item = null;
   #end = 0;
   #bytes = null;
+  #isShown = false;
 
   /** The bytes in a box, with a line above it that says where the selected row is. */
   constructor(where, box) {
@@ -36,12 +37,16 @@ export class Dump {
   draw(picture, item, table) {
     const bytes = picture.bytes(item);
     const isOther = picture !== this.#picture || bytes !== this.#bytes;
+    const isShown = table.isShown(item);
+    const isTurned = !isOther && item.index === this.#item.index && isShown !== this.#isShown;
+    this.#isShown = isShown;
     [this.#picture, this.#item, this.#table, this.#bytes] = [picture, item, table, bytes];
     this.#end = picture.endOf(item);
     this.#where.textContent = this.#words();
     if (isOther) this.#list.set(this.#lines);
     else this.#list.renew();
-    if (bytes.length && item.kind === Kind.ROW) {
+    // Where its bytes are shown or hidden, what is in sight stays.
+    if (!isTurned && bytes.length && item.kind === Kind.ROW) {
       this.#list.show(Math.floor(Math.min(item.offset, bytes.length - 1) / this.#width));
     }
   }

@@ -30,8 +30,9 @@ export class List {
     new ResizeObserver(() => this.#draw()).observe(box);
   }
 
-  /** Shows so many items, from the first on. */
-  set(count) {
+  /** Shows so many items, from the first on or from where it was scrolled to. */
+  set(count, isKept = false) {
+    const { scrollTop } = this.#box;
     this.#count = count;
     this.#made.clear();
     this.#items.replaceChildren();
@@ -42,7 +43,7 @@ export class List {
       sight.append(this.#items);
       this.#room.style.height = `${Math.min(count * this.#height, HIGHEST)}px`;
       this.#box.replaceChildren(sight, this.#room);
-      this.#box.scrollTop = 0;
+      this.#box.scrollTop = isKept ? scrollTop : 0;
     } else {
       this.#box.replaceChildren(this.#items);
     }

@@ -1,9 +1,18 @@
 // What the library says of an input: the lines of its picture, what each is of, and the bytes.
-import { Kind, NUMBERS, picture } from './library.js';
+import { Kind, NUMBERS } from './library.js';
+import { hexOf, lettered, numberOf, stringOf } from './letters.js';
 
 /** The places of a line's numbers. */
-const [KIND, OFFSET, , CONTENT, DEPTH] = [0, 1, 2, 3, 4];
+const [KIND, OFFSET, DEPTH] = [0, 1, 4];
 const CODE = new TextDecoder();
+/** What is said of a private field. */
+const NOT_SHOWN = ', not shown';
+/** The end of a line that was too long. */
+const CUT = '...';
+/** Up to how many bytes a public text stands in its line, and whole in its row. */
+const [SAID, WHOLE] = [255, 4096];
+/** The type of a string that is cut off in its line, and of one that isn't in it. */
+const [PART_SAID, UNSAID] = [/^[^"]*(?= ".*\.\.\.$)/, /^\w+String(?=, )/];
 
 /** Returns the last index below a count for which this holds, if it holds for each before it. */
 function lastOf(count, holds) {
@@ -34,94 +43,87 @@ function columnsOf(line, header) {
 
 /** A picture. What is walked through are its items: its rows, and the headings before parts. */
 export class Picture {
-  #text;
-  #numbers;
-  #bytes;
-  #starts;
-  #items;
-  #parts = [];
+  #found;
+  #parts;
 
-  /** The picture of an input. The bytes that it is of are the input or were decoded from it. */
-  constructor(input) {
-    const { status, text, numbers, decoded } = picture(input, true);
-    if (status) throw new Error(`the library broke its contract: ${status}`);
-    const bytes = decoded ?? input.slice();
-    [this.#text, this.#numbers, this.#bytes] = [text, numbers, bytes];
-    const count = numbers.length / NUMBERS;
-    this.#starts = new Uint32Array(count + 1);
-    for (let line = 0; line < count; line += 1) {
-      this.#starts[line + 1] = text.indexOf(10, this.#starts[line]) + 1;
-    }
-    this.#items = this.#find(count);
-  }
-
-  /** Finds the parts, and returns the lines of the items. */
-  #find(count) {
-    const items = new Uint32Array(count);
-    const isHeadingAt = (line) => this.#kind(line) === Kind.HEADING;
-    let found = 0;
-    let headings = 0;
-    for (let line = 0; line < count; line += 1) headings += Number(isHeadingAt(line));
-    for (let line = 0; line < count; line += 1) {
-      const isHeading = isHeadingAt(line);
-      if (isHeading || line === 0) {
-        const [begin, length] = isHeading
-          ? [this.#number(line, OFFSET), this.#number(line, CONTENT)] : [0, this.#bytes.length];
-        const bytes = this.#bytes.subarray(begin, begin + length);
-        this.#parts.push({ first: found, line, bytes });
-      }
-      if (this.#kind(line) === Kind.ROW || (isHeading && headings > 1)) {
-        items[found] = line;
-        found += 1;
-      }
-    }
-    return items.subarray(0, found);
+  /** The picture that the worker has found. */
+  constructor(found) {
+    this.#found = found;
+    this.#parts = found.parts.map(({ begin, size, ...part }) => (
+      { ...part, bytes: found.bytes.subarray(begin, begin + size) }));
   }
 
   /** The number of items. */
   get count() {
-    return this.#items.length;
+    return this.#found.items.length;
   }
 
-  /** All lines, as the program prints them. */
+  /** The number of bytes of its text. */
+  get length() {
+    return this.#found.text.length;
+  }
+
+  /** All lines: without private contents, as the program prints them. */
   get text() {
-    return CODE.decode(this.#text);
+    return CODE.decode(this.#found.text);
+  }
+
+  /** The input that it is of. */
+  get input() {
+    return this.#found.input;
+  }
+
+  /** How many bytes aren't drawn, which may have rows. */
+  get undrawn() {
+    return this.#found.undrawn;
   }
 
   /** What is said of each part: the lines that aren't rows or marks, by kind. */
   get said() {
     const lines = [];
-    for (let line = 0; line + 1 < this.#starts.length; line += 1) {
-      const kind = this.#kind(line);
-      if (kind !== Kind.ROW && kind !== Kind.MARK) lines.push({ kind, line: this.#line(line) });
+    // Rows and their marks are jumped over, part by part.
+    for (let part = 0; part < this.#parts.length; part += 1) {
+      const last = this.#parts[part + 1]?.line ?? this.#found.starts.length - 1;
+      const item = this.#after(part) - 1;
+      const first = this.#parts[part].line;
+      if (this.#kind(first) === Kind.HEADING) lines.push(first);
+      const from = item >= this.#parts[part].first ? this.#found.items[item] : first;
+      for (let line = from; line < last; line += 1) lines.push(line);
     }
-    return lines;
+    const isSaid = (line) => ![Kind.ROW, Kind.MARK].includes(this.#kind(line));
+    return [...new Set(lines)].filter(isSaid)
+      .map((line) => ({ kind: this.#kind(line), line: this.#line(line) }));
   }
 
   /** Returns an item. */
   item(index) {
-    const from = this.#items[index] * NUMBERS;
-    const [kind, offset, header, content, depth, isPrivate] =
-      this.#numbers.subarray(from, from + NUMBERS);
+    const from = this.#found.items[index] * NUMBERS;
+    const [kind, offset, header, content, depth, isHidden] =
+      this.#found.numbers.subarray(from, from + NUMBERS);
     return {
       index, kind, offset, header, content, depth,
       part: lastOf(this.#parts.length, (it) => this.#parts[it].first <= index),
-      isPrivate: isPrivate === 1 && content > 0,
+      isPrivate: isHidden === 1,
+      hasInside: this.#found.afters[index] > index + 1,
       start: offset + header,
       end: offset + header + content,
     };
   }
 
   /** Returns the texts of an item's columns; of a heading its line alone. */
-  columns(item) {
-    const line = this.#line(this.#items[item.index]);
-    return item.kind === Kind.ROW ? columnsOf(line, item.header) : [line];
+  columns(item, isShown = false) {
+    const line = this.#line(this.#found.items[item.index]);
+    if (item.kind !== Kind.ROW) return [line];
+    const columns = columnsOf(line, item.header);
+    columns[3] = this.#words(item, columns[3]);
+    if (isShown) columns[4] = columns[4].replace(NOT_SHOWN, '');
+    return columns;
   }
 
   /** Returns the marks below an item. */
   marks(item) {
     const marks = [];
-    let line = this.#items[item.index] + 1;
+    let line = this.#found.items[item.index] + 1;
     while (this.#kind(line) === Kind.MARK) {
       marks.push(this.#line(line).trim());
       line += 1;
@@ -132,6 +134,30 @@ export class Picture {
   /** Returns the bytes that an item's part is of. */
   bytes(item) {
     return this.#parts[item.part].bytes;
+  }
+
+  /** Returns the bytes of an item's own content. */
+  content(item) {
+    return this.bytes(item).subarray(item.start, item.end);
+  }
+
+  /** Returns what an item's content says, and of a long number its decimal form too. It has to be
+   * one that is shown. */
+  value(item) {
+    if (item.kind !== Kind.ROW || item.content === 0) return null;
+    const [content, tag] = [this.content(item), this.bytes(item)[item.offset]];
+    if (item.header && (tag === 2 || tag === 10)) {
+      const { hex, decimal } = numberOf(content);
+      const isLong = content.length > 8 && hex;
+      return isLong ? { text: hex, more: decimal } : { text: decimal || hex, more: '' };
+    }
+    const string = item.header ? stringOf(tag, content) : null;
+    if (string !== null) return { text: string, more: '' };
+    const words = this.columns(item)[3];
+    const value = /^(?:OBJECT IDENTIFIER|BOOLEAN|UTCTime|GeneralizedTime) ([^"]+)$/.exec(words) ??
+      /"(.*)"$/.exec(words);
+    if (value && !words.endsWith(CUT)) return { text: value[1], more: '' };
+    return { text: hexOf(content, ':'), more: '' };
   }
 
   /** Returns the heading of an item's part, or a text without characters. */
@@ -147,11 +173,14 @@ export class Picture {
     return this.item(begins + lastOf(count, (it) => this.#offset(begins + it) <= offset));
   }
 
+  /** Returns the index of the first item after an item and all that is inside it. */
+  after(index) {
+    return this.#found.afters[index];
+  }
+
   /** Returns where an item ends, with all that is inside it. */
   endOf(item) {
-    let index = item.index + 1;
-    while (index < this.#after(item.part) && this.#depth(index) > item.depth) index += 1;
-    return this.item(index - 1).end;
+    return this.item(this.after(item.index) - 1).end;
   }
 
   /** Returns the index of the item that this one is inside, or of itself. */
@@ -161,15 +190,31 @@ export class Picture {
     return this.#depth(index) < item.depth ? index : item.index;
   }
 
-  /** Overwrites all bytes. */
-  wipe() {
-    for (const array of [this.#text, this.#numbers, this.#bytes]) array.fill(0);
+  /** Returns the lines of some items, and of all between them, as one text. */
+  lines(first, last) {
+    const { items, starts, text } = this.#found;
+    const end = last < this.count ? items[last] : starts.length - 1;
+    return lettered(CODE.decode(text.subarray(starts[items[first]], starts[end])));
+  }
+
+  /** What it was made of. */
+  get found() {
+    return this.#found;
+  }
+
+  /** Returns the words of a row's element: with letters, and a public text whole. */
+  #words(item, words) {
+    const [type] = (item.content > SAID ? UNSAID : PART_SAID).exec(words) ?? [''];
+    if (!type || item.isPrivate || item.content > WHOLE) return lettered(words);
+    const tag = this.bytes(item)[item.offset];
+    const string = stringOf(tag >= 128 ? 22 : tag, this.content(item));
+    return string === null ? lettered(words) : `${type} "${string}"`;
   }
 
   /** The index of the first row of a part. */
   #rowsOf(part) {
     const { first } = this.#parts[part];
-    return this.#kind(this.#items[first]) === Kind.ROW ? first : first + 1;
+    return this.#kind(this.#found.items[first]) === Kind.ROW ? first : first + 1;
   }
 
   /** The index of the first item after a part. */
@@ -178,11 +223,11 @@ export class Picture {
   }
 
   #offset(index) {
-    return this.#number(this.#items[index], OFFSET);
+    return this.#number(this.#found.items[index], OFFSET);
   }
 
   #depth(index) {
-    return this.#number(this.#items[index], DEPTH);
+    return this.#number(this.#found.items[index], DEPTH);
   }
 
   #kind(line) {
@@ -190,10 +235,11 @@ export class Picture {
   }
 
   #number(line, which) {
-    return this.#numbers[line * NUMBERS + which];
+    return this.#found.numbers[line * NUMBERS + which];
   }
 
   #line(line) {
-    return CODE.decode(this.#text.subarray(this.#starts[line], this.#starts[line + 1] - 1));
+    const { text, starts } = this.#found;
+    return CODE.decode(text.subarray(starts[line], starts[line + 1] - 1));
   }
 }

@@ -1,9 +1,10 @@
 // The table of rows, which is walked by keys.
+import { Folds } from './folds.js';
 import { Kind } from './library.js';
 import { List } from './list.js';
 
 /** About the height of a row in pixels. */
-const ROW = 24;
+const ROW = 25;
 
 /** Returns a new element of a class, with a text. */
 function made(name, className, text = '') {
@@ -18,6 +19,7 @@ export class Table {
   #body;
   #list;
   #picture = null;
+  #folds = null;
   #current = 0;
   #shown = new Set();
   #onChange;
@@ -27,15 +29,17 @@ export class Table {
     this.#box = box;
     this.#onChange = onChange;
     this.#body = list;
-    this.#list = new List(list, ROW, (index) => this.#row(index), { drawn: () => this.#drawn() });
+    this.#list = new List(list, ROW, (place) => this.#row(this.#folds.item(place)), {
+      drawn: () => this.#drawn(),
+    });
     list.addEventListener('click', (event) => this.#click(event));
     list.addEventListener('keydown', (event) => this.#key(event));
   }
 
-  /** Shows the rows of a picture, and selects the first. */
+  /** Shows the rows of a picture where none are, and selects the first. */
   draw(picture) {
     this.#picture = picture;
-    this.#shown.clear();
+    this.#folds = new Folds(picture);
     this.#current = 0;
     this.#box.setAttribute('aria-rowcount', String(picture.count + 1));
     this.#list.set(picture.count);
@@ -44,9 +48,14 @@ export class Table {
 
   /** Shows no rows. */
   clear() {
-    this.#picture = null;
+    [this.#picture, this.#folds] = [null, null];
     this.#shown.clear();
     this.#list.set(0);
+  }
+
+  /** The index of the selected item. */
+  get current() {
+    return this.#current;
   }
 
   /** Puts the focus on the selected row. */
@@ -58,11 +67,12 @@ export class Table {
   select(index, focus = true) {
     const last = this.#current;
     this.#current = index;
+    if (this.#folds.reveal(index)) this.#list.set(this.#folds.count, true);
     for (const it of [last, index]) {
-      const element = this.#list.element(it);
+      const element = this.#element(it);
       if (element) this.#tell(element, it);
     }
-    const element = this.#list.show(index);
+    const element = this.#list.show(this.#folds.place(index));
     this.#tell(element, index);
     if (focus) {
       element.focus({ preventScroll: true });
@@ -76,9 +86,15 @@ export class Table {
     return this.#shown.has(item.index);
   }
 
+  /** Returns the element of an item, if it is made. */
+  #element(index) {
+    const place = this.#folds.place(index);
+    return this.#folds.item(place) === index ? this.#list.element(place) : undefined;
+  }
+
   /** Keeps keys going to the table where the selected row is out of sight. */
   #drawn() {
-    const element = this.#list.element(this.#current);
+    const element = this.#picture && this.#element(this.#current);
     this.#body.tabIndex = element || !this.#picture ? -1 : 0;
     if (element && document.activeElement === this.#body) element.focus({ preventScroll: true });
   }
@@ -94,7 +110,7 @@ export class Table {
 
   #row(index) {
     const item = this.#picture.item(index);
-    const columns = this.#picture.columns(item);
+    const columns = this.#picture.columns(item, this.isShown(item));
     const row = made('div', 'row');
     row.setAttribute('role', 'row');
     row.setAttribute('aria-rowindex', String(index + 2));
@@ -106,7 +122,12 @@ export class Table {
       row.setAttribute('aria-level', String(item.depth + 1));
       const classes = ['number', 'header', 'number', 'element', 'field'];
       row.append(...columns.map((text, at) => made('span', classes[at], text)));
-      row.querySelector('.element').style.setProperty('--depth', String(Math.min(item.depth, 16)));
+      const element = row.querySelector('.element');
+      element.style.setProperty('--depth', String(Math.min(item.depth, 16)));
+      if (item.hasInside) {
+        row.setAttribute('aria-expanded', String(!this.#folds.isFolded(index)));
+        element.prepend(made('span', 'fold'));
+      }
       if (item.isPrivate) row.lastElementChild.append(this.#button(item));
       row.append(...this.#picture.marks(item).map((text) => made('span', 'mark', text)));
     }
@@ -128,12 +149,22 @@ export class Table {
     const item = this.#picture.item(index);
     if (!item.isPrivate) return;
     if (!this.#shown.delete(index)) this.#shown.add(index);
-    const button = this.#list.element(index).querySelector('button');
+    const element = this.#element(index);
+    const button = element.querySelector('button');
     const hasFocus = document.activeElement === button;
     const renewed = this.#button(item);
-    button.replaceWith(renewed);
+    const field = this.#picture.columns(item, this.isShown(item)).at(-1);
+    button.parentElement.replaceChildren(field, renewed);
     if (hasFocus) renewed.focus();
     this.select(index, !hasFocus);
+  }
+
+  /** Folds what is inside an item, or unfolds it. */
+  #fold(index) {
+    if (!this.#picture.item(index).hasInside) return;
+    this.#folds.turn(index);
+    this.#list.set(this.#folds.count, true);
+    this.select(index);
   }
 
   #click(event) {
@@ -141,14 +172,14 @@ export class Table {
     if (!row) return;
     const index = Number(row.dataset.index);
     if (event.target.closest('button')) this.#turn(index);
+    else if (event.target.closest('.fold')) this.#fold(index);
     else this.select(index);
   }
 
   #key(event) {
     if (event.ctrlKey || event.altKey || event.metaKey) return;
-    if (event.target.closest('button') && (event.key === 'Enter' || event.key === ' ')) return;
-    const last = this.#picture.count - 1;
-    const at = this.#current;
+    const last = this.#folds.count - 1;
+    const at = this.#folds.place(this.#current);
     const moves = {
       ArrowDown: () => at + 1,
       ArrowUp: () => at - 1,
@@ -156,24 +187,34 @@ export class Table {
       PageUp: () => at - this.#list.page,
       Home: () => 0,
       End: () => last,
-      ArrowLeft: () => this.#picture.outside(this.#picture.item(at)),
-      ArrowRight: () => this.#inside(at),
+    };
+    const acts = {
+      ArrowLeft: () => this.#leave(this.#current),
+      ArrowRight: () => this.#enter(this.#current),
+      Enter: () => this.#turn(this.#current),
+      ' ': () => this.#turn(this.#current),
     };
     if (Object.hasOwn(moves, event.key)) {
       event.preventDefault();
-      this.select(Math.min(Math.max(moves[event.key](), 0), last));
-    } else if (event.key === 'Enter' || event.key === ' ') {
+      const place = Math.min(Math.max(moves[event.key](), 0), last);
+      this.select(this.#folds.item(place));
+    } else if (Object.hasOwn(acts, event.key)) {
       event.preventDefault();
-      this.#turn(at);
+      acts[event.key]();
     }
   }
 
-  /** Returns the next item if it is inside this one, or this one. */
-  #inside(index) {
-    if (index + 1 >= this.#picture.count) return index;
-    const [item, next] = [this.#picture.item(index), this.#picture.item(index + 1)];
-    return next.kind === Kind.ROW && next.part === item.part && next.depth > item.depth
-      ? index + 1 : index;
+  /** Folds an item, or goes to the one that it is inside of. */
+  #leave(index) {
+    const item = this.#picture.item(index);
+    if (item.hasInside && !this.#folds.isFolded(index)) this.#fold(index);
+    else this.select(this.#picture.outside(item));
+  }
+
+  /** Unfolds an item, or goes to the first that is inside of it. */
+  #enter(index) {
+    if (this.#folds.isFolded(index)) this.#fold(index);
+    else this.select(this.#picture.item(index).hasInside ? index + 1 : index);
   }
 
   /** Returns the index of the first row from here on. */
