@@ -229,7 +229,7 @@ struct file {
     size_t len;
 };
 
-static struct file key, bare, other_tag, certificate, container;
+static struct file key, bare, other_tag, certificate, container, with_attributes;
 
 static void load_file(const char *path, struct file *file)
 {
@@ -248,6 +248,7 @@ static void load_files(void)
     load_file("../dist/examples/p256.der", &key);
     load_file("p256_certificate.der", &certificate);
     load_file("p256_container.der", &container);
+    load_file("p256_attributes.der", &with_attributes);
     memcpy(bare.bytes, key.bytes, bare.len = 39);
     bare.bytes[1] = 37;
     other_tag = key;
@@ -289,6 +290,8 @@ static int32_t order;
       (certificate.bytes, certificate.len, &info), SEC1_OK)                                        \
     X(read_container, "sec1_private_key_info_read", private_key_info_read,                         \
       (container.bytes, container.len, &inside), SEC1_OK)                                          \
+    X(read_attributes, "sec1_private_key_info_read, attributes", private_key_info_read,            \
+      (with_attributes.bytes, with_attributes.len, &inside), SEC1_OK)                              \
     X(read_public_key, "sec1_public_key_read", public_key_read,                                    \
       (certificate.bytes + 189, 91, &public_key), SEC1_OK)
 

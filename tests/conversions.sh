@@ -203,7 +203,7 @@ for file in rsa.pem dsa.pem certificate.pem crl.pem openssh.pub jwk utf16.pem em
 done
 says putty 'puttygen FILE -O private-openssh -o key.pem'
 says openssh 'ssh-keygen -p -m PEM -f COPY'
-says key.p12 'openssl pkcs12 -in FILE -nodes -nocerts'
+says key.p12 'openssl pkcs12 -in FILE -nodes -nocerts -out key.pem'
 for file in base64 digits colons numbers; do
     [ "$("$dump" "$file" | tail -n +2)" = "$("$dump" whole.der)" ] &&
         tell "sec1_dump draws $file" yes || tell "sec1_dump doesn't draw $file" no
@@ -236,9 +236,10 @@ for file in proc_type.pem encrypted.pem; do
     converted "$file" "$pem"
 done
 converted encrypted.der "$der"
-openssl pkcs12 -in key.p12 -nodes -nocerts -out from_p12.pem >output 2>&1
+openssl pkcs12 -in key.p12 -nodes -nocerts -out key.pem >output 2>&1
+mv key.pem from_p12.pem
 unset -f openssl
-grep -qF '`openssl pkcs12 -in FILE -nodes -nocerts`' "$page" && tell 'the page has pkcs12' yes ||
+grep -qF '`openssl pkcs12 -in FILE -nodes -nocerts -out key.pem`' "$page" && tell 'the page has pkcs12' yes ||
     tell 'the page has no pkcs12' no
 text from_p12.pem 'Bag Attributes'
 converted from_p12.pem "$pem"

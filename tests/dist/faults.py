@@ -29,7 +29,7 @@ FAULTS = [
     ("to_c.py", '"lt": "<"', '"lt": "<="'),
     ("to_c.py", '{operand(parts[1])} : {operand(parts[2])}', '{operand(parts[2])} : {operand(parts[1])}'),
     ("to_c.py", 'f"(uint{bits}_t){operand(it)}"', 'f"(uint8_t){operand(it)}"'),
-    ("translate.py", 'Expression("wrap", 32, None, tuple(parts))', 'Expression("wrap", 64, None, tuple(parts))'),
+    ("to_c.py", 'in ("wrap", "extend_u"):\n        return f"({TYPES[it.bits]})', 'in ("wrap", "extend_u"):\n        return f"(uint16_t)'),
     ("translate.py", 'number(b.value & mask.value, b.bits) if b.is_number', 'number(b.value & 31, b.bits) if b.is_number'),
     ("translate.py", '{"eq": "ne", "lt_s"', '{"eq": "eq", "lt_s"'),
     # memory

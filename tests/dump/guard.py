@@ -1,145 +1,230 @@
-"""The forms of private keys, by the tags of the root's children: RFC 5915, 5958, 7292 and 8017."""
-from ber import LEVELS, Header, NoElement, is_tree, is_trees
+"""Which form bytes have, how they are drawn, and their rows: docs/FORMATS.md, "The picture of
+`sec1_dump`"."""
+from functools import lru_cache
+
+from ber import LEVELS, Header, NoElement, is_tree
+from table import ALL, CLOSED, PRIVATE, PUBLIC, STRUCTURES, Field
+from values import is_valid
+
+STRICT, LOOSE, NOTHING = "strict", "loose", "nothing"
 
 
-class Child:
-    """An element of a form that is looked for: its header, its end, and whether that is cut."""
+class Row:
+    """A header, an end-of-contents, or bytes that aren't drawn."""
 
-    def __init__(self, data, at, end, may_be_cut):
-        self.at, self.head = at, Header(data, at, end)
-        self.tag, self.length = self.head.tag, self.head.length
-        self.stop = min(end, self.head.start + (self.length or 0))
-        self.cut = self.head.start + (self.length or 0) > end
-        self.fits = not self.head.marks and self.head.length is not None
-        if self.cut:
-            self.fits = self.fits and may_be_cut
-        elif self.fits and self.head.constructed:
-            self.fits = is_trees(data, self.head.start, self.stop, LEVELS - 1)
+    def __init__(self, at, depth, stop, head=None, kind=None):
+        self.at, self.depth, self.stop, self.head, self.kind = at, depth, stop, head, kind
+        self.start = head.start if head else at
+        self.field, self.opened, self.shown = None, False, 0
+        # the fields that could stand here, where none of them does
+        self.expected, self.follows = None, True
+        self.marks = []
 
-    def has(self, data, *tags):
-        """Returns whether the content begins with an element of one of these tags; of none if it
-        is cut off."""
-        first = data[self.head.start:min(self.stop, self.head.start + 1)]
-        return self.cut or first in [bytes([tag]) for tag in tags]
-
-    def has_alone(self, data, tag):
-        if self.cut:
-            return True
-        if not self.has(data, tag):
-            return False
-        inner = Header(data, self.head.start, self.stop)
-        return inner.start + inner.length == self.stop
+    @property
+    def missing(self):
+        """The bytes that the header has beyond the end of the row."""
+        if self.head is None or self.head.length is None:
+            return 0
+        return self.start + self.head.length - self.stop
 
 
-class Form:
-    """The children of a root that follow a form, where they end, whether these are all that are
-    there, and whether the root is whole; and the form in PKCS #8's privateKey."""
-
-    def __init__(self, kind, kids):
-        self.kind, self.kids, self.at = kind, kids, 0
-        self.ended, self.whole, self.inner = True, True, None
+# What any elements are.
+ANY = [Field(0, "*", "hidden", "")]
 
 
-def children(data, head, stop):
-    """Returns the children of a root as far as they are of DER, where they end, and whether the
-    root ends there."""
-    kids, at = [], head.start
-    is_cut = head.length is not None and head.start + head.length > stop
-    while True:
-        if head.length is None and data[at:at + 2] == b"\0\0":
-            return kids, at, True
-        if at >= stop:
-            return kids, at, True
+class Ended(Exception):
+    """The rows have ended before the bytes."""
+
+
+def rest_of(fields, first):
+    """Returns the first field that an element with this tag can be, and those that may follow."""
+    for number, field in enumerate(fields):
+        if field.has_tag(first):
+            return field, fields[number + (field.presence != "*"):]
+        if field.is_needed:
+            break
+    return None, None
+
+
+def needs(fields):
+    return any(field.is_needed for field in fields)
+
+
+class Walk:
+    """The rows of bytes by a form, or of any elements if it is none."""
+
+    def __init__(self, data, form, is_loose, is_whole_tree=False):
+        self.data, self.form, self.is_loose, self.is_tree = data, form, is_loose, is_whole_tree
+        self.rows, self.is_whole, self.is_cut = [], False, False
         try:
-            kid = Child(data, at, stop, is_cut)
+            self.draw_root()
+        except Ended:
+            pass
+
+    def draw_root(self):
+        data, root = self.data, self.form and self.form.root
+        try:
+            head = Header(data, 0, len(data))
         except NoElement:
-            return kids, at, False
-        if not kid.fits:
-            return kids, at, False
-        kids.append(kid)
-        at = kid.stop
-
-
-def follow_key(data, kids, ended):
-    """The ECPrivateKey of RFC 5915: how many of the children are its fields."""
-    count = 0
-    if kids and kids[0].tag == 2 and kids[0].length == 1:
-        count = 1
-    if count == 1 and len(kids) > 1 and kids[1].tag == 4:
-        count = 2
-        for tag in (0xA0, 0xA1):
-            kid = kids[count] if len(kids) > count else None
-            if kid and kid.tag == tag == 0xA0 and (
-                    kid.has_alone(data, 6) or kid.has_alone(data, 0x30)):
-                count += 1
-            elif kid and kid.tag == tag == 0xA1 and kid.has_alone(data, 3):
-                count += 1
-        whole = ended and count == len(kids) and not any(kid.cut for kid in kids)
-        if kids[1].head.start - kids[1].at > 2 and not whole:
-            count = 1
-    return count
-
-
-def follow_container(data, kids, opens):
-    """PrivateKeyInfo of RFC 5958, and PFX of RFC 7292."""
-    if not (kids and kids[0].tag == 2 and kids[0].length == 1):
-        return None, 0
-    if len(kids) < 2 or kids[1].tag != 0x30 or not kids[1].has(data, 6):
-        return None, 1
-    if len(kids) > 2 and kids[2].tag == 4:
-        count = 3
-        for tag in (0xA0, 0x81):
-            if opens and len(kids) > count and kids[count].tag == tag:
-                count += 1
-        return "pkcs8", count
-    return "pfx", 3 if len(kids) > 2 and kids[2].tag == 0x30 else 2
-
-
-def follow_integers(kids, ended, cut):
-    """INTEGERs alone, to the root's end: the name of what has as many, and their number."""
-    if not kids or not ended or any(kid.tag != 2 for kid in kids):
-        return None, 0
-    if cut and len(kids) <= 9:
-        return "integers", len(kids)
-    if len(kids) == 9 and kids[0].length == 1:
-        return "rsa", 9
-    if len(kids) == 6:
-        return "dsa", 6
-    if len(kids) == 2 and abs(kids[0].length - kids[1].length) <= 3:
-        return "signature", 2
-    return None, 0
-
-
-def form_of(data, head, stop):
-    """Returns the form that the children of a root follow, as far as they do, and where what
-    follows begins."""
-    kids, at, ended = children(data, head, stop)
-    cut = head.length is not None and head.start + head.length > stop
-    inner = None
-    if len(kids) > 2 and kids[2].tag == 4 and not kids[2].cut:
-        inner = opened_key(data, kids[2].head.start, kids[2].stop)
-    has_end = ended and (head.length is not None or data[at:at + 2] == b"\0\0")
-    found = [follow_integers(kids, ended, cut), ("key", follow_key(data, kids, has_end)),
-             follow_container(data, kids, inner is not None)]
-    kind, count = max(found, key=lambda pair: pair[1])
-    ended = ended and count == len(kids)
-    is_cut = bool(kids) and kids[-1].cut
-    form = Form(kind if count > 1 or kind == "integers" else None, kids[:count])
-    form.ended, form.whole = ended and not is_cut, ended and not cut and not is_cut
-    form.at = kids[count].at if count < len(kids) else at
-    form.inner = inner if kind == "pkcs8" else None
-    return form
-
-
-def opened_key(data, at, end):
-    """Returns the form of PKCS #8's privateKey, if it is one."""
-    if not is_tree(data, at, end):
+            return self.end(0, 0, None)
+        stop = min(len(data), head.start + (head.length if head.length is not None else len(data)))
+        self.is_cut = head.length is not None and head.start + head.length > stop
+        if root and self.next_of([root], head, stop)[0] is None:
+            return self.end(0, 0, None)
+        after = self.draw(head, stop, 0, root, True)
+        if after < len(data):
+            self.end(after, 0, None)
+        self.is_whole = not self.is_cut
         return None
-    head = Header(data, at, end)
-    if head.tag in (2, 4):
-        return Form("element", [])
-    if head.tag != 0x30:
+
+    def end(self, at, depth, expected):
+        """Ends the rows: what follows isn't drawn."""
+        self.rows.append(Row(at, depth, len(self.data), kind="not drawn"))
+        self.rows[-1].expected = expected
+        raise Ended
+
+    def draw(self, head, stop, depth, field, follows_it, expected=None):
+        """Draws an element whose content ends here, if its length is definite, and what is in it.
+        Returns where it ends."""
+        row = Row(head.at, depth, head.start if head.length is None else stop, head)
+        row.field, row.follows, row.expected = field, follows_it, expected
+        self.rows.append(row)
+        fields = self.fields_in(field, head, stop)
+        if fields is not None or head.length is None or self.is_loose and head.constructed:
+            row.opened, is_loose = True, self.is_loose
+            # what is whole is drawn so
+            self.is_loose = is_loose and not (field and field.whole)
+            after = self.draw_inside(head.start, stop, depth + 1, fields, head.length is None)
+            self.is_loose = is_loose
+            return after
+        row.shown = self.shown(row)
+        return stop
+
+    def fields_in(self, field, head, stop):
+        """Returns the fields in an element that is this field; None if they aren't named."""
+        if field and field.inside:
+            return STRUCTURES[field.inside]
+        if field and field.whole and follows(self.data[head.start:stop], field.whole):
+            return STRUCTURES[field.whole]
         return None
-    form = form_of(data, head, end)
-    form.head = head
-    return form if form.whole and form.kind in ("key", "rsa", "dsa") else None
+
+    def draw_inside(self, at, stop, depth, fields, is_open):
+        """Draws the elements of a content: these fields, or any elements, up to an end-of-contents
+        if it is open. Returns where the next element begins."""
+        while True:
+            is_end = is_open and self.data[at:min(at + 2, stop)] == b"\0\0"
+            is_last = at >= stop and (self.is_loose or not is_open)
+            lacks = fields is not None and needs(fields)
+            if (is_end or is_last) and (self.is_loose or not lacks):
+                break
+            field, rest, expected = None, fields, None
+            try:
+                head = Header(self.data, at, stop)
+            except NoElement:
+                self.end(at, depth, ANY if fields is None else fields)
+            last = stop if head.length is None else min(stop, head.start + head.length)
+            is_cut = head.length is not None and last < head.start + head.length
+            if fields is not None:
+                field, rest = self.next_of(fields, head, last)
+                if field is None:
+                    expected, rest = fields, None
+            if depth == LEVELS or (expected is not None or is_cut) and not self.is_loose:
+                self.end(at, depth, ANY if fields is None else fields)
+            at, fields = self.draw(head, last, depth, field, expected is None, expected), rest
+        if lacks:
+            self.rows.append(Row(at, depth, at, kind="not drawn"))
+            self.rows[-1].expected = fields
+        if is_end:
+            self.rows.append(Row(at, depth - 1, at + 2, kind="end-of-contents"))
+        return at + 2 * is_end
+
+    def next_of(self, fields, head, stop):
+        """Returns the field that an element is, and those that may follow it."""
+        field, rest = rest_of(fields, head.first)
+        content = self.data[head.start:stop]
+        is_there = head.length == len(content)
+        if field is None or not field.admits(content) or field.is_exact and not is_there:
+            return None, None
+        return field, rest
+
+    def shown(self, row):
+        """Returns how many bytes are shown of a content that has no rows."""
+        content, field, head = self.data[row.start:row.stop], row.field, row.head
+        if row.missing:
+            return 0
+        if field is None:
+            # a whole tree: short contents of a few types
+            is_short = head.is_type(6) and len(content) <= 12 or head.is_type(1) and len(content) == 1
+            is_short |= head.is_type(2, 10) and len(content) <= 8 and is_valid(head, content)
+            return len(content) if self.is_tree and is_short and not head.constructed else 0
+        if field.kind == "point":
+            return min(len(content), 1 if head.is_type(4) else 2)
+        is_shown = field.arcs or field.kind == "version" or is_valid(head, content) and (
+            field.kind == "short" or field.kind == "shown" and len(content) <= field.most)
+        return len(content) if is_shown else 0
+
+
+def follows(data, structure):
+    """Returns whether bytes are this structure's fields, to the end."""
+    walk = Walk.__new__(Walk)
+    walk.data, walk.form, walk.is_loose, walk.is_tree, walk.rows = data, None, False, False, []
+    try:
+        walk.draw_inside(0, len(data), 0, STRUCTURES[structure], False)
+    except Ended:
+        return False
+    return True
+
+
+@lru_cache(maxsize=1 << 16)
+def form_of(data):
+    """Returns the form of bytes, and whether they are wholly of it; None for none. Of two that as
+    many bytes don't follow it is the one that is followed to the end, or else the earlier one."""
+    best = None
+    for form in ALL:
+        walk = Walk(data, form, False)
+        left = sum(row.stop - row.at for row in walk.rows if row.kind == "not drawn")
+        if best is None or (left, not walk.is_whole) < best[0]:
+            best = (left, not walk.is_whole), form, walk
+    _, form, walk = best
+    kids = sum(row.depth == 1 and row.head is not None for row in walk.rows)
+    return (form, walk.is_whole) if walk.is_whole or kids >= 2 else (None, False)
+
+
+class Plan:
+    """What bytes are, and how they are drawn."""
+
+    def __init__(self, data):
+        self.is_tree = is_tree(data)
+        self.form, self.is_whole = form_of(data)
+        self.is_cut = bool(self.form) and Walk(data, self.form, False).is_cut
+        secrecy = self.form.secrecy if self.form else None
+        if secrecy == PRIVATE and self.is_whole or secrecy in (PRIVATE, CLOSED) and not self.is_tree:
+            self.way = STRICT
+        else:
+            self.way = LOOSE if self.is_tree or self.form else NOTHING
+
+    @property
+    def is_private(self):
+        return bool(self.form) and self.form.secrecy == PRIVATE
+
+    @property
+    def is_public(self):
+        """Returns whether every content inside of the root is public."""
+        return self.is_whole and self.is_tree and self.form.secrecy == PUBLIC
+
+
+def rows_of(data, plan, everything=False):
+    """Returns the rows of bytes."""
+    if plan.way == NOTHING:
+        return [Row(0, 0, len(data), kind="not drawn")] if data else []
+    return Walk(data, plan.form, plan.way == LOOSE or everything, plan.is_tree).rows
+
+
+def mask_of(data):
+    """Returns bytes with 00 for each of a content that isn't shown, and FF for what isn't drawn."""
+    mask = bytearray(data)
+    for row in rows_of(data, Plan(data)):
+        start, filler = row.start + row.shown, b"\xFF" if row.kind == "not drawn" else b"\0"
+        if not row.opened and row.kind != "end-of-contents":
+            mask[start:row.stop] = filler * (row.stop - start)
+    return bytes(mask)

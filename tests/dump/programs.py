@@ -29,7 +29,7 @@ def drawn_by_hand():
         written = "".join(line[2:] + "\n" for line in lines if line.startswith("< "))
         asked = next(at for at, line in enumerate(lines) if line.startswith("$"))
         text = "".join(line + "\n" for line in lines[asked + 1:-1])
-        data = bytes.fromhex(digits) if digits else written.encode()
+        data = written.encode() + bytes.fromhex(digits)
         yield lines[0][2:], data, lines[asked].split()[1:], text, int(lines[-1][2:])
 
 

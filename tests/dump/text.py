@@ -1,24 +1,35 @@
-"""Reads the text of an input: PEM (RFC 7468, RFC 1421), hexadecimal and base64 (RFC 4648)."""
+"""Reads the text of an input: PEM (RFC 7468, RFC 1421), hexadecimal and base64 (RFC 4648), and what
+is almost that."""
 import base64
 import binascii
 import re
 import string
 
-from ber import shortened
+from ber import count_of, is_tree, shortened
 
 # the labels of the keys that OpenSSL reads from PEM, if they are the first in a file
 KEYS = ("EC PRIVATE KEY", "PRIVATE KEY", "ENCRYPTED PRIVATE KEY")
 OF_PEM = "openssl ec -in FILE -outform DER -out key.der"
+ASKS = "If OpenSSL reads it, this asks for the password and writes it in DER:"
+OPENSSH = "ssh-keygen -p -m PEM -f COPY"
 LABEL = re.compile(rb"-----BEGIN ([A-Z0-9 #.]{1,40})-----[ \t]*")
+XXD = "This begins as the output of xxd. If it is that, this draws it:"
+PUTTY = "This is PuTTY's own form. If puttygen reads it, this makes PEM of it:"
 TEXTS = [
-    (rb"0000000", ["This is the output of xxd, hexdump or od. If it is xxd's, this draws it:"],
-     "xxd -r FILE | sec1_dump"),
-    (rb"PuTTY-User-Key-File-", ["This is PuTTY's own form. This makes PEM of it:"],
-     "puttygen FILE -O private-openssh -o key.pem"),
-    (rb"ssh-|ecdsa-sha2-|sk-",
-     ["This is a public key of OpenSSH: it has no private key."], None),
-    (rb"\s*\{", ["This is JSON, perhaps a JWK (RFC 7517): no DER."], None),
+    (rb"00000000:", XXD, "xxd -r FILE | sec1_dump"),
+    (rb"0000000|0000[ \t]",
+     "This begins with an offset, as of hexdump or od: no hexadecimal alone.", None),
+    (rb"PuTTY-User-Key-File-[^\r\n]*ssh-ed(25519|448)",
+     "This is PuTTY's own form, of a key that puttygen makes no PEM of.", None),
+    (rb"PuTTY-User-Key-File-", PUTTY, "puttygen FILE -O private-openssh -o key.pem"),
+    (rb"ssh-|ecdsa-sha2-|sk-", "This begins as a public key of OpenSSH: no DER.", None),
+    (rb"[ \t\r\n]*\{[ \t\r\n]*\"", "This is JSON, perhaps a JWK (RFC 7517): no DER.", None),
+    (rb"", "This is text, and no PEM, hexadecimal or base64.", None),
 ]
+WIDE = [(b"\xFF\xFE\0\0", 32), (b"\0\0\xFE\xFF", 32), (b"\xFF\xFE", 16), (b"\xFE\xFF", 16),
+        (b"-\0-\0", 16), (b"\0-\0-", 16)]
+# a binary of so many bytes may be a raw key, whatever it begins with
+RAW = (28, 32, 48, 66)
 
 
 class Part:
@@ -76,73 +87,144 @@ def split_headers(lines):
     return [], lines
 
 
+def mended(written):
+    """Returns the bytes of a text that is almost base64, if they are a whole tree."""
+    digits = re.sub(rb"[^A-Za-z0-9+/_-]", b"", re.sub(rb"\\[nr]", b"", written))
+    digits = digits.translate(bytes.maketrans(b"-_", b"+/"))
+    data = decoded(digits + b"=" * (-len(digits) % 4))
+    return data if data and is_tree(data) else None
+
+
+def wrong(written, words):
+    """Returns what is wrong with a text that is almost base64: these words, if nothing else."""
+    if re.search(rb"\\[nr]", written):
+        return ", with \\n for line ends"
+    return ", in base64url" if re.search(rb"[-_]", written) else f", {words}"
+
+
 def pem_part(number, label, lines, is_ended):
+    """Returns a block that begins and ends with lines of its own."""
     headers, body = split_headers(lines)
     part = Part("pem")
     part.label, part.line = label, number
     part.runs = is_ended and label in KEYS
-    data = decoded(without_blanks(b"\n".join(body)))
+    written = b"\n".join(body)
+    data, amiss = decoded(without_blanks(written)), ""
     is_encrypted = any(header.startswith(b"Proc-Type: 4,ENCRYPTED") for header in headers)
     part.runs = part.runs and (is_encrypted or not headers)
-    if is_encrypted:
+    if label.startswith("PGP "):
+        told = "OpenPGP (RFC 9580), not drawn"
+    elif is_encrypted:
         told = "encrypted (RFC 1421), not drawn"
         if label == "EC PRIVATE KEY":
-            part.words = ["This asks for the password and writes the key:"]
-            part.command = OF_PEM
-    elif label == "OPENSSH PRIVATE KEY":
+            part.words, part.command = [ASKS], OF_PEM
+    elif label == "OPENSSH PRIVATE KEY" and data is not None:
         told = "no DER, not drawn"
-        part.words = ["This is OpenSSH's own form. This makes PEM of a copy of it:"]
-        part.command = "ssh-keygen -p -m PEM -f COPY"
-    elif data is None:
-        told = "no base64, not drawn"
+        part.words = ["This is OpenSSH's own form."]
+        if b"ssh-ed25519" in data:
+            part.words = ["This is OpenSSH's own form, of a key that ssh-keygen makes no PEM of."]
+        else:
+            part.command = OPENSSH
     else:
+        if data is None:
+            data = mended(written)
+            amiss, part.runs = wrong(written, "with other characters in it"), False
         part.data = data
-        told = f"{len(data)} byte{'s' * (len(data) != 1)}"
+        told = "no base64, not drawn" if data is None else count_of(len(data))
+    amiss = amiss if data is not None else ""
     ending = "" if is_ended else ", with no line END"
-    part.heading = shortened(f"PEM at line {number}, {label}: {told}{ending}")
+    part.heading = shortened(f"PEM at line {number}, {label}: {told}{amiss}{ending}")
     return part
 
 
-def digits_of(given):
-    """Returns a text without blanks, `:`, `,` and `0x`."""
-    digits = bytearray()
-    for byte in given.translate(None, b" \t\r\n:,"):
-        if byte == 0x78 and digits[-1:] == b"0":
-            digits.pop()
-        else:
-            digits.append(byte)
-    return bytes(digits)
+def pem_parts(found, given):
+    """Returns the blocks of an input that has some."""
+    drawn, is_first = [pem_part(*block) for block in found], True
+    for part in drawn:
+        part.runs = part.runs and is_first and b"\n" in given
+        is_first = is_first and not part.label.endswith("PRIVATE KEY")
+        if part.command == OF_PEM and not part.runs:
+            part.words, part.command = [], None
+        elif part.command == OPENSSH:
+            if b"\r" in given:
+                part.command = None
+            else:
+                part.words = [f"{part.words[0]} If ssh-keygen reads it, this makes PEM of a copy of it:"]
+    return drawn
 
 
-def sized(form, name, data):
-    return Part(form, data, f"{name}: {len(data)} byte{'s' * (len(data) != 1)}")
+def almost_pem(given):
+    """Returns the first block that begins or ends anywhere, if it is almost one; or None."""
+    front, begin, after = given.partition(b"-----BEGIN ")
+    if not begin:
+        front, begin, after = given.partition(b"-----END ")
+    label, dashes, rest = after.partition(b"-----")
+    if not dashes or not LABEL.fullmatch(b"-----BEGIN " + label + b"-----"):
+        return None
+    written, words, ending = front, "with no line BEGIN", ""
+    if b"BEGIN" in begin:
+        written = rest.partition(b"-----")[0]
+        words = "indented or quoted" if re.search(rb"[\r\n]", written) else "with no line ends"
+        is_ended = rest[len(written):].startswith(b"-----END " + label + b"-----")
+        ending = "" if is_ended else ", with no line END"
+    data = mended(written)
+    if data is None:
+        return None
+    part = Part("pem", data)
+    part.label, part.line, part.runs = label.decode(), front.count(b"\n") + 1, False
+    part.heading = shortened(f"PEM at line {part.line}, {part.label}: {count_of(len(data))}"
+                             f"{wrong(written, words)}{ending}")
+    return part
+
+
+def hexadecimal(given):
+    """Returns the bytes of hexadecimal, or None: each run of digits is of whole bytes."""
+    runs = re.split(rb"[ \t\r\n:,]+", given.replace(b"0x", b"").replace(b"0X", b""))
+    runs = [run.decode("latin-1") for run in runs if run]
+    if not runs or any(len(run) % 2 or set(run) - set(string.hexdigits) for run in runs):
+        return None
+    return bytes.fromhex("".join(runs))
+
+
+def sized(form, name, data, amiss=""):
+    return Part(form, data, f"{name}: {count_of(len(data))}{amiss}")
+
+
+def is_text(given):
+    """Returns whether an input is text: UTF-8 without control characters but those of lines."""
+    try:
+        given.decode()
+    except UnicodeDecodeError:
+        return False
+    return bool(given) and not any(byte < 0x20 and byte not in b"\t\n\r" for byte in given)
 
 
 def parts(given):
     """Returns the parts of an input."""
-    if given[:2] in (b"\xFF\xFE", b"\xFE\xFF"):
-        return [Part("text", words=["This is text in UTF-16. Write it in UTF-8 first."])]
-    if not given or any(byte < 0x20 and byte not in b"\t\n\r" for byte in given):
-        return [Part("der", given)]
+    if not is_text(given):
+        size = None if len(given) in RAW or is_tree(given) else next(
+            (size for mark, size in WIDE if given.startswith(mark)), None)
+        if size:
+            return [Part("text", words=[
+                f"This begins as text in UTF-{size}. Write it in UTF-8 first."])]
+        found = [] if is_tree(given) else blocks(given)
+        return pem_parts(found, given) if found else [Part("der", given)]
     given = given[3:] if given[:3] == b"\xEF\xBB\xBF" else given
     found = blocks(given)
     if found:
-        drawn, is_first = [pem_part(*block) for block in found], True
-        for part in drawn:
-            part.runs = part.runs and is_first and b"\n" in given
-            is_first = is_first and not part.label.endswith("PRIVATE KEY")
-            if part.command == OF_PEM and not part.runs:
-                part.words, part.command = [], None
-        return drawn
-    if given[:7] != b"0000000":
-        digits = digits_of(given)
-        is_digits = all(chr(byte) in string.hexdigits for byte in digits)
-        if digits and len(digits) % 2 == 0 and is_digits:
-            return [sized("hex", "hexadecimal", bytes.fromhex(digits.decode()))]
+        return pem_parts(found, given)
+    words, command = next(row[1:] for row in TEXTS if re.match(row[0], given))
+    if given[:4] != b"0000" or "text" in words:
+        data = hexadecimal(given)
+        if data:
+            return [sized("hex", "hexadecimal", data)]
         data = decoded(without_blanks(given))
-        if data and data[0] == 0x30:
+        if data:
             return [sized("base64", "base64", data)]
-    for front, words, command in TEXTS:
-        if re.match(front, given):
-            return [Part("text", words=words, command=command)]
-    return [Part("text", words=["This is text, and no PEM, hexadecimal or base64."])]
+        part = almost_pem(given)
+        data = None if part else mended(given)
+        if data:
+            part = sized("base64", "base64", data, wrong(given, "with other characters in it"))
+        if part:
+            return [part]
+    return [Part("text", words=[words], command=command)]

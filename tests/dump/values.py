@@ -16,25 +16,45 @@ TYPES = {
 }
 # the types of X.690 10.2: those whose contents are strings
 STRINGS = (3, 4, 12, *range(18, 29), 30)
-NAMES = {}
-for known in (pathlib.Path(__file__).parent / "names.txt").read_text().splitlines():
-    dotted, word, name = known.split()
-    NAMES[dotted] = (word, name)
+# those whose contents are characters that are shown: no UniversalString
+LETTERS = (12, *range(18, 23), *range(25, 28), 30)
 
 
-def identifier(content):
-    """Returns the dotted text of an identifier (X.690 8.19), or None."""
+def names():
+    """Returns the names of identifiers: lines of a dotted text, a name and its standard; those of
+    tests/dump have a word for what it is in front of the name."""
+    here = pathlib.Path(__file__).resolve().parent
+    path = here.parent.parent / "crates/der_view/names.txt"
+    is_old = not path.is_file()
+    lines = (here / "names.txt" if is_old else path).read_text().splitlines()
+    rows = (line.split(maxsplit=2) for line in lines if line and not line.startswith("#"))
+    return {row[0]: row[2 if is_old else 1] for row in rows}
+
+
+NAMES = names()
+
+
+def subidentifiers(content):
+    """Returns the subidentifiers of an identifier (X.690 8.19.2), or None."""
     if not content or content[-1] > 127:
         return None
-    arcs, number, fresh = [], 0, True
+    numbers, number, fresh = [], 0, True
     for byte in content:
         if fresh and byte == 128:
             return None
         number = number * 128 + byte % 128
         fresh = byte < 128
         if fresh:
-            arcs.append(number)
+            numbers.append(number)
             number = 0
+    return numbers
+
+
+def identifier(content):
+    """Returns the dotted text of an identifier (X.690 8.19), or None."""
+    arcs = subidentifiers(content)
+    if arcs is None:
+        return None
     first = min(arcs[0] // 40, 2)
     return ".".join(map(str, [first, arcs[0] - 40 * first] + arcs[1:]))
 
@@ -66,7 +86,7 @@ FITS = {
 
 def characters_of(number, content):
     """Returns the characters of a string, or None."""
-    encoding = {12: "utf-8", 28: "utf-32-be", 30: "utf-16-be"}.get(number, "latin-1")
+    encoding = {12: "utf-8", 30: "utf-16-be"}.get(number, "latin-1")
     try:
         found = content.decode(encoding)
     except UnicodeDecodeError:
@@ -95,11 +115,36 @@ def time_of(number, content):
     return f"{year:04}-{month:02}-{day:02} {hour:02}:{minute:02}:{second:02}{fraction}Z"
 
 
-def point(content):
-    """Returns the form and size of a key's point."""
-    if len(content) < 2 or content[0] != 0:
+def is_valid(head, content):
+    """Returns whether a content may be one of its type, where one that is shown must be."""
+    if head.constructed or head.is_type(28):
+        return False
+    if head.is_type(2, 10):
+        wide = len(content) > 1 and (content[0], content[1] >> 7) in ((0, 0), (255, 1))
+        return len(content) > 0 and not wide
+    if head.is_type(23, 24):
+        return re.fullmatch(rb"\d{%d}Z" % (12 if head.number == 23 else 14), content) is not None
+    if head.is_type(30):
+        letters = [content[at:at + 2] for at in range(0, len(content), 2)]
+        return len(content) % 2 == 0 and not any(
+            letter[0] == 0 and is_control(letter[1]) for letter in letters)
+    return not head.is_type(*LETTERS) or not any(map(is_control, content))
+
+
+def is_control(byte):
+    return byte < 0x20 or byte == 0x7F
+
+
+def point_of(head, content, length):
+    """Returns the form and size of a point, of whose content these bytes are shown; nothing if that
+    has unused bits."""
+    if head.first != 4:
+        if content[0]:
+            return ""
+        content, length = content[1:], length - 1
+    if not content:
         return "no point"
-    tag, count = content[1], len(content) - 2
+    tag, count = content[0], length - 1
     if tag in (4, 6, 7) and count and count % 2 == 0:
         return f"{'uncompressed' if tag == 4 else 'hybrid'}, 2 x {count_of(count // 2)}"
     if tag in (2, 3, 5) and count:
@@ -110,34 +155,41 @@ def point(content):
 class Label:
     """The type of a row and its value, as they are printed, and the members of its JSON."""
 
-    def __init__(self, picture, row):
-        self.picture, self.row = picture, row
-        self.value, self.oid, self.note = None, None, None
-        # what has no content hides none
-        head, self.closed = row.head, picture.closed and row.start < row.stop
+    def __init__(self, data, row):
+        self.row, self.value, self.oid, self.note, self.is_all = row, None, None, None, False
+        head = row.head
         if head is None:
             self.type = row.kind
             count = count_of(row.stop - row.at)
-            self.text = {"no element": f"no element: {count}", "not drawn": f"{count} not drawn"}
-            self.text = self.text.get(row.kind, row.kind)
+            self.text = f"{count} not drawn" if row.kind == "not drawn" else row.kind
             return
         space = CLASSES[head.first >> 6]
         bare = {"universal": "UNIVERSAL ", "context": ""}.get(space, space.upper() + " ")
         self.type = TYPES.get(head.number) if space == "universal" else None
         self.type = self.type or f"[{bare}{head.number}]"
         self.text = self.type
-        if head.constructed or row.opened:
+        if row.opened:
             return
-        self.content = picture.data[row.start:row.stop]
-        is_bits = space == "universal" and head.number == 3
-        self.text = f"{self.type}, {count_of(max(0, head.length - is_bits))}"
-        if row.missing:
-            self.text = "NULL" if head.tag == 5 and not self.content else self.text
-            return
-        if space != "universal":
-            self.describe_text()
-        else:
+        self.content = data[row.start:row.start + row.shown]
+        is_bits = head.is_type(3)
+        # of an indefinite length, what is there
+        self.length = row.stop - row.start if head.length is None else head.length
+        self.text = f"{self.type}, {count_of(max(0, self.length - is_bits))}"
+        # of a point the form says more than its bits
+        self.is_point = bool(row.field) and row.field.kind == "point"
+        if self.is_point and self.content:
+            self.note = point_of(head, self.content, self.length)
+        has_unused = is_bits or self.is_point and head.first != 4
+        if has_unused and self.content and 0 < self.content[0] < 8 and self.length > is_bits:
+            self.text += f", {count_of(self.content[0], 'unused bit')}"
+        self.is_all = row.shown == row.stop - row.start and not row.missing and not head.constructed
+        if self.is_all and space == "universal":
             getattr(self, f"describe_{head.number}", self.describe_other)()
+        elif self.is_all and re.fullmatch(rb"[ -~]+", self.content) and not self.is_point:
+            self.value = self.content.decode()
+            self.text = f"{self.type} \"{escaped(self.value)}\""
+        elif is_bits and self.content and self.content[0] > 7:
+            self.mark("more than 7 unused bits (X.690 8.6.2.2)")
 
     def mark(self, words):
         self.row.marks.append(("content", words))
@@ -148,23 +200,13 @@ class Label:
 
     def describe_other(self):
         number = self.row.head.number
-        if self.closed or number in (4, 16, 17) or number not in STRINGS:
-            return
-        found = characters_of(number, self.content)
-        if found is None:
-            return self.mark(f"not the characters of {self.type}")
-        self.value, self.text = found, f"{self.type} \"{escaped(found)}\""
-
-    def describe_text(self):
-        printable = all(0x20 <= byte <= 0x7E for byte in self.content)
-        is_context = self.row.head.first >> 6 == 2
-        if self.content and is_context and printable and not self.closed:
-            self.value = self.content.decode()
-            self.text = f"{self.type} \"{escaped(self.value)}\""
+        found = characters_of(number, self.content) if number in LETTERS else None
+        if found is not None:
+            self.value, self.text = found, f"{self.type} \"{escaped(found)}\""
+        elif number in LETTERS:
+            self.mark(f"not the characters of {self.type}")
 
     def describe_1(self):
-        if self.closed:
-            return
         if len(self.content) != 1:
             return self.mark("BOOLEAN has 1 byte (X.690 8.2.1)")
         self.give("TRUE" if self.content[0] else "FALSE")
@@ -173,14 +215,10 @@ class Label:
 
     def describe_2(self):
         content = self.content
-        is_version = self.row.name == "version" and len(content) == 1
-        if self.closed and not is_version or len(content) > 8:
-            return
         if not content:
             return self.mark("INTEGER has a byte or more (X.690 8.3.1)")
-        self.give(str(int.from_bytes(content, "big", signed=True)))
-        if len(content) > 1 and (content[0], content[1] >> 7) in ((0, 0), (255, 1)):
-            self.mark("needless first byte (X.690 8.3.2)")
+        if len(content) <= 8:
+            self.give(str(int.from_bytes(content, "big", signed=True)))
 
     describe_10 = describe_2
 
@@ -189,61 +227,39 @@ class Label:
         if not content:
             return self.mark("BIT STRING has a byte or more (X.690 8.6.2.2)")
         unused, bits = content[0], content[1:]
-        self.text = f"{self.type}, {count_of(len(bits))}"
-        if self.row.at in self.picture.points:
-            self.note = point(content) if not unused else None
-        if self.closed and self.row.depth == 0:
-            return
-        is_seen = len(content) <= 4 if not self.closed else not bits
-        if unused and (is_seen or bits and unused < 8):
-            self.text += f", {count_of(unused, 'unused bit')}"
         if unused > 7:
+            if not self.is_point:
+                self.text += f", {count_of(unused, 'unused bit')}"
             return self.mark("more than 7 unused bits (X.690 8.6.2.2)")
         if unused and not bits:
             return self.mark("unused bits in an empty BIT STRING (X.690 8.6.2.3)")
-        short = is_seen and bits and self.note is None
-        if short:
+        if 0 < len(bits) < 4 and not self.is_point:
             digits = "".join(f"{byte:08b}" for byte in bits)
             self.give(digits[:len(digits) - unused])
-        if unused and bits[-1] % (1 << unused) and short:
+        if unused and bits[-1] % (1 << unused):
             self.mark("unused bits that aren't 0 (X.690 11.2.1)")
 
     def describe_5(self):
-        self.text = self.text if self.content else "NULL"
-        if self.content and not self.closed:
-            self.mark("NULL has no content (X.690 8.8.2)")
+        if self.content:
+            return self.mark("NULL has no content (X.690 8.8.2)")
+        self.text = "NULL"
 
     def describe_6(self):
         found = identifier(self.content)
-        if self.closed and self.row.depth == 0 and NAMES.get(found, ("",))[0] != "curve":
-            return
         if found is None:
             return self.mark("no identifier (X.690 8.19.2)")
-        if self.has_long_arc():
-            return
-        self.oid, self.value = found, NAMES.get(found, (None, None))[1]
+        # one of a UUID has no longer ones (X.667 7)
+        if max(subidentifiers(self.content)) >> 128:
+            return None
+        self.oid, self.value = found, NAMES.get(found)
         self.text = f"{self.type} " + (f"{self.value} ({found})" if self.value else found)
 
-    def has_long_arc(self):
-        """Returns whether a number of the content is 2^128 or more."""
-        number = 0
-        for byte in self.content:
-            number = number * 128 + byte % 128
-            if number >> 128:
-                return True
-            number = 0 if byte < 128 else number
-        return False
-
     def describe_23(self):
-        if self.closed:
-            return
         number = self.row.head.number
         found = time_of(number, self.content)
         if found:
             return self.give(found)
-        self.value = self.content.decode("latin-1")
-        self.text = f"{self.type} \"{escaped(self.value)}\""
-        self.mark("not YYMMDDhhmmssZ (X.690 11.8)" if number == 23 else
+        return self.mark("not YYMMDDhhmmssZ (X.690 11.8)" if number == 23 else
                   "not YYYYMMDDhhmmss[.f]Z (X.690 11.7)")
 
     describe_24 = describe_23

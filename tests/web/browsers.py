@@ -89,16 +89,20 @@ class Browser:
     def paste(self):
         self.press("v", "paste")
 
-    def drop(self, path):
-        """Drops a file onto the page, where only a script can make the events."""
-        data = json.dumps(base64.b64encode(pathlib.Path(path).read_bytes()).decode())
-        name = json.dumps(pathlib.Path(path).name)
+    def drop(self, *paths):
+        """Drops files onto the page, where only a script can make the events."""
+        files = json.dumps([[it.name, base64.b64encode(it.read_bytes()).decode()]
+                            for it in map(pathlib.Path, paths)])
         self.run(
             "(() => { const dataTransfer = new DataTransfer();"
-            f"const bytes = Uint8Array.from(atob({data}), (it) => it.charCodeAt(0));"
-            f"dataTransfer.items.add(new File([bytes], {name}));"
-            "for (const kind of ['dragenter', 'dragover', 'drop']) { document.body.dispatchEvent("
-            "new DragEvent(kind, { dataTransfer, bubbles: true, cancelable: true })); } })()")
+            f"for (const [name, data] of {files})"
+            "{ const bytes = Uint8Array.from(atob(data), (it) => it.charCodeAt(0));"
+            "dataTransfer.items.add(new File([bytes], name)); }"
+            "for (const kind of ['dragenter', 'dragover', 'drop']) {"
+            "const isRefused = document.body.dispatchEvent(new DragEvent(kind, {"
+            "dataTransfer, bubbles: true, cancelable: true }));"
+            # Nothing is dropped where the page doesn't say that it takes it.
+            "if (kind === 'dragover' && isRefused) break; } })()")
 
 
 class Chromium(Browser):
@@ -182,7 +186,8 @@ class Chromium(Browser):
     def press(self, key, command=None):
         """Presses a key; a command is what its combination with Ctrl does."""
         codes = {"Enter": 13, " ": 32, "Tab": 9, "PageUp": 33, "PageDown": 34, "End": 35,
-                 "Home": 36, "ArrowLeft": 37, "ArrowUp": 38, "ArrowRight": 39, "ArrowDown": 40}
+                 "Home": 36, "ArrowLeft": 37, "ArrowUp": 38, "ArrowRight": 39, "ArrowDown": 40,
+                 "Backspace": 8, "Escape": 27}
         given = {"key": key, "windowsVirtualKeyCode": codes.get(key, ord(key[0].upper())),
                  "code": key if len(key) > 1 else f"Key{key.upper()}"}
         if command:
@@ -205,11 +210,11 @@ class Chromium(Browser):
             self.ask("Input.dispatchMouseEvent", type=kind, x=where[0], y=where[1], button="left",
                      clickCount=1)
 
-    def choose(self, path):
-        """Chooses a file."""
+    def choose(self, *paths):
+        """Chooses files."""
         root = self.ask("DOM.getDocument")["root"]["nodeId"]
         node = self.ask("DOM.querySelector", nodeId=root, selector="#file")["nodeId"]
-        self.ask("DOM.setFileInputFiles", files=[str(path)], nodeId=node)
+        self.ask("DOM.setFileInputFiles", files=list(map(str, paths)), nodeId=node)
 
     def drop(self, path):
         """Drops a file onto the page."""
@@ -221,10 +226,11 @@ class Chromium(Browser):
         self.ask("Emulation.setDeviceMetricsOverride", width=width, height=height,
                  deviceScaleFactor=scale, mobile=False)
 
-    def darken(self, is_dark):
-        value = "dark" if is_dark else "light"
-        self.ask("Emulation.setEmulatedMedia",
-                 features=[{"name": "prefers-color-scheme", "value": value}])
+    def darken(self, is_dark, is_forced=False):
+        """Has the page drawn in the dark, or with a few colours that the system forces on it."""
+        self.ask("Emulation.setEmulatedMedia", features=[
+            {"name": "prefers-color-scheme", "value": "dark" if is_dark else "light"},
+            {"name": "forced-colors", "value": "active" if is_forced else "none"}])
 
     def shot(self, path):
         told = self.ask("Page.captureScreenshot", format="png")
@@ -244,7 +250,7 @@ class Chromium(Browser):
                 continue
             if told["method"] == "Network.requestWillBeSent":
                 url = told["params"]["request"]["url"]
-                if not url.startswith(("file:", "data:", "about:")):
+                if not url.startswith(("file:", "data:", "about:", "blob:")):
                     found.append(f"asked for {url}")
             elif told["method"] == "Log.entryAdded":
                 found.append(told["params"]["entry"]["text"])
@@ -279,7 +285,8 @@ user_pref("app.update.disabledForTesting", true);
 """
 KEYS = {"Enter": "\ue007", "Tab": "\ue004", "PageUp": "\ue00e", "PageDown": "\ue00f",
         "End": "\ue010", "Home": "\ue011", "ArrowLeft": "\ue012", "ArrowUp": "\ue013",
-        "ArrowRight": "\ue014", "ArrowDown": "\ue015"}
+        "ArrowRight": "\ue014", "ArrowDown": "\ue015",
+        "Backspace": "\ue003", "Escape": "\ue00c"}
 CONTROL = "\ue009"
 # The messages of the console that are of a policy, or of an error in a page.
 CONSOLE = """
@@ -361,8 +368,9 @@ class Firefox(Browser):
     def click(self, selector):
         self.ask("WebDriver:ElementClick", id=self.element(selector))
 
-    def choose(self, path):
-        self.ask("WebDriver:ElementSendKeys", id=self.element("#file"), text=str(path))
+    def choose(self, *paths):
+        self.ask("WebDriver:ElementSendKeys", id=self.element("#file"),
+                 text="\n".join(map(str, paths)))
 
     def size(self, width, height, scale=1):
         self.ask("WebDriver:SetWindowRect", width=width, height=height)
@@ -374,9 +382,10 @@ class Firefox(Browser):
         finally:
             self.ask("Marionette:SetContext", value="content")
 
-    def darken(self, is_dark):
-        for name, number in (("ui.systemUsesDarkTheme", int(is_dark)),
-                             ("layout.css.prefers-color-scheme.content-override", int(not is_dark))):
+    def darken(self, is_dark, _=False):
+        for name, number in (
+                ("ui.systemUsesDarkTheme", int(is_dark)),
+                ("layout.css.prefers-color-scheme.content-override", int(not is_dark))):
             self.in_chrome(f"Services.prefs.setIntPref('{name}', {number});")
 
     def shot(self, path):
@@ -444,8 +453,14 @@ class WebKit(Browser):
     def click(self, selector):
         self.run(f"document.querySelector({json.dumps(selector)}).click()")
 
-    def choose(self, path):
-        self.drop(path)
+    def choose(self, *paths):
+        self.drop(*paths)
+
+    def size(self, width, height, scale=1):
+        """Its window has one size, and is light."""
+
+    def darken(self, is_dark, is_forced=False):
+        """See size."""
 
     def complaints(self):
         return [f"asked for {host}" for host in self.proxy.asked]

@@ -1,18 +1,56 @@
-"""What the page has to show of an input, by the second reader in tests/dump: the lines of its
-picture, what each is of, and which contents are hidden until they are asked for.
+"""What the page has to show of an input: the lines that the library for C gives, built for this
+machine by a C compiler alone, what each is of, and which contents are hidden until they are asked
+for. That these lines are right is tested in tests/dump.
 """
+import ctypes
 import pathlib
-import sys
+import re
+import subprocess
+import tempfile
+import unicodedata
 
-sys.path.insert(0, str(pathlib.Path(__file__).resolve().parent.parent / "dump"))
-import picture  # noqa: E402
-import text  # noqa: E402
-from values import STRINGS  # noqa: E402
-
+TOP = pathlib.Path(__file__).resolve().parent.parent.parent
 HEADING, ROW, MARK, WORDS, COMMAND = range(5)
-# The forms that have no private key in them, and the fields of others that are public.
-KEYLESS = {name for name, *_ in picture.OPEN_FORMS} - {"ContentInfo", "EncryptedPrivateKeyInfo"}
-PUBLIC = ("modulus", "publicExponent", "p", "q", "g", "y", "r", "s", "publicKey")
+BUFFER = 7
+# A letter that a line has escaped, which a page needn't.
+LETTER = re.compile(r"\\u\{([0-9A-F]{1,6})\}")
+# Letters that have no shape.
+BLANK = "\u115f\u1160\u2800\u3164\uffa0"
+
+
+def built():
+    """Returns the library, built in a folder that goes away."""
+    with tempfile.TemporaryDirectory() as room:
+        subprocess.run(["make", "-s", "-C", TOP / "dist", f"BUILD={room}"], check=True)
+        return ctypes.CDLL(str(next(pathlib.Path(room).glob("libsec1.so.*.*"))))
+
+
+LIBRARY = built()
+
+
+def drawn(data, all_rows=False):
+    """Returns the text of the picture of an input."""
+    size, most, length, is_key = ctypes.c_size_t, 0, ctypes.c_size_t(), ctypes.c_size_t()
+    while True:
+        room_len = 2 * len(data) + 2 + most
+        room, text = (ctypes.create_string_buffer(it + 1) for it in (room_len, most))
+        status = LIBRARY.sec1_picture_draw(
+            data, size(len(data)), size(all_rows), room, size(room_len), text, size(most),
+            ctypes.byref(length), ctypes.byref(is_key))
+        if status != BUFFER:
+            return text.raw[:length.value].decode("ascii")
+        most = length.value
+
+
+def numbers(data, most):
+    """Returns the numbers of each line, and what was decoded."""
+    room_len, count = 2 * len(data) + 2, ctypes.c_size_t()
+    room, found = ctypes.create_string_buffer(room_len), (ctypes.c_size_t * (6 * most))()
+    size = ctypes.c_size_t
+    LIBRARY.sec1_picture_lines(data, size(len(data)), room, size(room_len), found, size(most),
+                               ctypes.byref(count))
+    assert count.value == most
+    return [tuple(found[at:at + 6]) for at in range(0, 6 * most, 6)], room.raw
 
 
 class Line:
@@ -20,81 +58,41 @@ class Line:
 
     def __init__(self, words, kind, offset=0, header=0, content=0, depth=0, hidden=False):
         self.words, self.kind, self.offset, self.header = words, kind, offset, header
-        self.content, self.depth, self.hidden = content, depth, hidden
-        self.field, self.part = "", 0
-
-
-def is_seen(drawn, row, content):
-    """Returns whether a content is one that the picture shows as a value."""
-    if not row.head or row.missing or row.head.constructed or row.opened:
-        return False
-    space, number = row.head.first >> 6, row.head.number
-    if drawn.closed:
-        if row.depth == 0 and drawn.named_root() is None:
-            return False
-        if space == 0 and number == 2:
-            return row.name == "version" and len(content) == 1
-        return space == 0 and (number == 6 or number == 3 and len(content) == 1)
-    if space:
-        return space == 2 and all(0x20 <= byte < 0x7F for byte in content)
-    if number in (2, 10):
-        return len(content) <= 8
-    if number == 3:
-        return len(content) <= 4
-    return number in (1, 5, 6, 23, 24) or number in STRINGS and number != 4
-
-
-def is_public(drawn, row):
-    """Returns whether a content is known to be public, though the picture doesn't show it."""
-    if drawn.guarded:
-        kind = drawn.complete_kind()
-        is_whole = kind in ("pkcs8", "rsa", "dsa", "signature") or (
-            kind == "key" and drawn.lacking()[1] is None)
-        return is_whole and (row.name in PUBLIC or row.at in drawn.points)
-    return drawn.rows[0].name in KEYLESS
-
-
-def field_of(name, line):
-    """Returns what a line has of this field in its last column."""
-    for words in (f"{name}, not shown", f"{name}") if name else ():
-        if line.endswith("  " + words):
-            return words
-    return ""
-
-
-def lines_of(drawn):
-    """Yields the lines of the rows of a picture."""
-    for row, label in zip(drawn.rows, drawn.labels):
-        first, *marks = picture.line_of(drawn, row, label)
-        content = picture.own_content(drawn, row)
-        header = 2 if row.kind == "end-of-contents" else row.start - row.at
-        hidden = bool(content) and not is_seen(drawn, row, content) and not is_public(drawn, row)
-        line = Line(first, ROW, row.at, header, len(content), row.depth, hidden)
-        line.field = field_of(label.note or row.name, first)
-        yield line
-        for mark in marks:
-            yield Line(mark, MARK)
-
-
-def said(words, command):
-    for line in words:
-        yield Line(line, WORDS)
-    if command:
-        yield Line("  " + command, COMMAND)
+        self.content, self.depth, self.part = content, depth, 0
+        # Bytes that are no element may be of any key.
+        self.hidden = kind == ROW and content > 0 and (bool(hidden) or header == 0)
 
 
 def view(given):
-    """Returns the lines of an input, and the bytes of each of its parts, or None."""
-    lines, parts = [], []
-    for number, part in enumerate(text.parts(given)):
-        parts.append(part.data)
-        more = [Line(part.heading, HEADING)] if part.heading else []
-        if part.data is None:
-            more += said(part.words, part.command)
-        else:
-            drawn = picture.Picture(part.data, False, part.form, part.runs)
-            more += [*lines_of(drawn), *said(drawn.words, drawn.command)]
-        for line in more:
-            line.part = number
-        lines += more
+    """Returns the lines of an input, and the bytes of each of its parts, or nothing of one."""
+    words = drawn(given).splitlines()
+    found, room = numbers(given, len(words))
+    lines, parts = [Line(text, *of) for text, of in zip(words, found)], []
+    for at, line in enumerate(lines):
+        if line.kind == HEADING:
+            parts.append(room[line.offset:line.offset + line.content])
+        elif at == 0:
+            parts.append(given)
+        line.part = len(parts) - 1
     return lines, parts
+
+
+def lettered(words):
+    """Returns a line with letters in the place of their escapes."""
+    def letter(it):
+        one = chr(int(it[1], 16))
+        return one if unicodedata.category(one)[0] in "LNPS" and one not in BLANK else it[0]
+
+    return LETTER.sub(letter, words)
+
+
+def columns_of(line):
+    """Returns the columns of a row's line: its offset, header, length, element and field."""
+    front, rest = line.words.split(None, 1)
+    digits, rest = rest[:3 * line.header].strip(), rest[max(0, 3 * line.header - 1):]
+    length, words = rest.split(None, 1)
+    quoted = re.match(r'[^"]*"(?:[^"\\]|\\.)*(?:"|$)', words)
+    at = quoted.end() if quoted else 0
+    gap = words.find("  ", at)
+    element, field = (words[:gap], words[gap:].strip()) if gap >= 0 else (words, "")
+    return [front, digits, length, lettered(element), field]

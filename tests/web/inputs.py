@@ -6,9 +6,8 @@ import sys
 
 TESTS = pathlib.Path(__file__).resolve().parent.parent
 sys.path.insert(0, str(TESTS / "dump"))
-import picture  # noqa: E402
 import programs  # noqa: E402
-from expected import ROW, WORDS, Line  # noqa: E402
+from expected import ROW, Line  # noqa: E402
 
 # How long a megabyte may take from the choice of the file to its rows: on a machine that does
 # nothing else it takes one second.
@@ -22,10 +21,9 @@ ED25519 = bytes.fromhex("302e020100300506032b657004220420d4ee72dbf913584ad5b6d8f
 
 
 def drawn():
-    """The name of each picture that was drawn by hand, its input, and the text."""
-    for name, data, asked, text, _ in programs.drawn_by_hand():
-        # The page shows no content at once.
-        yield name, data, picture.draw(data)[0] if asked else text
+    """The name and the input of each picture that was drawn by hand."""
+    for name, data, *_ in programs.drawn_by_hand():
+        yield name, data
 
 
 def pem(label, data):
@@ -58,13 +56,15 @@ def certificate():
     return next(data for kind, data in containers() if kind == "certificate" and len(data) > 300)
 
 
-def rsa():
+def rsa_numbers():
     """The numbers of an RSA key of 1,024 bits, made up."""
     numbers = random.Random(8017)
-    fields = [b"\0"] + [b"\1" + numbers.randbytes(size) for size in (
+    return [b"\0"] + [b"\1" + numbers.randbytes(size) for size in (
         127, 2, 127, 63, 63, 63, 63, 63)]
-    inside = b"".join(element(2, field) for field in fields)
-    return element(0x30, inside)
+
+
+def rsa():
+    return element(0x30, b"".join(element(2, field) for field in rsa_numbers()))
 
 
 def element(tag, content):
@@ -77,15 +77,27 @@ def element(tag, content):
 
 
 def secrets():
-    """The name and the bytes of keys with private bytes, whole and damaged."""
-    yield "key.der", KEY
-    yield "crlf.pem", pem("EC PRIVATE KEY", KEY).replace("\n", "\r\n").encode()
-    yield "pkcs8.der", next(data for kind, data in containers() if kind == "private-key-info")
-    yield "ed25519.der", ED25519
-    yield "rsa.der", rsa()
-    yield "cut.der", KEY[:60]
+    """The name and the bytes of keys, whole and damaged, and the private contents in each."""
+    private = KEY[7:39]
+    yield "key.der", KEY, [private]
+    yield "crlf.pem", pem("EC PRIVATE KEY", KEY).replace("\n", "\r\n").encode(), [private]
+    container = next(data for kind, data in containers() if kind == "private-key-info")
+    yield "pkcs8.der", container, [container[container.index(b"\4\x20") + 2:][:32]]
+    yield "ed25519.der", ED25519, [ED25519[16:]]
+    yield "rsa.der", rsa(), rsa_numbers()[3:]
+    yield "cut.der", KEY[:60], [private]
     for at, byte in ((5, 6), (6, 0), (6, 0x21), (4, 2)):
-        yield f"damaged-{at}-{byte}.der", KEY[:at] + bytes([byte]) + KEY[at + 1:]
+        yield f"damaged-{at}-{byte}.der", KEY[:at] + bytes([byte]) + KEY[at + 1:], [private[1:]]
+    # A private key of letters, where a string stands in its place.
+    letters = bytes(random.Random(12).choices(b"abcdefghijklmnopqrstuvwxyz", k=32))
+    yield "letters.der", KEY[:5] + b"\x0c\x20" + letters + KEY[39:], [letters]
+    # One with an identifier in its place, inside of an element that is longer than what is there.
+    arcs = b"\x2a" + bytes(random.Random(13).choices(range(1, 128), k=11))
+    yield "arcs.der", KEY[:6] + b"\0\xA0\x7E\6\x0C" + arcs + KEY[23:], [arcs[1:]]
+    yield "behind.der", certificate() + KEY, [private]
+    # One whose private key has more bytes than a list makes all lines of.
+    long = random.Random(5).randbytes(5000)
+    yield "long.der", element(0x30, bytes([2, 1, 1]) + element(4, long)), [long]
 
 
 def large():
@@ -103,7 +115,7 @@ def large():
             place = 5 + step * at
             line = f"{place:>4} {head}{step - 2:>14}    {shown}"
             lines.append(Line(line, ROW, place, 2, step - 2, 1))
-        yield name, data, [*lines, Line("This is no EC private key (RFC 5915).", WORDS)]
+        yield name, data, lines
 
 
 def keys():

@@ -1,0 +1,243 @@
+"""The structures whose fields have names, written from their standards: the name of each, its standard,
+and of each field its tag, whether it may be absent (?) or come again (*), what its content is, and its
+name.
+
+A content is hidden, or shown up to so many bytes; it has at most so many (short), or one (version);
+it is an identifier that begins so (of:arcs), or a point; or its fields are those of a structure, or
+are drawn if they are that to its end (=structure). Tag 17 is a time, and 00 any element.
+"""
+import re
+
+TABLE = """
+ECPrivateKey | RFC 5915 section 3 |
+  02 version version, 04 hidden privateKey, A0? curve parameters, A1? bits publicKey
+curve | RFC 5480 section 2.1.1: namedCurve, which RFC 5915 demands | 06 shown12 namedCurve
+bits | RFC 5915 section 3: publicKey | 03 point the_point
+ec8 | RFC 5958 section 2: OneAsymmetricKey, with the algorithms of RFC 5480 and RFC 5915 |
+  02 version version, 30 ecAlgorithm privateKeyAlgorithm, 04 =ecKey privateKey, A0? hidden attributes,
+  81? point publicKey
+rsa8 | RFC 8017 appendix A.1 |
+  02 version version, 30 rsaAlgorithm privateKeyAlgorithm, 04 =rsaKey privateKey, A0? hidden attributes,
+  81? hidden publicKey
+dsa8 | RFC 3279 section 2.3.2 |
+  02 version version, 30 dsaAlgorithm privateKeyAlgorithm, 04 =numberKey privateKey, A0? hidden attributes,
+  81? hidden publicKey
+dh8 | PKCS #3 section 9 |
+  02 version version, 30 dhAlgorithm privateKeyAlgorithm, 04 =numberKey privateKey, A0? hidden attributes,
+  81? hidden publicKey
+x942 | RFC 3279 section 2.3.3 |
+  02 version version, 30 x942Algorithm privateKeyAlgorithm, 04 =numberKey privateKey, A0? hidden attributes,
+  81? hidden publicKey
+octet8 | RFC 8410 section 7 |
+  02 version version, 30 edwardsAlgorithm privateKeyAlgorithm, 04 =octetKey privateKey, A0? hidden attributes,
+  81? hidden publicKey
+any8 | RFC 5958 section 2 |
+  02 version version, 30 algorithm privateKeyAlgorithm, 04 hidden privateKey, A0? hidden attributes,
+  81? hidden publicKey
+ecKey | RFC 5915 section 3 | 30 ECPrivateKey ECPrivateKey
+rsaKey | RFC 8017 appendix A.1.2 | 30 RSAPrivateKey RSAPrivateKey
+numberKey | an INTEGER, as OpenSSL writes it | 02 hidden the_key
+octetKey | RFC 8410 section 7: CurvePrivateKey | 04 hidden the_key
+RSAPrivateKey | RFC 8017 appendix A.1.2 |
+  02 version version, 02 hidden modulus, 02 short8 publicExponent, 02 hidden privateExponent,
+  02 hidden prime1, 02 hidden prime2, 02 hidden exponent1, 02 hidden exponent2, 02 hidden coefficient,
+  30? hidden otherPrimeInfos
+DSAPrivateKey | as OpenSSL writes it |
+  02 version version, 02 hidden p, 02 hidden q, 02 hidden g, 02 hidden y, 02 hidden x
+PFX | RFC 7292 section 4 | 02 version version, 30 ContentInfo authSafe, 30? mac macData
+mac | RFC 7292 section 4: MacData | 30 digest mac, 04 hidden macSalt, 02? short8 iterations
+Certificate | RFC 5280 section 4.1 |
+  30 tbs tbsCertificate, 30 algorithm signatureAlgorithm, 03 hidden signatureValue
+tbs | RFC 5280 section 4.1 |
+  A0? version0 version, 02 shown20 serialNumber, 30 algorithm signature, 30 names issuer,
+  30 validity validity, 30 names subject, 30 SubjectPublicKeyInfo subjectPublicKeyInfo,
+  81? hidden issuerUniqueID, 82? hidden subjectUniqueID, A3? extensions0 extensions
+version0 | RFC 5280 section 4.1: an explicit tag | 02 version version
+names | RFC 5280 section 4.1.2.4 | 31* names1 RelativeDistinguishedName
+names1 | RFC 5280 section 4.1.2.4 | 30* names2 AttributeTypeAndValue
+names2 | RFC 5280 section 4.1.2.4 | 06 shown12 type, 00 shown255 value
+validity | RFC 5280 section 4.1.2.5 | 17 shown19 notBefore, 17 shown19 notAfter
+extensions0 | RFC 5280 section 4.1: an explicit tag | 30 extensions extensions
+extensions | RFC 5280 section 4.1 | 30* extension Extension
+extension | RFC 5280 section 4.1 | 06 shown12 extnID, 01? version critical, 04 hidden extnValue
+CertificationRequest | RFC 2986 section 4.2 |
+  30 request certificationRequestInfo, 30 algorithm signatureAlgorithm, 03 hidden signature
+request | RFC 2986 section 4.1 |
+  02 version version, 30 names subject, 30 SubjectPublicKeyInfo subjectPKInfo, A0 hidden attributes
+CertificateList | RFC 5280 section 5.1 |
+  30 list tbsCertList, 30 algorithm signatureAlgorithm, 03 hidden signatureValue
+list | RFC 5280 section 5.1 |
+  02? version version, 30 algorithm signature, 30 names issuer, 17 shown19 thisUpdate, 17? shown19 nextUpdate,
+  30? revoked revokedCertificates, A0? extensions0 crlExtensions
+revoked | RFC 5280 section 5.1 | 30* revoked1 revokedCertificate
+revoked1 | RFC 5280 section 5.1 |
+  02 shown20 userCertificate, 17 shown19 revocationDate, 30? extensions crlEntryExtensions
+ecPublic | RFC 5480 section 2 | 30 ecAlgorithm algorithm, 03 point subjectPublicKey
+SubjectPublicKeyInfo | RFC 5280 section 4.1.2.7 | 30 algorithm algorithm, 03 hidden subjectPublicKey
+algorithm | RFC 5280 section 4.1.1.2 | 06 shown12 algorithm, 00? shown12 parameters
+ecAlgorithm | RFC 5480 section 2.1.1 | 06 of:1.2.840.10045.2.1 algorithm, 06? shown12 namedCurve
+rsaAlgorithm | RFC 8017 appendix A.1 | 06 of:1.2.840.113549.1.1 algorithm, 00? hidden parameters
+dsaAlgorithm | RFC 3279 section 2.3.2 | 06 of:1.2.840.10040.4.1 algorithm, 30? Dss-Parms parameters
+dhAlgorithm | PKCS #3 section 9 | 06 of:1.2.840.113549.1.3.1 algorithm, 30? DHParameter parameters
+x942Algorithm | RFC 3279 section 2.3.3 | 06 of:1.2.840.10046.2.1 algorithm, 30? DomainParameters parameters
+edwardsAlgorithm | RFC 8410 section 3: parameters are absent | 06 of:1.3.101 algorithm
+DHParameter | PKCS #3 section 9 | 02 hidden prime, 02 version base, 02? short8 privateValueLength
+RSAPublicKey | RFC 8017 appendix A.1.1 | 02 hidden modulus, 02 short8 publicExponent
+signature | RFC 3279 section 2.2.3 | 02 hidden r, 02 hidden s
+Dss-Parms | RFC 3279 section 2.3.2 | 02 hidden p, 02 hidden q, 02 hidden g
+DomainParameters | RFC 3279 section 2.3.3 |
+  02 hidden p, 02 hidden g, 02 hidden q, 02? hidden j, 30? hidden validationParms
+ECParameters | RFC 3279 section 2.3.5 |
+  02 version version, 30 field fieldID, 30 curveParameters curve, 04 point base, 02 hidden order,
+  02? short8 cofactor
+field | RFC 3279 section 2.3.5 | 06 of:1.2.840.10045.1 fieldType, 00 hidden parameters
+curveParameters | RFC 3279 section 2.3.5 | 04 hidden a, 04 hidden b, 03? hidden seed
+ContentInfo | RFC 5652 section 3 | 06 of:1.2.840.113549.1.7 contentType, A0? hidden content
+encrypted | RFC 5958 section 3, with an algorithm of RFC 8018 appendix A |
+  30 pbes encryptionAlgorithm, 04 hidden encryptedData
+pbes | RFC 8018 appendix A | 06 of:1.2.840.113549.1.5 algorithm, 00? hidden parameters
+encrypted12 | RFC 5958 section 3, with an algorithm of RFC 7292 appendix C |
+  30 pbe encryptionAlgorithm, 04 hidden encryptedData
+pbe | RFC 7292 appendix C | 06 of:1.2.840.113549.1.12.1 algorithm, 00? hidden parameters
+digest | RFC 8017 appendix A.2.4 | 30 algorithm digestAlgorithm, 04 hidden digest
+digest2 | RFC 8017 appendix A.2.4 | 30 sha2 digestAlgorithm, 04 hidden digest
+sha2 | RFC 8017 appendix B.1 | 06 of:2.16.840.1.101.3.4.2 algorithm, 00? hidden parameters
+digest1 | RFC 8017 appendix A.2.4 | 30 sha1 digestAlgorithm, 04 hidden digest
+sha1 | RFC 8017 appendix B.1 | 06 of:1.3.14.3.2.26 algorithm, 00? hidden parameters
+digest5 | RFC 8017 appendix A.2.4 | 30 md5 digestAlgorithm, 04 hidden digest
+md5 | RFC 8017 appendix B.1 | 06 of:1.2.840.113549.2 algorithm, 00? hidden parameters
+OCSPResponse | RFC 6960 section 4.2.1 | 0A version responseStatus, A0? response0 responseBytes
+response0 | RFC 6960 section 4.2.1: an explicit tag | 30 response responseBytes
+response | RFC 6960 section 4.2.1 | 06 of:1.3.6.1.5.5.7.48.1.1 responseType, 04 hidden response
+TimeStampReq | RFC 3161 section 2.4.1 |
+  02 version version, 30 digest messageImprint, 06? shown12 reqPolicy, 02? shown20 nonce, 01? version certReq,
+  A0? extensions extensions
+TimeStampResp | RFC 3161 section 2.4.2 | 30 status status, 30? ContentInfo timeStampToken
+status | RFC 3161 section 2.4.2: PKIStatusInfo |
+  02 version status, 30? hidden statusString, 03? hidden failInfo
+OCSPRequest | RFC 6960 section 4.1.1 | 30 tbsRequest tbsRequest, A0? hidden optionalSignature
+tbsRequest | RFC 6960 section 4.1.1 |
+  A0? version0 version, A1? hidden requestorName, 30 requests requestList, A2? extensions0 requestExtensions
+requests | RFC 6960 section 4.1.1 | 30* request1 Request
+request1 | RFC 6960 section 4.1.1 | 30 certId reqCert, A0? extensions0 singleRequestExtensions
+certId | RFC 6960 section 4.1.1 |
+  30 algorithm hashAlgorithm, 04 hidden issuerNameHash, 04 hidden issuerKeyHash, 02 shown20 serialNumber
+package | RFC 5958 section 2: one key at least | 30 any8 OneAsymmetricKey, 30* any8 OneAsymmetricKey
+safe | RFC 7292 section 4.2 | 30 bag SafeBag, 30* bag SafeBag
+bag | RFC 7292 section 4.2 |
+  06 of:1.2.840.113549.1.12.10.1 bagId, A0 hidden bagValue, 31? hidden bagAttributes
+oid | X.690 section 8.19 | 06 short12 namedCurve
+"""
+# The forms, in the order that decides between those which as many bytes follow: the structure, the
+# name of its root, what its parts can hold, and what it is said to be. What is told by INTEGERs alone
+# is closed: a key with 02 for 04 may be two INTEGERs.
+PRIVATE, CLOSED, PUBLIC = "private", "closed", "public"
+FORMS = [
+    ("ECPrivateKey", "ECPrivateKey", PRIVATE, "an EC private key (RFC 5915)"),
+    *((name, "PrivateKeyInfo", PRIVATE, "PKCS #8 (RFC 5958)")
+      for name in ("ec8", "rsa8", "dsa8", "dh8", "x942", "octet8", "any8")),
+    ("RSAPrivateKey", "RSAPrivateKey", PRIVATE, "an RSA private key (RFC 8017)"),
+    ("DSAPrivateKey", "DSAPrivateKey", PRIVATE, "a DSA private key"),
+    ("PFX", "PFX", PRIVATE, "PKCS #12 (RFC 7292)"),
+    ("Certificate", "Certificate", PUBLIC, "a certificate (RFC 5280)"),
+    ("CertificationRequest", "CertificationRequest", PUBLIC, "a certification request (RFC 2986)"),
+    ("CertificateList", "CertificateList", PUBLIC, "a list of revoked certificates (RFC 5280)"),
+    ("ecPublic", "SubjectPublicKeyInfo", PUBLIC, "a public key (RFC 5280)"),
+    ("SubjectPublicKeyInfo", "SubjectPublicKeyInfo", PUBLIC, "a public key (RFC 5280)"),
+    ("DHParameter", "DHParameter", CLOSED, "Diffie-Hellman parameters (PKCS #3)"),
+    ("RSAPublicKey", "RSAPublicKey", CLOSED, "an RSA public key (RFC 8017)"),
+    ("signature", "signature", CLOSED, "an ECDSA signature (RFC 3279)"),
+    ("Dss-Parms", "Dss-Parms", CLOSED, "DSA parameters (RFC 3279)"),
+    ("DomainParameters", "DomainParameters", CLOSED, "Diffie-Hellman parameters (RFC 3279)"),
+    ("ECParameters", "ECParameters", PUBLIC, "the parameters of a curve (RFC 3279)"),
+    ("ContentInfo", "ContentInfo", CLOSED, "CMS or PKCS #7 (RFC 5652)"),
+    *((name, "EncryptedPrivateKeyInfo", CLOSED, "encrypted PKCS #8 (RFC 5958)")
+      for name in ("encrypted", "encrypted12")),
+    *((name, "DigestInfo", CLOSED, "a digest (RFC 8017)")
+      for name in ("digest2", "digest1", "digest5")),
+    ("OCSPResponse", "OCSPResponse", CLOSED, "an OCSP response (RFC 6960)"),
+    ("TimeStampReq", "TimeStampReq", CLOSED, "a time stamp query (RFC 3161)"),
+    ("TimeStampResp", "TimeStampResp", CLOSED, "a time stamp reply (RFC 3161)"),
+    ("OCSPRequest", "OCSPRequest", CLOSED, "an OCSP request (RFC 6960)"),
+    ("package", "AsymmetricKeyPackage", PRIVATE, "a package of private keys (RFC 5958)"),
+    ("safe", "SafeContents", PRIVATE, "the inside of PKCS #12 (RFC 7292)"),
+    ("oid", "namedCurve", PUBLIC, "an identifier"),
+]
+
+
+class Field:
+    """A field of a structure."""
+
+    def __init__(self, tag, presence, content, name):
+        self.tag, self.presence, self.name = tag, presence, name
+        self.kind = content.rstrip("0123456789") if content[:5] in ("shown", "short") else content
+        self.most = int(content[5:]) if self.kind in ("shown", "short") else None
+        self.arcs = arcs_of(content[3:]) if content.startswith("of:") else None
+        self.whole = content[1:] if content.startswith("=") else None
+        self.inside = content if content in NAMES else None
+
+    @property
+    def is_exact(self):
+        """Returns whether the content says if an element is this field."""
+        return bool(self.arcs) or self.kind in ("version", "short")
+
+    @property
+    def is_needed(self):
+        return self.presence == ""
+
+    def has_tag(self, first):
+        return self.tag in (first, 0) or self.tag == 0x17 and first == 0x18
+
+    def admits(self, content):
+        """Returns whether a content can be of this field."""
+        if self.arcs:
+            return len(content) <= 12 and content.startswith(self.arcs)
+        if self.kind == "version":
+            return len(content) == 1
+        return self.kind != "short" or len(content) <= self.most
+
+
+def arcs_of(dotted):
+    """Returns the bytes of an identifier's arcs (X.690 section 8.19)."""
+    first, second, *others = map(int, dotted.split("."))
+    out = b""
+    for arc in [40 * first + second, *others]:
+        digits = [arc & 127]
+        while arc := arc >> 7:
+            digits.insert(0, arc & 127 | 128)
+        out += bytes(digits)
+    return out
+
+
+NAMES = {line.split(" | ")[0] for line in TABLE.splitlines() if " | " in line}
+
+
+def structures():
+    """Returns the fields of each structure."""
+    found = {}
+    for row in re.sub(r"\n  +", " ", TABLE).strip().splitlines():
+        name, _, fields = (part.strip() for part in row.split(" |"))
+        fields = (field.split() for field in fields.split(", "))
+        found[name] = [Field(int(tag[:2], 16), tag[2:], content, word.replace("_", " "))
+                       for tag, content, word in fields]
+    return found
+
+
+STRUCTURES = structures()
+
+
+class Form:
+    """What the whole of some bytes can be."""
+
+    def __init__(self, structure, name, secrecy, words):
+        self.structure, self.name, self.secrecy, self.words = structure, name, secrecy, words
+        fields = STRUCTURES[structure]
+        is_root = structure == "oid"
+        self.root = fields[0] if is_root else Field(0x30, "", structure, name)
+
+    @property
+    def is_private(self):
+        return self.secrecy == PRIVATE
+
+
+ALL = [Form(*form) for form in FORMS]

@@ -1,0 +1,244 @@
+"""What is said last of bytes, and the command that helps: docs/FORMATS.md, "The picture of
+`sec1_dump`"."""
+from ber import count_of, shortened
+from table import CLOSED
+from values import NAMES, identifier, is_named
+
+EC = "openssl ec %s-in FILE %s-outform DER -out key.der"
+EXPLICIT, LEGACY = "-param_enc named_curve ", "-provider legacy -provider default "
+PKCS12 = "openssl pkcs12 %s-in FILE -nodes -nocerts -out key.pem"
+NO_KEY = "This is no EC private key (RFC 5915)"
+WRITES = "If OpenSSL reads it, this writes it in DER:"
+NAMING = "Its curve is given by parameters. If OpenSSL knows it, this names it:"
+ASKS = "If it has an EC key, this asks for the password and writes it:"
+KEYS = "If OpenSSL reads it, this asks for the password and writes its keys as PEM:"
+TWO = "These are two INTEGERs, as of %s: no %s."
+# of forms that are told by INTEGERs alone, or that name something
+SAID = {
+    "DHParameter": "These are INTEGERs, as of Diffie-Hellman parameters (PKCS #3) or an RSA public "
+                   "key: no key.",
+    "RSAPublicKey": TWO % ("an RSA public key (RFC 8017)", "private key"),
+    "signature": TWO % ("an ECDSA signature (RFC 3279)", "key"),
+    "Dss-Parms": "These are three INTEGERs, as of DSA parameters (RFC 3279): no key.",
+    "DomainParameters": "These are INTEGERs, as of Diffie-Hellman parameters (RFC 3279): no key.",
+    "ECParameters": "These are the parameters of a curve (RFC 3279): no key.",
+    "PFX": "This is PKCS #12 (RFC 7292).",
+    "encrypted": "This is encrypted PKCS #8 (RFC 5958).",
+    "encrypted12": "This is encrypted PKCS #8 (RFC 5958).",
+}
+RAW = (28, 32, 48, 66)
+KNOWN = [
+    ("a Java keystore", lambda data: data[:4] in (b"\xFE\xED\xFE\xED", b"\xCE\xCE\xCE\xCE")),
+    ("gzip (RFC 1952)", lambda data: data[:3] == b"\x1F\x8B\x08"),
+    ("a PVK file", lambda data: data[:4] == b"\x1E\xF1\xB5\xB0"),
+    ("a KeePass file", lambda data: data[:4] == b"\x03\xD9\xA2\x9A"),
+    ("an OpenPGP key (RFC 9580)", lambda data: data[:1] in (b"\x95", b"\x99") and data[3:4] == b"\4"
+     and int.from_bytes(data[1:3], "big") <= len(data) - 3),
+]
+# The bytes of a coordinate (SEC 2, RFC 3279, RFC 5639), and those of the order where it has more.
+SIZES = {name: (size, size) for names, size in (
+    ("secp112r1 secp112r2", 14), ("secp128r1 secp128r2", 16),
+    ("secp160k1 secp160r1 secp160r2 brainpoolP160r1 brainpoolP160t1", 20),
+    ("secp192k1 P-192 prime192v2 prime192v3 brainpoolP192r1 brainpoolP192t1", 24),
+    ("secp224k1 P-224 brainpoolP224r1 brainpoolP224t1", 28),
+    ("prime239v1 prime239v2 prime239v3", 30),
+    ("secp256k1 P-256 brainpoolP256r1 brainpoolP256t1", 32),
+    ("brainpoolP320r1 brainpoolP320t1", 40), ("P-384 brainpoolP384r1 brainpoolP384t1", 48),
+    ("brainpoolP512r1 brainpoolP512t1", 64), ("P-521", 66)) for name in names.split()}
+SIZES |= {name: (SIZES[name][0], SIZES[name][1] + 1)
+          for name in ("secp160k1", "secp160r1", "secp160r2", "secp224k1")}
+
+
+class Words:
+    """What is said of a picture that is drawn without --all."""
+
+    def __init__(self, picture, source, runs):
+        self.picture, self.plan, self.data = picture, picture.plan, picture.data
+        self.source, self.runs, self.rows = source, runs, picture.rows
+        self.lines, self.command, self.is_key = [], None, False
+        self.form = self.plan.form.structure if self.plan.form else None
+        if not self.data:
+            self.lines = ["The block is empty." if source == "pem" else "The input is empty."]
+        elif self.form is None:
+            self.say_bytes()
+        else:
+            self.say_form()
+        self.lines = [shortened(line) for line in self.lines]
+
+    def say_bytes(self):
+        """What is said of bytes without a form."""
+        data = self.data
+        if self.plan.is_tree:
+            self.lines.append(f"{NO_KEY}.")
+        elif len(data) in RAW:
+            self.lines.append(f"These are {len(data)} bytes, as of a raw private key: no DER.")
+        else:
+            known = next((f"This begins as {name}" for name, begins in KNOWN if begins(data)), None)
+            many = f"These are {len(data)} bytes" if len(data) > 1 else "This is 1 byte"
+            self.lines.append(f"{known or many}: no DER.")
+
+    def say_form(self):
+        """What is said of bytes with a form: what they are, what doesn't fit, and what helps."""
+        self.is_key = self.form == "ECPrivateKey" and self.is_read()
+        self.lines.append(self.whole() if self.plan.is_whole else self.broken())
+        fits = self.say_sizes()
+        if not fits or any(map(self.is_damaged, self.rows)):
+            return None
+        if self.is_key:
+            return self.advise(WRITES, self.ec() if self.source == "pem" and self.curve()[0] else None)
+        if self.form == "ECPrivateKey" and self.version() == 1:
+            return self.advise_repair(any(map(gives_curve, self.rows)))
+        if self.form == "ec8" and self.find("ECPrivateKey", 2) and not self.find("publicKey", 1):
+            return self.advise_repair(False)
+        return self.advise_other()
+
+    def is_damaged(self, row):
+        """Returns whether a row says what no command repairs: neither lengths and strings as in BER,
+        nor bytes after the root, nor a curve that is given by its parameters."""
+        kinds = {kind for kind, _ in row.marks}
+        if row.kind == "not drawn" and "rest" not in kinds:
+            return True
+        return bool(kinds - {"length", "indefinite", "string", "rest"}) and not gives_curve(row)
+
+    def advise_repair(self, is_explicit):
+        """Says how a key's curve is named, or a key is written in DER."""
+        if is_explicit:
+            self.advise(NAMING, self.ec(EXPLICIT))
+        elif self.curve()[0]:
+            self.advise(WRITES, self.ec())
+
+    def advise(self, lead, command):
+        """Says which command helps, if it reads this input."""
+        if command and self.source in ("der", "pem") and self.runs:
+            self.lines.append(lead)
+            self.command = command
+
+    def ec(self, names="", legacy=""):
+        return EC % (legacy + ("-inform DER " if self.source == "der" else ""), names)
+
+    def find(self, name, *depths):
+        """Returns the first row of a field with this name, at one of these depths."""
+        return next((row for row in self.rows if row.field and row.field.name == name
+                     and row.depth in (depths or range(9))), None)
+
+    def content(self, row):
+        return self.data[row.start:row.stop] if row else b""
+
+    def whole(self):
+        """Returns what bytes are that follow their form to the end."""
+        words, form = self.plan.form.words, self.form
+        if form == "ECPrivateKey":
+            return self.key()
+        if self.plan.form.name == "PrivateKeyInfo":
+            return self.container()
+        if form == "oid":
+            return self.identifier()
+        if form in SAID:
+            return SAID[form]
+        if self.plan.form.secrecy == CLOSED or self.plan.is_private:
+            return f"This is {words}, no EC key."
+        return f"This is {words}: it has no private key."
+
+    def broken(self):
+        """Returns what bytes are that don't follow their form to the end."""
+        is_ec = self.form == "ECPrivateKey"
+        front = NO_KEY if is_ec else f"This begins as {self.plan.form.words}"
+        root = self.rows[0]
+        if self.plan.is_cut:
+            there, whole = len(self.data), root.start + root.head.length
+            return f"{front}: {there} of {whole} bytes are there."
+        at = next((row.at for row in self.rows if row.marks or row.kind == "not drawn"), None)
+        return f"{front}." if at is None else f"{front}: see offset {at}."
+
+    def curve(self):
+        """Returns the name of the last curve that is named, and the row that has it."""
+        rows = [row for row in self.rows if row.field and row.field.name == "namedCurve"]
+        return NAMES.get(rows[-1].label.oid) if rows else None, rows[-1] if rows else None
+
+    def key(self):
+        """Returns what is said of an ECPrivateKey."""
+        name, row = self.curve()
+        if self.is_key:
+            if row is None:
+                return "This is an EC private key (RFC 5915), with no curve named."
+            where = name or (f"the curve {row.label.oid}" if row.label.oid else "another curve")
+            return f"This is an EC private key (RFC 5915) on {where}."
+        version = self.version()
+        return self.broken() if version == 1 else f"{NO_KEY}: its version is {version}."
+
+    def version(self):
+        row = self.find("version", 1)
+        return self.content(row)[0] if row else None
+
+    def unused(self):
+        """Returns whether a point has unused bits, or no byte."""
+        row = self.find("the point")
+        return row is not None and self.content(row)[:1] != b"\0"
+
+    def is_read(self):
+        """Returns whether `EcPrivateKey::try_from` reads the bytes: DER (RFC 5915)."""
+        if not self.plan.is_whole or any(row.head and row.head.marks for row in self.rows):
+            return False
+        row = self.curve()[1]
+        is_curve = row is None or is_named(self.content(row))
+        return self.version() == 1 and not self.unused() and is_curve
+
+    def say_sizes(self):
+        """Says which lengths don't fit the curve. Returns whether a key fits, as far as is known."""
+        size, order = SIZES.get(self.curve()[0], (None, None))
+        key = self.find("privateKey", 3 if self.form == "ec8" else 1)
+        point, fits, count = self.find("the point"), True, len(self.lines)
+        if size and key and not key.opened and key.stop - key.start != order and self.is_ec():
+            there = count_of(key.stop - key.start)
+            self.lines.append(f"Its private key has {there}, where {self.curve()[0]} has {order}.")
+        if point and point.shown > 1:
+            unused, form = self.content(point)[:2]
+            wanted, there = {2: size, 3: size}.get(form, 2 * (size or 0)), point.head.length - 2
+            is_plain = form in (2, 3, 4, 6, 7)
+            fits = is_plain and unused == 0
+            if size and is_plain and there != wanted:
+                self.lines.append(
+                    f"Its point has {count_of(there)}, where {self.curve()[0]} has {wanted}.")
+        return fits and count == len(self.lines)
+
+    def is_ec(self):
+        return self.form in ("ECPrivateKey", "ec8")
+
+    def container(self):
+        """Returns what is said of PKCS #8."""
+        row = self.find("algorithm", 2)
+        if row.label.oid == "1.2.840.10045.2.1":
+            return "This is PKCS #8 (RFC 5958) with an EC key."
+        known = NAMES.get(row.label.oid, row.label.oid)
+        return "This is PKCS #8 (RFC 5958) with another key%s. It has no EC key." % (
+            f": {known}" if known else "")
+
+    def identifier(self):
+        """Returns what is said of an identifier alone."""
+        known = NAMES.get(identifier(self.data[2:]) if self.rows[0].start == 2 else None)
+        if not known:
+            return "This is an identifier: it has no private key."
+        curve = "the curve " if known in SIZES else ""
+        return f"This names {curve}{known}: it has no private key."
+
+    def advise_other(self):
+        """Says what helps with other forms."""
+        form, oid = self.form, self.find("algorithm")
+        oid = oid.label.oid if oid else None
+        if form == "any8" and oid == "1.2.840.10045.2.1":
+            kid = self.find("parameters", 2)
+            if kid and kid.head.first == 0x30 and not self.find("publicKey", 1):
+                self.advise(NAMING, self.ec(EXPLICIT))
+        elif form == "PFX":
+            command = PKCS12 % ("-legacy " * (oid == "1.3.14.3.2.26"))
+            self.advise(KEYS, command if self.source == "der" else None)
+        elif form in ("encrypted", "encrypted12"):
+            arcs = [int(arc) for arc in oid.split(".")] if oid else []
+            is_old = arcs[6:7] < [13] if form == "encrypted" else arcs[7:8] not in ([3], [4])
+            self.advise(ASKS, self.ec(legacy=LEGACY if is_old else ""))
+
+
+def gives_curve(row):
+    """Returns whether a row is a SEQUENCE where a curve would be named."""
+    is_curve = row.expected and row.expected[0].name == "namedCurve"
+    return bool(is_curve and row.head and row.head.is_type(16))
