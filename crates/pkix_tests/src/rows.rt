@@ -72,21 +72,21 @@ impl Rows for Told<'_> {
     ghost joined = { λ _ _ _ _ _ _ _. tt };
 }
 
-/// Returns the rows of these bytes.
-fn rows_of(bytes: &[u8]) -> Told<'_> {
+/// Returns the rows of these bytes; with `all` each element is one.
+fn rows_of(bytes: &[u8], all: bool) -> Told<'_> {
     let mut told = Told {
         bytes,
         rows: [(0, 0, 0, 0, false); 8],
         count: 0,
         are_bytes: true,
     };
-    draw_rows(&mut told, plan_of(bytes), bytes, true);
+    draw_rows(&mut told, plan_of(bytes), bytes, all);
     told
 }
 
 #[test]
 fn draws_a_key(rt: HostRuntime) {
-    let told = rows_of(&KEY);
+    let told = rows_of(&KEY, true);
     assert_equal(&rt, &told.rows.get(..told.count), &Some(&KEY_ROWS));
     assert_equal(&rt, &told.are_bytes, &true);
 }
@@ -108,14 +108,15 @@ static COUNTS: [(&[u8], usize); 9] = [
 #[test]
 fn draws_what_is_no_tree(rt: HostRuntime) {
     for &(bytes, count) in COUNTS.iter() {
-        assert_equal_for(&rt, &bytes, &rows_of(bytes).count, &count);
+        assert_equal_for(&rt, &bytes, &rows_of(bytes, true).count, &count);
     }
 }
 
-/// A key that ends inside its third element, and inside the second one, by which it isn't known.
+/// A key that ends inside its third element, which is a row with `all` alone, and inside the second
+/// one, by which it isn't known.
 #[test]
 fn draws_a_cut_key(rt: HostRuntime) {
-    let told = rows_of(&KEY[..45]);
+    let told = rows_of(&KEY[..45], false);
     let rows = [
         (0, 0, 2, 43, true),
         (2, 1, 2, 1, false),
@@ -123,7 +124,19 @@ fn draws_a_cut_key(rt: HostRuntime) {
         (39, 1, 0, 6, false),
     ];
     assert_equal(&rt, &told.rows.get(..told.count), &Some(&rows));
-    let told = rows_of(&KEY[..20]);
-    let rows = [(0, 0, 0, 20, false)];
+    let told = rows_of(&KEY[..45], true);
+    let rows = [
+        (0, 0, 2, 43, true),
+        (2, 1, 2, 1, false),
+        (5, 1, 2, 32, false),
+        (39, 1, 2, 4, true),
+        (41, 2, 2, 2, false),
+    ];
     assert_equal(&rt, &told.rows.get(..told.count), &Some(&rows));
+    assert_equal(&rt, &told.are_bytes, &true);
+    for all in [false, true] {
+        let told = rows_of(&KEY[..20], all);
+        let rows = [(0, 0, 0, 20, false)];
+        assert_equal(&rt, &told.rows.get(..told.count), &Some(&rows));
+    }
 }
