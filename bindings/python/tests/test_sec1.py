@@ -630,6 +630,17 @@ class Points(unittest.TestCase):
 
 NULLS = b"\x30\x82\x20\x00" + b"\x05\x00" * 4096
 
+# Lines of a key that is cut off after 60 bytes: what docs/FORMATS.md says of the members.
+JSON = {
+    2: '{"announced":119,"class":"universal","constructed":true,"depth":0,"faults":[{"kind":"missing",'
+    '"words":"61 of 119 bytes missing"}],"header_len":2,"len":58,"name":"ECPrivateKey","offset":0,'
+    '"tag":16,"type":"SEQUENCE"}',
+    4: '{"class":"universal","constructed":false,"depth":1,"header_len":2,"len":32,'
+    '"name":"privateKey","offset":5,"secret":true,"tag":4,"type":"OCTET STRING"}',
+    7: '{"depth":1,"header_len":0,"len":9,"offset":51,"type":"not drawn"}',
+    8: '{"key":false,"mark":0,"words":"This is no EC private key (RFC 5915): 60 of 121 bytes are there."}',
+}
+
 
 def drawn_by_hand():
     """The pictures that were drawn by hand: input, whether all is shown, text and status."""
@@ -1211,27 +1222,34 @@ class Program(unittest.TestCase):
                 self.assertTrue(ran.stderr.decode().startswith(said) and bool(said) == bool(ran.stderr), ran.stderr)
 
     def test_json(self):
+        key = drawn_by_hand()[0][0]
         with tempfile.TemporaryDirectory() as folder:
-            files = [pathlib.Path(folder) / name for name in ("0", 'é "1"', "2", "3")]
-            drawn = [(data, text, status) for data, asked, text, status in drawn_by_hand() if not asked]
-            for file, (data, _, _) in zip(files, drawn):
+            files = [pathlib.Path(folder) / name for name in ("0", 'é "1"', "2")]
+            for file, data in zip(files, (key, key[:60], NULLS)):
                 file.write_bytes(data)
-            status, output, said = self.ran("--json", *files)
+            for words, data, status, names in (
+                ([], key[:60], 1, [None]),
+                (["-"], key[:60], 1, ["-"]),
+                ([files[1]], b"", 1, [str(files[1])]),
+                ([files[1], files[0]], b"", 1, [str(files[1]), str(files[0])]),
+                ([files[0]], b"", 0, [str(files[0])]),
+                ([files[0], "--all"], b"", 0, [str(files[0])]),
+            ):
+                ran = subprocess.run([sys.executable, "-m", "sec1", "--json", *words], input=data, capture_output=True)
+                self.assertEqual((ran.returncode, ran.stderr, ran.stdout.isascii()), (status, b"", True), words)
+                lines = ran.stdout.decode().splitlines()
+                found = [it for it in map(json.loads, lines) if "form" in it]
+                self.assertEqual([it.get("file") for it in found], names)
+                self.assertEqual(any('"content":' in line for line in lines), "--all" in words)
+                if status:
+                    self.assertEqual(found[0]["bytes"], 60)
+                    self.assertEqual({number: lines[number - 1] for number in JSON}, JSON)
+            _, output, _ = self.ran("--json", *files)
             lines = [json.loads(line) for line in output.splitlines()]
-            self.assertEqual((status, said, len(lines)), (max(it for *_, it in drawn[:4]), "", 4))
-            for file, (data, text, status), line in zip(files, drawn, lines):
-                rows = [
-                    [row.line, [*row.marks], row.offset, row.header_length, row.content_length, row.depth, row.is_hidden]
-                    for row in sec1.draw(data).rows
-                ]
-                names = ("line", "marks", "offset", "header_len", "len", "depth", "hidden")
-                self.assertEqual([[row[name] for name in names] for row in line.pop("rows")], rows)
-                self.assertEqual(line, {"file": str(file), "key": status == 0, "text": text})
-            self.assertEqual(list(json.loads(output.splitlines()[0])), ["file", "key", "rows", "text"])
-            self.assertIn('"rows":[{"depth":0,"header_len":', output)
-            files[0].write_bytes(NULLS)
-            line = json.loads(self.ran("--json", files[0])[1])
-            self.assertEqual([row["offset"] for row in line["rows"]], [0, *range(4, len(NULLS), 2)])
+            self.assertEqual([line["bytes"] for line in lines if "form" in line], [121, 60, len(NULLS)])
+            self.assertEqual([line["key"] for line in lines if "key" in line], [True, False, False])
+            rows = [line["offset"] for line in lines if "offset" in line]
+            self.assertEqual(rows[-4097:], [0, *range(4, len(NULLS), 2)])
 
     def ran(self, *words, shell='exec "$@"', **options):
         """The status, the output and what is said of errors. The shell runs the program, whose streams it may change."""
@@ -1314,18 +1332,20 @@ class Program(unittest.TestCase):
         """The next file is drawn, and the status is never that of a file without a key."""
         command = """if True:
             import sys, sec1.__main__ as program
-            kept, after = vars(program)[sys.argv[1]], int(sys.argv[2])
+            *above, name = sys.argv[1].split(".")
+            owner = vars(program)[above[0]] if above else program
+            kept, after = vars(owner)[name], int(sys.argv[2])
             def fails(*arguments, **options):
                 global after
                 after -= 1
                 if after < 0:
                     return kept(*arguments, **options)
                 raise MemoryError
-            setattr(program, sys.argv[1], fails)
+            setattr(owner, name, fails)
             sys.exit(program.main(sys.argv[3:]))"""
         for name, words, text, said in (
-            ("draw", [self.key], "", f"sec1: {self.key}: out of memory\n"),
-            ("draw", [], "", "sec1: standard input: out of memory\n"),
+            ("_library.drawn", [self.key], "", f"sec1: {self.key}: out of memory\n"),
+            ("_library.drawn", [], "", "sec1: standard input: out of memory\n"),
             ("content", [self.key], "", f"sec1: {self.key}: out of memory\n"),
             ("content", [self.key, self.key], f"{self.key}:\n{self.key}:\n{self.shown}", f"sec1: {self.key}: out of memory\n"),
             ("Parser", [self.key], "", "sec1: out of memory\n"),

@@ -1,15 +1,14 @@
 """Draws files of DER, PEM, hexadecimal or base64: python -m sec1 [--all] [--json] [FILE].. With --all private keys
-are shown too, and with --json a line for each file has its text, its rows, and whether it has a key. The status is 0 if
-each file has an EC private key, 1 if one has none, and 2 if one can't be read or printed, or for wrong arguments.
+are shown too, and with --json each line is an object, as `sec1_dump --json` prints it. The status is 0 if each file has
+an EC private key, 1 if one has none, and 2 if one can't be read or printed, or for wrong arguments.
 """
 import argparse
 import errno
-import json
 import os
 import sys
-from typing import Any, Iterator, List, NoReturn
+from typing import Any, List, NoReturn
 
-from . import Picture, draw
+from . import _check, _library
 
 # The greatest number of bytes that are read of a file.
 LIMIT = 16_777_215
@@ -71,40 +70,18 @@ def content(path: str) -> bytes:
         return read(file.fileno())
 
 
-def in_json(path: str, picture: Picture) -> Iterator[str]:
-    """Returns a line with what is in a file, in parts, whose members have the names that sec1_dump gives them."""
-    dumped = json.JSONEncoder(separators=(",", ":")).encode
-    parts = [f'{{"file":{dumped(path)},"key":{dumped(picture.has_key)},"rows":[']
-    for at, row in enumerate(picture.rows):
-        about = {
-            "depth": row.depth,
-            "header_len": row.header_length,
-            "hidden": row.is_hidden,
-            "len": row.content_length,
-            "line": row.line,
-            "marks": row.marks,
-            "offset": row.offset,
-        }
-        parts.append(f"{',' if at else ''}{dumped(about)}")
-        # All rows at once would take much more memory than the input.
-        if len(parts) > 1000:
-            yield "".join(parts)
-            parts = []
-    yield "".join([*parts, '],"text":', dumped(picture.text), "}\n"])
-
-
-def drawn(path: str, show_all: bool, as_json: bool) -> int:
-    """Writes the picture of a file, and returns its status."""
+def drawn(path: str, show_all: bool, as_json: bool, file: str) -> int:
+    """Writes the picture of a file, which has this name in JSON if it isn't empty, and returns its status."""
     try:
-        picture = draw(content(path), show_all)
+        status, text, is_key = _library.drawn(content(path), show_all, json=as_json, file=os.fsencode(file))
+        _check(status)
     except (OSError, Refused, MemoryError) as error:
         reason = error.strerror if isinstance(error, OSError) else str(error) or "out of memory"
         name = "standard input" if path == "-" else escaped(path)
         write(sys.stderr, f"sec1: {name}: {reason}\n")
         return 2
-    for part in in_json(path, picture) if as_json else [picture.text]:
-        write(sys.stdout, part)
-    return int(not picture.has_key)
+    write(sys.stdout, text.decode("ascii"))
+    return int(not is_key)
 
 
 def run(words: List[str]) -> int:
@@ -113,7 +90,7 @@ def run(words: List[str]) -> int:
     parser = Parser(prog="python -m sec1", description=about, allow_abbrev=False, add_help=False)
     parser.add_argument("--help", "-h", action="store_true", help="show this help")
     parser.add_argument("--all", action="store_true", help="show every content, private keys too")
-    parser.add_argument("--json", action="store_true", help="write a line of JSON for each file")
+    parser.add_argument("--json", action="store_true", help="write lines of JSON")
     parser.add_argument("files", metavar="FILE", nargs="*", help="standard input if there is none, or for -")
     try:
         given = parser.parse_args(words)
@@ -123,11 +100,13 @@ def run(words: List[str]) -> int:
     if given.help:
         write(sys.stdout, parser.format_help())
         return 0
+    if not given.files:
+        return drawn("-", given.all, given.json, "")
     status = 0
-    for path in given.files or ["-"]:
+    for path in given.files:
         if len(given.files) > 1 and not given.json:
             write(sys.stdout, f"{escaped(path)}:\n")
-        status = max(status, drawn(path, given.all, given.json))
+        status = max(status, drawn(path, given.all, given.json, path))
     return status
 
 

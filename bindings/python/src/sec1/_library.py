@@ -128,12 +128,13 @@ def pem_decoded(text: bytes, label: bytes) -> Tuple[int, int, bytes]:
     return line.value, status, data
 
 
-def drawn(data: bytes, show_all: bool, levels: int = 0, offset: int = 0) -> Tuple[int, bytes, int]:
-    """Returns the status, the text of a picture, and whether some part of the bytes is a key. What was
-    decoded, and the text, are overwritten in the memory that was theirs."""
+def drawn(
+    data: bytes, show_all: bool, levels: int = 0, offset: int = 0, json: bool = False, file: bytes = b""
+) -> Tuple[int, bytes, int]:
+    """Returns the status, the text of a picture, or lines of JSON, in which a file has this name, and whether some
+    part of the bytes is a key. What was decoded, and the text, are overwritten in the memory that was theirs."""
     length, is_key, most = c_size_t(), c_size_t(), 4096
-    # No JSON, and no name of a file.
-    options = (number(show_all), number(0), number(levels), number(offset), *given(b""))
+    options = (number(show_all), number(json), number(levels), number(offset), *given(file))
     while True:
         room = ctypes.create_string_buffer(2 * length_of(data) + 2 + most)
         text = ctypes.create_string_buffer(most)
