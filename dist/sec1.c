@@ -121,7 +121,7 @@ ALIGNED(static const struct constants {
   struct address addresses_17[34];
   uint8_t bytes_18[112];
   struct address addresses_18[14];
-  uint8_t bytes_19[356];
+  uint8_t bytes_19[320];
 } constants) = {
   {0, 1, 2, 3, 4, 5, 6, 7, 8, 9, 10, 11, 12, 13, 14, 15, 16, 17, 18, 19, 20, 21, 22, 23, 24, 25,
       26, 27, 28, 29, 30, 31, 32, 33, 43, 129, 4, 0, 6, 43, 129, 4, 0, 7, 43, 129, 4, 0, 28, 43,
@@ -2159,17 +2159,16 @@ ALIGNED(static const struct constants {
   {TO(32333), TO(32335), TO(32363), TO(32392), TO(32433), TO(32454), TO(32483), TO(32516),
       TO(32539), TO(32567), TO(32602), TO(32640), TO(32662), TO(32701)},
   {1, 0, 0, 0, 2, 0, 0, 0, 3, 0, 0, 0, 4, 0, 0, 0, 5, 0, 0, 0, 6, 0, 0, 0, 7, 0, 0, 0, 14, 0, 0,
-      0, 15, 0, 0, 0, 8, 0, 0, 0, 14, 0, 0, 0, 0, 0, 0, 0, 14, 0, 0, 0, 0, 0, 0, 0, 16, 0, 0, 0, 0,
-      0, 0, 0, 16, 0, 0, 0, 0, 0, 0, 0, 20, 0, 0, 0, 0, 0, 0, 0, 20, 0, 0, 0, 0, 0, 0, 0, 20, 0, 0,
-      0, 0, 0, 0, 0, 24, 0, 0, 0, 0, 0, 0, 0, 24, 0, 0, 0, 0, 0, 0, 0, 28, 0, 0, 0, 0, 0, 0, 0, 28,
-      0, 0, 0, 0, 0, 0, 0, 32, 0, 0, 0, 0, 0, 0, 0, 32, 0, 0, 0, 0, 0, 0, 0, 48, 0, 0, 0, 0, 0, 0,
-      0, 66, 0, 0, 0, 0, 0, 0, 0, 24, 0, 0, 0, 0, 0, 0, 0, 24, 0, 0, 0, 0, 0, 0, 0, 30, 0, 0, 0, 0,
-      0, 0, 0, 30, 0, 0, 0, 0, 0, 0, 0, 30, 0, 0, 0, 0, 0, 0, 0, 20, 0, 0, 0, 0, 0, 0, 0, 20, 0, 0,
-      0, 0, 0, 0, 0, 24, 0, 0, 0, 0, 0, 0, 0, 24, 0, 0, 0, 0, 0, 0, 0, 28, 0, 0, 0, 0, 0, 0, 0, 28,
-      0, 0, 0, 0, 0, 0, 0, 32, 0, 0, 0, 0, 0, 0, 0, 32, 0, 0, 0, 0, 0, 0, 0, 40, 0, 0, 0, 0, 0, 0,
-      0, 40, 0, 0, 0, 0, 0, 0, 0, 48, 0, 0, 0, 0, 0, 0, 0, 48, 0, 0, 0, 0, 0, 0, 0, 64, 0, 0, 0, 0,
-      0, 0, 0, 64, 0, 0, 0, 0, 0, 0, 0, 1, 0, 0, 0, 2, 0, 0, 0, 3, 0, 0, 0, 4, 0, 0, 0, 5, 0, 0, 0,
-      6, 0, 0, 0, 7, 0, 0, 0, 14, 0, 0, 0, 15, 0, 0, 0, 8, 0, 0, 0, 16, 0, 0, 0}
+      0, 15, 0, 0, 0, 8, 0, 0, 0, 16, 0, 0, 0, 0, 0, 0, 0, 14, 0, 0, 0, 0, 0, 0, 0, 14, 0, 0, 0, 0,
+      0, 0, 0, 16, 0, 0, 0, 0, 0, 0, 0, 16, 0, 0, 0, 0, 0, 0, 0, 20, 0, 0, 0, 0, 0, 0, 0, 20, 0, 0,
+      0, 0, 0, 0, 0, 20, 0, 0, 0, 0, 0, 0, 0, 24, 0, 0, 0, 0, 0, 0, 0, 24, 0, 0, 0, 0, 0, 0, 0, 28,
+      0, 0, 0, 0, 0, 0, 0, 28, 0, 0, 0, 0, 0, 0, 0, 32, 0, 0, 0, 0, 0, 0, 0, 32, 0, 0, 0, 0, 0, 0,
+      0, 48, 0, 0, 0, 0, 0, 0, 0, 66, 0, 0, 0, 0, 0, 0, 0, 24, 0, 0, 0, 0, 0, 0, 0, 24, 0, 0, 0, 0,
+      0, 0, 0, 30, 0, 0, 0, 0, 0, 0, 0, 30, 0, 0, 0, 0, 0, 0, 0, 30, 0, 0, 0, 0, 0, 0, 0, 20, 0, 0,
+      0, 0, 0, 0, 0, 20, 0, 0, 0, 0, 0, 0, 0, 24, 0, 0, 0, 0, 0, 0, 0, 24, 0, 0, 0, 0, 0, 0, 0, 28,
+      0, 0, 0, 0, 0, 0, 0, 28, 0, 0, 0, 0, 0, 0, 0, 32, 0, 0, 0, 0, 0, 0, 0, 32, 0, 0, 0, 0, 0, 0,
+      0, 40, 0, 0, 0, 0, 0, 0, 0, 40, 0, 0, 0, 0, 0, 0, 0, 48, 0, 0, 0, 0, 0, 0, 0, 48, 0, 0, 0, 0,
+      0, 0, 0, 64, 0, 0, 0, 0, 0, 0, 0, 64, 0, 0, 0, 0, 0, 0, 0}
 };
 
 #if defined __BYTE_ORDER__ && __BYTE_ORDER__ == __ORDER_BIG_ENDIAN__
@@ -2320,7 +2319,7 @@ static void der_view_drawing_pem_line(uint64_t p0, uint64_t p1, uint64_t p2, uin
 static void der_view_line_Line_push_found(uint64_t p0, uint64_t p1);
 static uint64_t itoa_integer_write_unsigned(uint64_t p0, uint64_t p1);
 static void pkix_public_key_SubjectPublicKeyInfo_from_der(uint64_t p0, uint64_t p1, uint64_t p2);
-static void sec1_der_value_element_header(uint64_t p0, uint64_t p1);
+static void sec1_borrowed_key_BorrowedKey_encoded_len(uint64_t p0, uint64_t p1);
 static uint32_t sec1_c_container_fault_tell_curve(uint64_t p0, uint64_t p1, uint64_t p2);
 static void sec1_c_identifier_arcs_put_arcs(uint64_t p0, uint64_t p1, uint64_t p2);
 static uint32_t core_cmp_text_RefStrPartialEq_eq(uint64_t p0, uint64_t p1);
@@ -2328,10 +2327,10 @@ static uint64_t core_slice_words_skip_far(uint64_t p0, uint64_t p1, uint64_t p2)
 static void sec1_der_object_identifier_builder_Content_push_marked(uint64_t p0, uint64_t p1,
     uint32_t p2);
 static void sec1_der_object_identifier_ObjectIdentifier_to_text(uint64_t p0, uint64_t p1);
-static void sec1_der_back_writer_BackWriter_prepend_element(uint64_t p0, uint64_t p1, uint64_t p2);
+static void sec1_der_explicit_ExplicitBitsEncodeValue_prepend_value(uint64_t p0, uint64_t p1);
 static uint64_t sec1_der_back_writer_prepend_long_header(uint64_t p0, uint64_t p1, uint32_t p2,
     uint64_t p3);
-static void sec1_der_back_writer_BackWriter_prepend_element_2(uint64_t p0, uint64_t p1,
+static void sec1_der_explicit_ExplicitEncodeValue_prepend_value(uint64_t p0, uint64_t p1,
     uint64_t p2);
 static void sec1_der_required_RequiredEncodePart_prepend_part(uint64_t p0, uint64_t p1,
     uint64_t p2);
@@ -2413,8 +2412,7 @@ static void der_view_json_Object_write_back(uint64_t p0, uint64_t p1, uint64_t p
 static void sec1_der_required_RequiredEncodePart_prepend_part_2(uint64_t p0, uint64_t p1,
     uint64_t p2);
 static void pkix_algorithm_AlgorithmIdentifierEncodePart_prepend_part(uint64_t p0, uint64_t p1);
-static void sec1_der_value_element_header_3(uint64_t p0, uint64_t p1);
-static void sec1_der_value_element_header_2(uint64_t p0, uint64_t p1);
+static void sec1_der_required_RequiredEncodePart_part_len(uint64_t p0, uint64_t p1);
 static uint32_t export_sec1_certificate_read_public_key(uint64_t bytes, uint64_t bytes_len,
     uint64_t part);
 static uint32_t export_sec1_curve_field_len(uint64_t content, uint64_t content_len,
@@ -12811,7 +12809,7 @@ static void der_view_said_point_misfit(uint64_t p0, uint64_t p1)
   v6 = 0;
   if (((1u << (v4 & 0x1fu)) & 0xdcu) == 0u)
     goto after_2;
-  t0 = load64(CONSTANT(48336) + (((uint64_t)load8(frame + 9) & 0xff) << 3)) <<
+  t0 = load64(CONSTANT(48344) + (((uint64_t)load8(frame + 9) & 0xff) << 3)) <<
       ((uint64_t)(uint32_t)((v4 & 0xfeu) != 2u) & 0x3f);
   v3 = t0;
   p1 = load64(p1 + 144);
@@ -15044,8 +15042,8 @@ after_1:;
 after_9:;
 }
 
-/* sec1_der::value::element_header::<#f9f0f5ce30fdb27e> */
-static void sec1_der_value_element_header(uint64_t p0, uint64_t p1)
+/* sec1::borrowed_key::BorrowedKey::encoded_len */
+static void sec1_borrowed_key_BorrowedKey_encoded_len(uint64_t p0, uint64_t p1)
 {
   uint32_t v4 = 0, v5 = 0;
   uint64_t v2 = 0, v3 = 0, v6 = 0, v7 = 0;
@@ -15183,12 +15181,26 @@ after_17:;
   p1 = v3 + p1;
   if (p1 > 0xffffffc)
     goto after_3;
+  v2 = p1 + 3;
+  v3 = 2;
+  if (p1 < 125)
+    goto after_26;
+  v3 = 3;
+  if (p1 < 253)
+    goto after_26;
+  v3 = 4;
+  if (p1 < 65533)
+    goto after_26;
+  v3 = (p1 < 0xfffffd) ? 5ull : 6ull;
+after_26:;
   store16(p0, 0);
-  store64(p0 + 4, (p1 << 32) + 0x300000030);
+  store64(p0 + 8, v2 + v3);
+  store8(p0 + 2, 0);
   return;
 after_3:;
-  store16(p0, 1281);
-  store64(p0 + 4, 0);
+  store16(p0, 1);
+  store64(p0 + 8, 0);
+  store8(p0 + 2, 5);
   return;
 }
 
@@ -15833,110 +15845,112 @@ after_1:;
   return;
 }
 
-/* sec1_der::back_writer::BackWriter::prepend_element::<#5bf5a3832346df17> */
-static void sec1_der_back_writer_BackWriter_prepend_element(uint64_t p0, uint64_t p1, uint64_t p2)
+/* sec1_der::explicit::ExplicitBitsEncodeValue::prepend_value */
+static void sec1_der_explicit_ExplicitBitsEncodeValue_prepend_value(uint64_t p0, uint64_t p1)
 {
-  uint64_t v4 = 0, v5 = 0, v6 = 0, v7 = 0, v8 = 0, v9 = 0, v10 = 0, v11 = 0, v12 = 0, v13 = 0,
-      v14 = 0, t0, t1;
-  v4 = load64(p0);
-  v5 = load64(p0 + 16);
-  v6 = v5 - p2;
-  v7 = v4 + v6;
-  if (p2 < 33)
+  uint64_t v3 = 0, v4 = 0, v5 = 0, v6 = 0, v7 = 0, v8 = 0, v9 = 0, v10 = 0, v11 = 0, v12 = 0,
+      v13 = 0, v14 = 0, t0;
+  v3 = load64(p1);
+  v4 = load64(p1 + 16);
+  v5 = load64(p0 + 8);
+  v6 = v4 - v5;
+  v7 = v3 + v6;
+  p0 = load64(p0);
+  if (v5 < 33)
     goto after_1;
-  v8 = p1 + p2;
-  if (p2 > 64)
+  v8 = p0 + v5;
+  if (v5 > 64)
     goto after_2;
-  p2 = load64(p1);
-  v9 = load64(p1 + 8);
-  v10 = load64(p1 + 16);
-  store64(v7 + 24, load64(p1 + 24));
-  store64(v7 + 16, v10);
-  store64(v7 + 8, v9);
-  store64(v7, p2);
-  p1 = v8 + 0xffffffffffffffe0;
-  p2 = load64(p1);
-  v9 = load64(p1 + 8);
-  v10 = load64(p1 + 16);
-  v8 = (v4 + v5) + 0xffffffffffffffe0;
-  store64(v8 + 24, load64(p1 + 24));
-  store64(v8 + 16, v10);
-  store64(v8 + 8, v9);
-  store64(v8, p2);
+  v9 = load64(p0);
+  v10 = load64(p0 + 8);
+  v5 = load64(p0 + 16);
+  store64(v7 + 24, load64(p0 + 24));
+  store64(v7 + 16, v5);
+  store64(v7 + 8, v10);
+  store64(v7, v9);
+  p0 = v8 + 0xffffffffffffffe0;
+  v9 = load64(p0);
+  v10 = load64(p0 + 8);
+  v7 = load64(p0 + 16);
+  v8 = (v3 + v4) + 0xffffffffffffffe0;
+  store64(v8 + 24, load64(p0 + 24));
+  store64(v8 + 16, v7);
+  store64(v8 + 8, v10);
+  store64(v8, v9);
   goto after_3;
 after_2:;
-  if (p2 > 128)
+  if (v5 > 128)
     goto after_4;
-  p2 = load64(p1);
-  v9 = load64(p1 + 8);
-  v10 = load64(p1 + 16);
-  v11 = load64(p1 + 24);
-  v12 = load64(p1 + 32);
-  v13 = load64(p1 + 40);
-  v14 = load64(p1 + 48);
-  store64(v7 + 56, load64(p1 + 56));
+  v9 = load64(p0);
+  v10 = load64(p0 + 8);
+  v5 = load64(p0 + 16);
+  v11 = load64(p0 + 24);
+  v12 = load64(p0 + 32);
+  v13 = load64(p0 + 40);
+  v14 = load64(p0 + 48);
+  store64(v7 + 56, load64(p0 + 56));
   store64(v7 + 48, v14);
   store64(v7 + 40, v13);
   store64(v7 + 32, v12);
   store64(v7 + 24, v11);
-  store64(v7 + 16, v10);
-  store64(v7 + 8, v9);
-  store64(v7, p2);
-  p1 = v8 + 0xffffffffffffffc0;
-  p2 = load64(p1);
-  v9 = load64(p1 + 8);
-  v10 = load64(p1 + 16);
-  v7 = load64(p1 + 24);
-  v11 = load64(p1 + 32);
-  v12 = load64(p1 + 40);
-  v13 = load64(p1 + 48);
-  v8 = (v4 + v5) + 0xffffffffffffffc0;
-  store64(v8 + 56, load64(p1 + 56));
+  store64(v7 + 16, v5);
+  store64(v7 + 8, v10);
+  store64(v7, v9);
+  p0 = v8 + 0xffffffffffffffc0;
+  v9 = load64(p0);
+  v10 = load64(p0 + 8);
+  v7 = load64(p0 + 16);
+  v5 = load64(p0 + 24);
+  v11 = load64(p0 + 32);
+  v12 = load64(p0 + 40);
+  v13 = load64(p0 + 48);
+  v8 = (v3 + v4) + 0xffffffffffffffc0;
+  store64(v8 + 56, load64(p0 + 56));
   store64(v8 + 48, v13);
   store64(v8 + 40, v12);
   store64(v8 + 32, v11);
-  store64(v8 + 24, v7);
-  store64(v8 + 16, v10);
-  store64(v8 + 8, v9);
-  store64(v8, p2);
+  store64(v8 + 24, v5);
+  store64(v8 + 16, v7);
+  store64(v8 + 8, v10);
+  store64(v8, v9);
   goto after_3;
 after_1:;
-  v8 = p1 + p2;
-  if (p2 < 16)
+  v8 = p0 + v5;
+  if (v5 < 16)
     goto after_5;
-  p2 = load64(p1);
-  store64(v7 + 8, load64(p1 + 8));
-  store64(v7, p2);
-  p1 = v8 + 0xfffffffffffffff0;
-  v8 = load64(p1);
-  p2 = (v4 + v5) + 0xfffffffffffffff0;
-  store64(p2 + 8, load64(p1 + 8));
-  store64(p2, v8);
+  v9 = load64(p0);
+  store64(v7 + 8, load64(p0 + 8));
+  store64(v7, v9);
+  p0 = v8 + 0xfffffffffffffff0;
+  v8 = load64(p0);
+  v9 = (v3 + v4) + 0xfffffffffffffff0;
+  store64(v9 + 8, load64(p0 + 8));
+  store64(v9, v8);
   goto after_3;
 after_5:;
-  if (p2 < 8)
+  if (v5 < 8)
     goto after_6;
-  store64(v7, load64(p1));
-  store64((v4 + v5) + 0xfffffffffffffff8, load64(v8 + 0xfffffffffffffff8));
+  store64(v7, load64(p0));
+  store64((v3 + v4) + 0xfffffffffffffff8, load64(v8 + 0xfffffffffffffff8));
   goto after_3;
 after_6:;
-  if (p2 < 4)
+  if (v5 < 4)
     goto after_4;
-  store32(v7, load32(p1));
-  store32((v4 + v5) + 0xfffffffffffffffc, load32(v8 + 0xfffffffffffffffc));
+  store32(v7, load32(p0));
+  store32((v3 + v4) + 0xfffffffffffffffc, load32(v8 + 0xfffffffffffffffc));
   goto after_3;
 after_4:;
-  if ((v7 - p1) >= p2)
+  if ((v7 - p0) >= v5)
     goto after_7;
-  v11 = p2 & 3;
+  v11 = v5 & 3;
   v8 = 0;
-  if (p2 < 4)
+  if (v5 < 4)
     goto after_8;
-  v12 = p2 & 0xfffffffffffffffc;
+  v12 = v5 & 0xfffffffffffffffc;
   v8 = 0;
 again_9:;
   v9 = v7 + v8;
-  v10 = p1 + v8;
+  v10 = p0 + v8;
   store8(v9, (uint8_t)(uint32_t)load8(v10));
   store8(v9 + 1, (uint8_t)(uint32_t)load8(v10 + 1));
   store8(v9 + 2, (uint8_t)(uint32_t)load8(v10 + 2));
@@ -15947,44 +15961,34 @@ again_9:;
   if (v11 == 0)
     goto after_3;
 after_8:;
-  p1 = p1 + v8;
-  v8 = v4 + ((v8 + v5) - p2);
+  p0 = p0 + v8;
+  v8 = v3 + ((v8 + v4) - v5);
 again_10:;
-  store8(v8, (uint8_t)(uint32_t)load8(p1));
+  store8(v8, (uint8_t)(uint32_t)load8(p0));
   v8 = v8 + 1;
-  p1 = p1 + 1;
+  p0 = p0 + 1;
   v11 = v11 + 0xffffffffffffffff;
   if (v11 != 0)
     goto again_10;
   goto after_3;
 after_7:;
-  if (p2 == 0)
+  if (v5 == 0)
     goto after_3;
-  move(v7, p1, p2);
+  move(v7, p0, v5);
 after_3:;
-  p1 = v6 + 0xffffffffffffffff;
-  store8(load64(p0) + p1, 0);
-  v8 = v5 - p1;
+  p0 = v6 + 0xffffffffffffffff;
+  store8(load64(p1) + p0, 0);
+  v8 = v4 - p0;
   if (v8 > 127)
     goto after_11;
-  p1 = v6 + 0xfffffffffffffffd;
-  store16(load64(p0) + p1, (uint16_t)(((uint32_t)v8 << 8) | 3u));
+  p0 = v6 + 0xfffffffffffffffd;
+  store16(load64(p1) + p0, (uint16_t)(((uint32_t)v8 << 8) | 3u));
   goto after_12;
 after_11:;
-  t0 = sec1_der_back_writer_prepend_long_header(load64(p0), p1, 3, v8);
-  p1 = t0;
+  t0 = sec1_der_back_writer_prepend_long_header(load64(p1), p0, 3, v8);
+  p0 = t0;
 after_12:;
-  v8 = v5 - p1;
-  if (v8 > 127)
-    goto after_13;
-  p1 = p1 + 0xfffffffffffffffe;
-  store16(load64(p0) + p1, (uint16_t)(((uint32_t)v8 << 8) | 0xa1u));
-  goto after_14;
-after_13:;
-  t1 = sec1_der_back_writer_prepend_long_header(load64(p0), p1, 161, v8);
-  p1 = t1;
-after_14:;
-  store64(p0 + 16, p1);
+  store64(p1 + 16, p0);
   return;
 }
 
@@ -16053,48 +16057,49 @@ after_7:;
   return p3;
 }
 
-/* sec1_der::back_writer::BackWriter::prepend_element::<#f70a924d5919e516> */
-static void sec1_der_back_writer_BackWriter_prepend_element_2(uint64_t p0, uint64_t p1, uint64_t p2)
+/* sec1_der::explicit::ExplicitEncodeValue::prepend_value::<#20ed327930499a52> */
+static void sec1_der_explicit_ExplicitEncodeValue_prepend_value(uint64_t p0, uint64_t p1,
+    uint64_t p2)
 {
   uint64_t v4 = 0, v5 = 0, v6 = 0, v7 = 0, v8 = 0, v9 = 0, v10 = 0, v11 = 0, v12 = 0, v13 = 0,
-      v14 = 0, v15 = 0, t0, t1;
-  v4 = load64(p0);
-  v5 = load64(p0 + 16);
-  v6 = v5 - p2;
+      v14 = 0, v15 = 0, t0;
+  v4 = load64(p2);
+  v5 = load64(p2 + 16);
+  v6 = v5 - p1;
   v7 = v4 + v6;
-  if (p2 < 33)
+  if (p1 < 33)
     goto after_1;
-  v8 = p1 + p2;
-  if (p2 > 64)
+  v8 = p0 + p1;
+  if (p1 > 64)
     goto after_2;
-  v9 = load64(p1);
-  v10 = load64(p1 + 8);
-  v11 = load64(p1 + 16);
-  store64(v7 + 24, load64(p1 + 24));
+  v9 = load64(p0);
+  v10 = load64(p0 + 8);
+  v11 = load64(p0 + 16);
+  store64(v7 + 24, load64(p0 + 24));
   store64(v7 + 16, v11);
   store64(v7 + 8, v10);
   store64(v7, v9);
-  p1 = v8 + 0xffffffffffffffe0;
-  v9 = load64(p1);
-  v10 = load64(p1 + 8);
-  v7 = load64(p1 + 16);
+  p0 = v8 + 0xffffffffffffffe0;
+  v9 = load64(p0);
+  v10 = load64(p0 + 8);
+  v7 = load64(p0 + 16);
   v8 = (v4 + v5) + 0xffffffffffffffe0;
-  store64(v8 + 24, load64(p1 + 24));
+  store64(v8 + 24, load64(p0 + 24));
   store64(v8 + 16, v7);
   store64(v8 + 8, v10);
   store64(v8, v9);
   goto after_3;
 after_2:;
-  if (p2 > 128)
+  if (p1 > 128)
     goto after_4;
-  v9 = load64(p1);
-  v10 = load64(p1 + 8);
-  v11 = load64(p1 + 16);
-  v12 = load64(p1 + 24);
-  v13 = load64(p1 + 32);
-  v14 = load64(p1 + 40);
-  v15 = load64(p1 + 48);
-  store64(v7 + 56, load64(p1 + 56));
+  v9 = load64(p0);
+  v10 = load64(p0 + 8);
+  v11 = load64(p0 + 16);
+  v12 = load64(p0 + 24);
+  v13 = load64(p0 + 32);
+  v14 = load64(p0 + 40);
+  v15 = load64(p0 + 48);
+  store64(v7 + 56, load64(p0 + 56));
   store64(v7 + 48, v15);
   store64(v7 + 40, v14);
   store64(v7 + 32, v13);
@@ -16102,16 +16107,16 @@ after_2:;
   store64(v7 + 16, v11);
   store64(v7 + 8, v10);
   store64(v7, v9);
-  p1 = v8 + 0xffffffffffffffc0;
-  v9 = load64(p1);
-  v10 = load64(p1 + 8);
-  v7 = load64(p1 + 16);
-  v11 = load64(p1 + 24);
-  v12 = load64(p1 + 32);
-  v13 = load64(p1 + 40);
-  v14 = load64(p1 + 48);
+  p0 = v8 + 0xffffffffffffffc0;
+  v9 = load64(p0);
+  v10 = load64(p0 + 8);
+  v7 = load64(p0 + 16);
+  v11 = load64(p0 + 24);
+  v12 = load64(p0 + 32);
+  v13 = load64(p0 + 40);
+  v14 = load64(p0 + 48);
   v8 = (v4 + v5) + 0xffffffffffffffc0;
-  store64(v8 + 56, load64(p1 + 56));
+  store64(v8 + 56, load64(p0 + 56));
   store64(v8 + 48, v14);
   store64(v8 + 40, v13);
   store64(v8 + 32, v12);
@@ -16121,42 +16126,42 @@ after_2:;
   store64(v8, v9);
   goto after_5;
 after_1:;
-  v8 = p1 + p2;
-  if (p2 < 16)
+  v8 = p0 + p1;
+  if (p1 < 16)
     goto after_6;
-  v9 = load64(p1);
-  store64(v7 + 8, load64(p1 + 8));
+  v9 = load64(p0);
+  store64(v7 + 8, load64(p0 + 8));
   store64(v7, v9);
-  p1 = v8 + 0xfffffffffffffff0;
-  v8 = load64(p1);
+  p0 = v8 + 0xfffffffffffffff0;
+  v8 = load64(p0);
   v9 = (v4 + v5) + 0xfffffffffffffff0;
-  store64(v9 + 8, load64(p1 + 8));
+  store64(v9 + 8, load64(p0 + 8));
   store64(v9, v8);
   goto after_3;
 after_6:;
-  if (p2 < 8)
+  if (p1 < 8)
     goto after_7;
-  store64(v7, load64(p1));
+  store64(v7, load64(p0));
   store64((v4 + v5) + 0xfffffffffffffff8, load64(v8 + 0xfffffffffffffff8));
   goto after_3;
 after_7:;
-  if (p2 < 4)
+  if (p1 < 4)
     goto after_4;
-  store32(v7, load32(p1));
+  store32(v7, load32(p0));
   store32((v4 + v5) + 0xfffffffffffffffc, load32(v8 + 0xfffffffffffffffc));
   goto after_3;
 after_4:;
-  if ((v7 - p1) >= p2)
+  if ((v7 - p0) >= p1)
     goto after_8;
-  v11 = p2 & 3;
+  v11 = p1 & 3;
   v8 = 0;
-  if (p2 < 4)
+  if (p1 < 4)
     goto after_9;
-  v12 = p2 & 0xfffffffffffffffc;
+  v12 = p1 & 0xfffffffffffffffc;
   v8 = 0;
 again_10:;
   v9 = v7 + v8;
-  v10 = p1 + v8;
+  v10 = p0 + v8;
   store8(v9, (uint8_t)(uint32_t)load8(v10));
   store8(v9 + 1, (uint8_t)(uint32_t)load8(v10 + 1));
   store8(v9 + 2, (uint8_t)(uint32_t)load8(v10 + 2));
@@ -16167,42 +16172,32 @@ again_10:;
   if (v11 == 0)
     goto after_5;
 after_9:;
-  p1 = p1 + v8;
-  v8 = v4 + ((v8 + v5) - p2);
+  p0 = p0 + v8;
+  v8 = v4 + ((v8 + v5) - p1);
 again_11:;
-  store8(v8, (uint8_t)(uint32_t)load8(p1));
+  store8(v8, (uint8_t)(uint32_t)load8(p0));
   v8 = v8 + 1;
-  p1 = p1 + 1;
+  p0 = p0 + 1;
   v11 = v11 + 0xffffffffffffffff;
   if (v11 != 0)
     goto again_11;
   goto after_5;
 after_8:;
-  if (p2 == 0)
+  if (p1 == 0)
     goto after_5;
-  move(v7, p1, p2);
+  move(v7, p0, p1);
 after_5:;
-  if (p2 > 127)
+  if (p1 > 127)
     goto after_12;
 after_3:;
-  p1 = v6 + 0xfffffffffffffffe;
-  store16(load64(p0) + p1, (uint16_t)(((uint32_t)p2 << 8) | 6u));
+  p0 = v6 + 0xfffffffffffffffe;
+  store16(load64(p2) + p0, (uint16_t)(((uint32_t)p1 << 8) | 6u));
   goto after_13;
 after_12:;
-  t0 = sec1_der_back_writer_prepend_long_header(load64(p0), v6, 6, p2);
-  p1 = t0;
+  t0 = sec1_der_back_writer_prepend_long_header(load64(p2), v6, 6, p1);
+  p0 = t0;
 after_13:;
-  p2 = v5 - p1;
-  if (p2 > 127)
-    goto after_14;
-  p1 = p1 + 0xfffffffffffffffe;
-  store16(load64(p0) + p1, (uint16_t)(((uint32_t)p2 << 8) | 0xa0u));
-  goto after_15;
-after_14:;
-  t1 = sec1_der_back_writer_prepend_long_header(load64(p0), p1, 160, p2);
-  p1 = t1;
-after_15:;
-  store64(p0 + 16, p1);
+  store64(p2 + 16, p0);
   return;
 }
 
@@ -30474,11 +30469,11 @@ after_27:;
   return;
 }
 
-/* sec1_der::value::element_header::<#1aa56edede66dd4d> */
-static void sec1_der_value_element_header_3(uint64_t p0, uint64_t p1)
+/* sec1_der::required::RequiredEncodePart::part_len::<#4a2b62df43707a59> */
+static void sec1_der_required_RequiredEncodePart_part_len(uint64_t p0, uint64_t p1)
 {
-  uint32_t v4 = 0, v5 = 0, v8 = 0, v11 = 0, v12 = 0;
-  uint64_t v2 = 0, v3 = 0, v6 = 0, v7 = 0, v9 = 0, v10 = 0, t0;
+  uint32_t v4 = 0, v5 = 0, v6 = 0, v7 = 0, v8 = 0;
+  uint64_t v2 = 0, v3 = 0, v9 = 0, v10 = 0;
   v2 = 0;
   v3 = 0;
   v4 = load8(p1 + 16);
@@ -30486,386 +30481,182 @@ static void sec1_der_value_element_header_3(uint64_t p0, uint64_t p1)
     goto after_1;
   v3 = load64(p1 + 32);
 after_1:;
-  v5 = load8(p1 + 80);
+  v5 = load8(p1 + 40);
   if (v5 != 1u)
     goto after_2;
-  v2 = load64(p1 + 96);
+  v2 = load64(p1 + 56);
 after_2:;
-  v6 = load64(p1 + 8);
-  v7 = 0;
-  v8 = load8(p1 + 104);
-  if (v8 != 1u)
+  v6 = 1;
+  v7 = 5;
+  v8 = 0;
+  p1 = load64(p1 + 8);
+  if (p1 > 0xfffffff)
     goto after_3;
-  v7 = load64(p1 + 120);
-after_3:;
-  if (v6 == 0)
-    goto after_4;
-  v9 = load64(p1);
-  v3 = (v4 != 1u) ? 0ull : v3;
-  v10 = load64(p1 + 72);
-  p1 = 0;
-  v11 = 1;
-again_6:;
-  v12 = (uint32_t)(int8_t)(uint32_t)load8(v9 + p1);
-  if ((v11 & 1u) == 0u)
-    goto after_5;
-  if (v12 == 0xffffff80u)
-    goto after_4;
-after_5:;
-  v11 = (uint32_t)((int32_t)v12 > -1);
-  p1 = p1 + 1;
-  if (v6 != p1)
-    goto again_6;
-  if (v6 > 0xfffffff)
-    goto after_4;
-  if ((int32_t)v12 < 0)
-    goto after_4;
-  if (v6 >= 128)
-    goto after_7;
-  p1 = 2;
-  goto after_8;
-after_7:;
-  if (v6 >= 256)
-    goto after_9;
-  p1 = 3;
-  goto after_8;
-after_9:;
-  if (v6 >= 0x10000)
-    goto after_10;
-  p1 = 4;
-  goto after_8;
-after_10:;
-  p1 = (v6 < 0x1000000) ? 5ull : 6ull;
-after_8:;
-  p1 = p1 + v6;
-  if (p1 > 0xfffffff)
-    goto after_4;
-  v12 = (uint32_t)(v4 != 1u);
-  if (v12)
-    goto after_11;
-  if (v3 > 0xfffffff)
-    goto after_4;
-after_11:;
-  t0 = p1 + (v12 ? 0ull : ((v3 < 0x10000000) ? (v3 & 0xffffffff) : 0ull));
-  p1 = t0;
-  if (p1 > 0xfffffff)
-    goto after_4;
   if (p1 >= 128)
-    goto after_12;
-  v6 = 2;
-  goto after_13;
-after_12:;
-  if (p1 >= 256)
-    goto after_14;
-  v6 = 3;
-  goto after_13;
-after_14:;
-  if (p1 >= 0x10000)
-    goto after_15;
-  v6 = 4;
-  goto after_13;
-after_15:;
-  v6 = (p1 < 0x1000000) ? 5ull : 6ull;
-after_13:;
-  p1 = v6 + p1;
-  if (p1 > 0xfffffff)
     goto after_4;
-  if (v10 > 0xfffffff)
-    goto after_4;
-  if (v10 >= 128)
-    goto after_16;
-  v6 = 2;
-  goto after_17;
-after_16:;
-  if (v10 >= 256)
-    goto after_18;
-  v6 = 3;
-  goto after_17;
-after_18:;
-  if (v10 >= 0x10000)
-    goto after_19;
-  v6 = 4;
-  goto after_17;
-after_19:;
-  v6 = (v10 < 0x1000000) ? 5ull : 6ull;
-after_17:;
-  v6 = v6 + v10;
-  if (v6 > 0xfffffff)
-    goto after_4;
-  v3 = 0;
-  v9 = 0;
-  if (v5 != 1u)
-    goto after_20;
-  if (v2 > 0xfffffff)
-    goto after_4;
-  if (v2 >= 128)
-    goto after_21;
   v9 = 2;
-  goto after_22;
-after_21:;
-  if (v2 >= 256)
-    goto after_23;
+  goto after_5;
+after_4:;
+  if (p1 >= 256)
+    goto after_6;
   v9 = 3;
-  goto after_22;
-after_23:;
-  if (v2 >= 0x10000)
-    goto after_24;
+  goto after_5;
+after_6:;
+  if (p1 >= 0x10000)
+    goto after_7;
   v9 = 4;
-  goto after_22;
-after_24:;
-  v9 = (v2 < 0x1000000) ? 5ull : 6ull;
-after_22:;
-  v9 = v9 + v2;
+  goto after_5;
+after_7:;
+  v9 = (p1 < 0x1000000) ? 5ull : 6ull;
+after_5:;
+  p1 = v9 + p1;
+  if (p1 > 0xfffffff)
+    goto after_3;
+  v6 = 1;
+  v10 = 0;
+  v9 = 0;
+  if (v4 != 1u)
+    goto after_8;
+  if (v3 > 0xfffffff)
+    goto after_3;
+  if (v3 >= 128)
+    goto after_9;
+  v9 = 2;
+  goto after_10;
+after_9:;
+  if (v3 >= 256)
+    goto after_11;
+  v9 = 3;
+  goto after_10;
+after_11:;
+  if (v3 >= 0x10000)
+    goto after_12;
+  v9 = 4;
+  goto after_10;
+after_12:;
+  v9 = (v3 < 0x1000000) ? 5ull : 6ull;
+after_10:;
+  v3 = v9 + v3;
+  if (v3 > 0xfffffff)
+    goto after_3;
+  if (v3 >= 128)
+    goto after_13;
+  v9 = 2;
+  goto after_14;
+after_13:;
+  if (v3 >= 256)
+    goto after_15;
+  v9 = 3;
+  goto after_14;
+after_15:;
+  if (v3 >= 0x10000)
+    goto after_16;
+  v9 = 4;
+  goto after_14;
+after_16:;
+  v9 = (v3 < 0x1000000) ? 5ull : 6ull;
+after_14:;
+  v9 = v9 + v3;
   if (v9 > 0xfffffff)
-    goto after_4;
-  if (v9 >= 128)
-    goto after_25;
+    goto after_3;
+after_8:;
+  if (v5 != 1u)
+    goto after_17;
+  v6 = 1;
+  if (v2 > 0xffffffe)
+    goto after_3;
+  v3 = v2 + 1;
+  if (v2 >= 127)
+    goto after_18;
   v2 = 2;
-  goto after_26;
-after_25:;
-  if (v9 >= 256)
-    goto after_27;
+  goto after_19;
+after_18:;
+  if (v2 >= 255)
+    goto after_20;
   v2 = 3;
-  goto after_26;
-after_27:;
-  if (v9 >= 0x10000)
-    goto after_28;
-  v2 = 4;
-  goto after_26;
-after_28:;
-  v2 = (v9 < 0x1000000) ? 5ull : 6ull;
-after_26:;
-  v9 = v2 + v9;
-  if (v9 > 0xfffffff)
-    goto after_4;
+  goto after_19;
 after_20:;
-  if (v8 != 1u)
-    goto after_29;
-  if (v7 > 0xffffffe)
-    goto after_4;
-  v3 = v7 + 1;
-  if (v7 >= 127)
-    goto after_30;
-  v2 = 2;
-  goto after_31;
-after_30:;
-  if (v7 >= 255)
-    goto after_32;
-  v2 = 3;
-  goto after_31;
-after_32:;
-  if (v7 >= 65535)
-    goto after_33;
+  if (v2 >= 65535)
+    goto after_21;
   v2 = 4;
-  goto after_31;
-after_33:;
-  v2 = (v7 < 0xffffff) ? 5ull : 6ull;
-after_31:;
+  goto after_19;
+after_21:;
+  v2 = (v2 < 0xffffff) ? 5ull : 6ull;
+after_19:;
   v3 = v3 + v2;
   if (v3 > 0xfffffff)
-    goto after_4;
-  if (v3 >= 128)
-    goto after_34;
-  v2 = 2;
-  goto after_35;
-after_34:;
-  if (v3 >= 256)
-    goto after_36;
-  v2 = 3;
-  goto after_35;
-after_36:;
-  if (v3 >= 0x10000)
-    goto after_37;
-  v2 = 4;
-  goto after_35;
-after_37:;
-  v2 = (v3 < 0x1000000) ? 5ull : 6ull;
-after_35:;
-  v3 = v2 + v3;
-  if (v3 > 0xfffffff)
-    goto after_4;
-after_29:;
-  v9 = v3 + v9;
-  if (v9 > 0xfffffff)
-    goto after_4;
-  v6 = v9 + v6;
-  if (v6 > 0xffffffc)
-    goto after_4;
-  v9 = 3;
-  v3 = v6 + 3;
-  if (v6 >= 125)
-    goto after_38;
-  v9 = 2;
-  goto after_39;
-after_38:;
-  if (v6 < 253)
-    goto after_39;
-  if (v6 >= 65533)
-    goto after_40;
-  v9 = 4;
-  goto after_39;
-after_40:;
-  v9 = (v6 < 0xfffffd) ? 5ull : 6ull;
-after_39:;
-  v6 = v3 + v9;
-  if (v6 > 0xfffffff)
-    goto after_4;
-  if (v6 >= 128)
-    goto after_41;
-  v9 = 2;
-  goto after_42;
-after_41:;
-  if (v6 >= 256)
-    goto after_43;
-  v9 = 3;
-  goto after_42;
-after_43:;
-  if (v6 >= 0x10000)
-    goto after_44;
-  v9 = 4;
-  goto after_42;
-after_44:;
-  v9 = (v6 < 0x1000000) ? 5ull : 6ull;
-after_42:;
-  v6 = v9 + v6;
-  if (v6 > 0xfffffff)
-    goto after_4;
-  p1 = v6 + p1;
-  if (p1 > 0xffffffc)
-    goto after_4;
-  store16(p0, 0);
-  store64(p0 + 4, (p1 << 32) + 0x300000030);
-  return;
-after_4:;
-  store16(p0, 1281);
-  store64(p0 + 4, 0);
-  return;
-}
-
-/* sec1_der::value::element_header::<#1deaba2dde898d37> */
-static void sec1_der_value_element_header_2(uint64_t p0, uint64_t p1)
-{
-  uint32_t v2 = 0, v5 = 0, v6 = 0, v7 = 0, v11 = 0;
-  uint64_t v3 = 0, v4 = 0, v8 = 0, v9 = 0, v10 = 0, t0;
-  v2 = 1;
-  v3 = 0;
-  v4 = 0;
-  v5 = load8(p1 + 16);
-  v6 = (uint32_t)(v5 != 1u);
-  if (v6)
-    goto after_1;
-  v4 = load64(p1 + 32);
-after_1:;
-  v7 = 5;
-  v8 = load64(p1 + 8);
-  if (v8 == 0)
-    goto after_2;
-  v9 = v6 ? 0ull : v4;
-  v10 = load64(p1 + 80);
-  v4 = load64(p1);
-  v3 = 0;
-  v2 = 1;
-  v11 = 1;
-  p1 = 0;
-again_4:;
-  v6 = (uint32_t)(int8_t)(uint32_t)load8(v4 + p1);
-  if ((v11 & 1u) == 0u)
     goto after_3;
-  if (v6 == 0xffffff80u)
-    goto after_2;
-after_3:;
-  v11 = (uint32_t)((int32_t)v6 > -1);
-  p1 = p1 + 1;
-  if (v8 != p1)
-    goto again_4;
-  if (v8 > 0xfffffff)
-    goto after_2;
-  if ((int32_t)v6 < 0)
-    goto after_2;
-  if (v8 >= 128)
-    goto after_5;
-  p1 = 2;
-  goto after_6;
-after_5:;
-  if (v8 >= 256)
-    goto after_7;
-  p1 = 3;
-  goto after_6;
-after_7:;
-  if (v8 >= 0x10000)
-    goto after_8;
-  p1 = 4;
-  goto after_6;
-after_8:;
-  p1 = (v8 < 0x1000000) ? 5ull : 6ull;
-after_6:;
-  p1 = p1 + v8;
-  if (p1 > 0xfffffff)
-    goto after_2;
-  v2 = 1;
-  if (v5 != 1u)
-    goto after_9;
-  if (v9 > 0xfffffff)
-    goto after_2;
-after_9:;
-  v3 = 0;
-  v2 = 1;
-  t0 = (v5 != 1u) ? 0ull : ((v9 < 0x10000000) ? (v9 & 0xffffffff) : 0ull);
-  p1 = p1 + t0;
-  if (p1 > 0xfffffff)
-    goto after_2;
-  if (p1 >= 128)
-    goto after_10;
-  v8 = 2;
-  goto after_11;
-after_10:;
-  if (p1 >= 256)
-    goto after_12;
-  v8 = 3;
-  goto after_11;
-after_12:;
-  if (p1 >= 0x10000)
-    goto after_13;
-  v8 = 4;
-  goto after_11;
-after_13:;
-  v8 = (p1 < 0x1000000) ? 5ull : 6ull;
-after_11:;
-  v8 = v8 + p1;
-  if (v8 > 0xfffffff)
-    goto after_2;
-  p1 = v10 + 1;
-  if (p1 > 0xfffffff)
-    goto after_2;
-  if (p1 >= 128)
-    goto after_14;
-  v4 = 2;
-  goto after_15;
-after_14:;
-  if (p1 >= 256)
-    goto after_16;
-  v4 = 3;
-  goto after_15;
-after_16:;
-  if (p1 >= 0x10000)
-    goto after_17;
-  v4 = 4;
-  goto after_15;
+  if (v3 >= 128)
+    goto after_22;
+  v2 = 2;
+  goto after_23;
+after_22:;
+  if (v3 >= 256)
+    goto after_24;
+  v2 = 3;
+  goto after_23;
+after_24:;
+  if (v3 >= 0x10000)
+    goto after_25;
+  v2 = 4;
+  goto after_23;
+after_25:;
+  v2 = (v3 < 0x1000000) ? 5ull : 6ull;
+after_23:;
+  v10 = v2 + v3;
+  if (v10 > 0xfffffff)
+    goto after_3;
 after_17:;
-  v4 = (p1 < 0x1000000) ? 5ull : 6ull;
-after_15:;
-  p1 = v4 + p1;
+  v6 = 1;
+  v3 = v10 + v9;
+  if (v3 > 0xfffffff)
+    goto after_3;
+  p1 = v3 + p1;
+  if (p1 > 0xffffffc)
+    goto after_3;
+  v3 = 3;
+  v2 = p1 + 3;
+  if (p1 >= 125)
+    goto after_26;
+  v3 = 2;
+  goto after_27;
+after_26:;
+  if (p1 < 253)
+    goto after_27;
+  if (p1 >= 65533)
+    goto after_28;
+  v3 = 4;
+  goto after_27;
+after_28:;
+  v3 = (p1 < 0xfffffd) ? 5ull : 6ull;
+after_27:;
+  p1 = v2 + v3;
   if (p1 > 0xfffffff)
-    goto after_2;
-  p1 = p1 + v8;
-  if (p1 > 0xfffffff)
-    goto after_2;
-  v3 = (p1 << 32) | 0x30;
-  v2 = 0;
-  v7 = 0;
-after_2:;
-  store8(p0, (uint8_t)v2);
-  store64(p0 + 4, v3);
+    goto after_3;
+  if (p1 >= 128)
+    goto after_29;
+  v3 = 2;
+  goto after_30;
+after_29:;
+  if (p1 >= 256)
+    goto after_31;
+  v3 = 3;
+  goto after_30;
+after_31:;
+  if (p1 >= 0x10000)
+    goto after_32;
+  v3 = 4;
+  goto after_30;
+after_32:;
+  v3 = (p1 < 0x1000000) ? 5ull : 6ull;
+after_30:;
+  p1 = v3 + p1;
+  v6 = (uint32_t)(p1 > 0xfffffff);
+  v8 = v6 ? 0u : (uint32_t)p1;
+  v7 = v6 ? 5u : 0u;
+after_3:;
+  store8(p0, (uint8_t)v6);
+  store32(p0 + 4, v8);
   store8(p0 + 1, (uint8_t)v7);
   return;
 }
@@ -32084,7 +31875,7 @@ after_102:;
     goto after_103;
   v8 = load8(frame + 1);
 after_7:;
-  v4 = load32(CONSTANT(48608) + (((uint64_t)v8 & 0xff) << 2));
+  v4 = load32(CONSTANT(48296) + (((uint64_t)v8 & 0xff) << 2));
   goto after_3;
 after_103:;
   if (load8(frame + 512) == 0u)
@@ -32381,7 +32172,7 @@ static uint32_t export_sec1_curve_field_len(uint64_t content, uint64_t content_l
   v4 = 11;
   if (load8(frame + 8) != 1u)
     goto after_1;
-  store64(field_len, load64(CONSTANT(48336) + (((uint64_t)load8(frame + 9) & 0xff) << 3)));
+  store64(field_len, load64(CONSTANT(48344) + (((uint64_t)load8(frame + 9) & 0xff) << 3)));
   v4 = 0;
 after_1:;
   return v4;
@@ -32502,7 +32293,7 @@ static uint32_t export_sec1_element_read(uint64_t bytes, uint64_t bytes_len,
   v5 = 0;
   goto after_2;
 after_1:;
-  v5 = load32(CONSTANT(48608) + ((uint64_t)load8(frame + 9) << 2));
+  v5 = load32(CONSTANT(48296) + ((uint64_t)load8(frame + 9) << 2));
 after_2:;
   return v5;
 }
@@ -32988,7 +32779,7 @@ after_18:;
 after_4:;
   v14 = load8(frame + 17);
 after_3:;
-  v14 = load32(CONSTANT(48608) + (((uint64_t)v14 & 0xff) << 2));
+  v14 = load32(CONSTANT(48296) + (((uint64_t)v14 & 0xff) << 2));
 after_5:;
   return v14;
 after_12:;
@@ -33120,7 +32911,7 @@ after_13:;
 after_11:;
   trap();
 after_1:;
-  v4 = load32(CONSTANT(48608) + (((uint64_t)v4 & 0xff) << 2));
+  v4 = load32(CONSTANT(48296) + (((uint64_t)v4 & 0xff) << 2));
 after_10:;
   return v4;
 }
@@ -33468,7 +33259,7 @@ after_19:;
 after_5:;
   v15 = load8(frame + 17);
 after_4:;
-  v15 = load32(CONSTANT(48608) + (((uint64_t)v15 & 0xff) << 2));
+  v15 = load32(CONSTANT(48296) + (((uint64_t)v15 & 0xff) << 2));
   goto after_6;
 after_1:;
   t4 = sec1_c_key_sec1_key_read(bytes, bytes_len, parts);
@@ -33916,7 +33707,7 @@ static uint32_t export_sec1_public_key_read(uint64_t bytes, uint64_t bytes_len, 
   if (v5 == 0)
     goto after_2;
   v9 = load8(frame + 9);
-  v8 = load64(CONSTANT(48336) + ((v9 & 0xff) << 3));
+  v8 = load64(CONSTANT(48344) + ((v9 & 0xff) << 3));
   bytes = 1;
   v11 = load8(v6);
   switch (v11) {
@@ -33960,7 +33751,7 @@ after_8:;
   v4 = 0;
   goto after_2;
 after_1:;
-  v4 = load32(CONSTANT(48608) + ((uint64_t)load8(frame + 17) << 2));
+  v4 = load32(CONSTANT(48296) + ((uint64_t)load8(frame + 17) << 2));
 after_2:;
   return v4;
 }
@@ -34225,35 +34016,39 @@ after_3:;
   store64(frame + 56, v12 ? public_key_len : 0ull);
   store64(frame + 48, v12 ? (public_key + ((public_key == 0) ? 4096ull : 0ull)) : 0ull);
   store64(frame + 40, v12);
-  store32(frame + 72, 0);
+  store64(frame + 72, 0);
   store64(frame + 64, 0);
-  sec1_der_value_element_header(frame + 64, frame);
+  sec1_borrowed_key_BorrowedKey_encoded_len(frame + 64, frame);
   if (load8(frame + 64))
     goto after_14;
-  curve = load64(frame + 68);
-  v8 = curve >> 32;
-  if (curve >= 0x8000000000)
-    goto after_15;
-  curve = 2;
-  goto after_16;
-after_15:;
-  if (curve >= 0x10000000000)
-    goto after_17;
-  curve = 3;
-  goto after_16;
-after_17:;
-  if (curve >= 0x1000000000000)
-    goto after_18;
-  curve = 4;
-  goto after_16;
-after_18:;
-  curve = (curve < 0x100000000000000) ? 5ull : 6ull;
-after_16:;
-  store64(len, curve + v8);
+  store64(len, load64(frame + 72));
   v12 = 0;
   goto after_6;
 after_14:;
-  v12 = load32(CONSTANT(48608) + ((uint64_t)load8(frame + 65) << 2));
+  v12 = 9;
+  switch ((uint32_t)(uint64_t)load8(frame + 65)) {
+  case 4:
+    goto after_15;
+  case 1:
+    goto after_16;
+  case 3:
+    goto after_17;
+  case 2:
+    goto after_6;
+  default:
+    goto after_18;
+  }
+after_18:;
+  v12 = load32(CONSTANT(48296) + ((uint64_t)load8(frame + 66) << 2));
+  goto after_6;
+after_15:;
+  v12 = 16;
+  goto after_6;
+after_16:;
+  v12 = 17;
+  goto after_6;
+after_17:;
+  v12 = 18;
 after_6:;
   return v12;
 }
@@ -34277,7 +34072,7 @@ static uint32_t export_sec1_certificate_fault_at(uint64_t bytes, uint64_t bytes_
 after_1:;
   bytes_len = load8(frame + 16);
   store64(offset, load64(frame + 8));
-  v4 = load32(CONSTANT(48608) + (bytes_len << 2));
+  v4 = load32(CONSTANT(48296) + (bytes_len << 2));
 after_2:;
   return v4;
 }
@@ -34300,7 +34095,7 @@ static uint32_t export_sec1_key_fault_at(uint64_t bytes, uint64_t bytes_len, uin
 after_1:;
   bytes_len = load8(frame + 16);
   store64(offset, load64(frame + 8));
-  v4 = load32(CONSTANT(48608) + (bytes_len << 2));
+  v4 = load32(CONSTANT(48296) + (bytes_len << 2));
 after_2:;
   return v4;
 }
@@ -34325,7 +34120,7 @@ static uint32_t export_sec1_key_read_at(uint64_t bytes, uint64_t bytes_len, uint
     goto after_1;
   bytes_len = load8(frame + 16);
   store64(fault_offset, load64(frame + 8));
-  v5 = load32(CONSTANT(48608) + (bytes_len << 2));
+  v5 = load32(CONSTANT(48296) + (bytes_len << 2));
 after_1:;
   return v5;
 }
@@ -34348,7 +34143,7 @@ static uint32_t export_sec1_signature_fault_at(uint64_t bytes, uint64_t bytes_le
 after_1:;
   bytes_len = load8(frame + 16);
   store64(offset, load64(frame + 8));
-  v4 = load32(CONSTANT(48608) + (bytes_len << 2));
+  v4 = load32(CONSTANT(48296) + (bytes_len << 2));
 after_2:;
   return v4;
 }
@@ -34371,7 +34166,7 @@ static uint32_t export_sec1_tree_fault_at(uint64_t bytes, uint64_t bytes_len, ui
 after_1:;
   bytes_len = load8(frame + 16);
   store64(offset, load64(frame + 8));
-  v4 = load32(CONSTANT(48608) + (bytes_len << 2));
+  v4 = load32(CONSTANT(48296) + (bytes_len << 2));
 after_2:;
   return v4;
 }
@@ -34505,7 +34300,7 @@ after_4:;
 after_6:;
   bytes_len = load8(frame + 280);
   store64(offset, load64(frame + 272));
-  v4 = load32(CONSTANT(48608) + (bytes_len << 2));
+  v4 = load32(CONSTANT(48296) + (bytes_len << 2));
 after_5:;
   return v4;
 }
@@ -34737,7 +34532,7 @@ after_20:;
 after_21:;
   bytes = load8(frame + 544);
   store64(offset, load64(frame + 536) + bytes_len);
-  v4 = load32(CONSTANT(48608) + (bytes << 2));
+  v4 = load32(CONSTANT(48296) + (bytes << 2));
   goto after_11;
 after_6:;
   t4 = sec1_c_container_fault_tell_curve(bytes_len, frame + 128, offset);
@@ -34756,12 +34551,12 @@ after_1:;
 after_22:;
   bytes_len = load8(frame + 280);
   store64(offset, load64(frame + 272));
-  v4 = load32(CONSTANT(48608) + (bytes_len << 2));
+  v4 = load32(CONSTANT(48296) + (bytes_len << 2));
   goto after_11;
 after_10:;
   bytes_len = load8(frame + 280);
   store64(offset, load64(frame + 272));
-  v4 = load32(CONSTANT(48608) + (bytes_len << 2));
+  v4 = load32(CONSTANT(48296) + (bytes_len << 2));
 after_11:;
   return v4;
 after_15:;
@@ -34838,7 +34633,7 @@ after_8:;
     goto after_11;
   if (v4 == 0)
     goto after_11;
-  bytes = load64(CONSTANT(48336) + (((uint64_t)load8(frame + 9) & 0xff) << 3));
+  bytes = load64(CONSTANT(48344) + (((uint64_t)load8(frame + 9) & 0xff) << 3));
   bytes_len = 1;
   v7 = load8(v8);
   switch (v7) {
@@ -34940,7 +34735,7 @@ after_1:;
 after_27:;
   bytes_len = load8(frame + 128);
   store64(offset, load64(frame + 120));
-  v7 = load32(CONSTANT(48608) + (bytes_len << 2));
+  v7 = load32(CONSTANT(48296) + (bytes_len << 2));
   goto after_26;
 after_11:;
   store64(offset, v5);
@@ -35654,7 +35449,7 @@ after_16:;
     goto again_24;
   goto after_1;
 after_20:;
-  v6 = load32(CONSTANT(48608) + (((uint64_t)v17 & 0xff) << 2));
+  v6 = load32(CONSTANT(48296) + (((uint64_t)v17 & 0xff) << 2));
 after_1:;
   return v6;
 }
@@ -36311,10 +36106,10 @@ static uint32_t export_sec1_key_write(uint64_t private_key, uint64_t private_key
     uint64_t curve, uint64_t curve_len, uint64_t public_key, uint64_t public_key_len,
     uint64_t has_public_key, uint64_t out, uint64_t out_len, uint64_t len)
 {
-  FRAME(96)
+  FRAME(192)
   uint32_t v13 = 0, v15 = 0, v16 = 0, v17 = 0, v18 = 0, v19 = 0, v20 = 0, v21 = 0, t0, t1, t2,
       t3, t4, t5;
-  uint64_t v10 = 0, v12 = 0, v14 = 0;
+  uint64_t v10 = 0, v12 = 0, v14 = 0, t6, t7;
   v10 = frame;
   v12 = curve + ((curve == 0) ? 4096ull : 0ull);
   if (curve_len > 8)
@@ -36358,7 +36153,7 @@ after_2:;
 after_1:;
   if ((curve_len + 0xffffffffffffffd8) >= 0xffffffffffffffd9)
     goto after_4;
-  v13 = 5;
+  v15 = 5;
   goto after_6;
 after_4:;
   v10 = curve_len + 0xffffffffffffffff;
@@ -36374,7 +36169,7 @@ again_13:;
     goto after_8;
   if (v15 != 0xffffff80u)
     goto after_9;
-  v13 = 5;
+  v15 = 5;
   goto after_6;
 after_9:;
   v13 = (v15 < 0xffffff90u) ? 1u : 2u;
@@ -36382,14 +36177,14 @@ after_9:;
 after_8:;
   if (v16 <= 3u)
     goto after_11;
-  v13 = 5;
+  v15 = 5;
   goto after_6;
 after_11:;
   v13 = v13 + 1u;
 after_10:;
   if (v10 != 0)
     goto after_12;
-  v13 = 5;
+  v15 = 5;
   goto after_6;
 after_7:;
   v13 = 0;
@@ -36402,118 +36197,242 @@ after_12:;
 after_5:;
   curve = v12;
 after_3:;
-  store64(frame + 40, curve_len);
   store64(frame + 32, curve);
   store64(frame + 24, v14);
-  store64(frame + 16, private_key_len);
-  v10 = private_key + ((private_key == 0) ? 4096ull : 0ull);
-  store64(frame + 8, v10);
+  store64(frame + 8, private_key + ((private_key == 0) ? 4096ull : 0ull));
   v15 = (uint32_t)(has_public_key != 0);
   store64(frame + 64, v15 ? public_key_len : 0ull);
-  v12 = public_key + ((public_key == 0) ? 4096ull : 0ull);
-  store64(frame + 56, v15 ? v12 : 0ull);
-  store64(frame + 48, v15);
-  store32(frame + 80, 0);
+  store64(frame + 56, v15 ? (public_key + ((public_key == 0) ? 4096ull : 0ull)) : 0ull);
+  v10 = v15;
+  store64(frame + 48, v10);
+  store64(frame + 16, private_key_len);
+  store64(frame + 40, curve_len);
+  store64(frame + 80, 0);
   store64(frame + 72, 0);
-  sec1_der_value_element_header(frame + 72, frame + 8);
-  if (load8(frame + 72))
+  v15 = 6;
+  if (private_key_len > 0xfffffff)
     goto after_14;
-  v14 = load64(frame + 76);
-  public_key = v14 >> 32;
-  if (v14 >= 0x8000000000)
+  if (private_key_len >= 128)
     goto after_15;
-  v14 = 2;
+  v12 = 2;
   goto after_16;
 after_15:;
-  if (v14 >= 0x10000000000)
+  if (private_key_len >= 256)
     goto after_17;
-  v14 = 3;
+  v12 = 3;
   goto after_16;
 after_17:;
-  if (v14 >= 0x1000000000000)
+  if (private_key_len >= 0x10000)
     goto after_18;
-  v14 = 4;
+  v12 = 4;
   goto after_16;
 after_18:;
-  v14 = (v14 < 0x100000000000000) ? 5ull : 6ull;
+  v12 = (private_key_len < 0x1000000) ? 5ull : 6ull;
 after_16:;
-  v15 = 6;
-  v14 = v14 + public_key;
-  if (out_len < v14)
-    goto after_19;
-  store64(frame + 88, v14);
-  store64(frame + 80, v14);
-  store64(frame + 72, out + ((out == 0) ? 4096ull : 0ull));
-  if (has_public_key == 0)
-    goto after_20;
-  sec1_der_back_writer_BackWriter_prepend_element(frame + 72, v12, public_key_len);
-after_20:;
+  v12 = v12 + private_key_len;
+  if (v12 > 0xfffffff)
+    goto after_14;
+  curve_len = v13 ? 0ull : curve_len;
+  public_key = 0;
+  private_key_len = 0;
   if (v13)
-    goto after_21;
-  sec1_der_back_writer_BackWriter_prepend_element_2(frame + 72, curve, curve_len);
+    goto after_19;
+  if (curve_len > 0xfffffff)
+    goto after_14;
+  if (curve_len >= 128)
+    goto after_20;
+  private_key_len = 2;
+  goto after_21;
+after_20:;
+  if (curve_len >= 256)
+    goto after_22;
+  private_key_len = 3;
+  goto after_21;
+after_22:;
+  if (curve_len >= 0x10000)
+    goto after_23;
+  private_key_len = 4;
+  goto after_21;
+after_23:;
+  private_key_len = (curve_len < 0x1000000) ? 5ull : 6ull;
 after_21:;
-  sec1_der_required_RequiredEncodePart_prepend_part(v10, private_key_len, frame + 72);
-  curve = load64(frame + 72);
-  v10 = load64(frame + 88);
-  v12 = curve + v10;
-  store8(v12 + 0xffffffffffffffff, 1);
+  private_key_len = private_key_len + curve_len;
+  if (private_key_len > 0xfffffff)
+    goto after_14;
+  if (private_key_len >= 128)
+    goto after_24;
+  private_key = 2;
+  goto after_25;
+after_24:;
+  if (private_key_len >= 256)
+    goto after_26;
+  private_key = 3;
+  goto after_25;
+after_26:;
+  if (private_key_len >= 0x10000)
+    goto after_27;
+  private_key = 4;
+  goto after_25;
+after_27:;
+  private_key = (private_key_len < 0x1000000) ? 5ull : 6ull;
+after_25:;
+  private_key_len = private_key + private_key_len;
+  if (private_key_len > 0xfffffff)
+    goto after_14;
+after_19:;
+  v16 = (uint32_t)(has_public_key == 0);
+  if (v16)
+    goto after_28;
+  if (public_key_len > 0xffffffe)
+    goto after_14;
+  public_key = public_key_len + 1;
+  if (public_key_len >= 127)
+    goto after_29;
+  private_key = 2;
+  goto after_30;
+after_29:;
+  if (public_key_len >= 255)
+    goto after_31;
+  private_key = 3;
+  goto after_30;
+after_31:;
+  if (public_key_len >= 65535)
+    goto after_32;
+  private_key = 4;
+  goto after_30;
+after_32:;
+  private_key = (public_key_len < 0xffffff) ? 5ull : 6ull;
+after_30:;
+  public_key = public_key + private_key;
+  if (public_key > 0xfffffff)
+    goto after_14;
+  if (public_key >= 128)
+    goto after_33;
+  private_key = 2;
+  goto after_34;
+after_33:;
+  if (public_key >= 256)
+    goto after_35;
+  private_key = 3;
+  goto after_34;
+after_35:;
+  if (public_key >= 0x10000)
+    goto after_36;
+  private_key = 4;
+  goto after_34;
+after_36:;
+  private_key = (public_key < 0x1000000) ? 5ull : 6ull;
+after_34:;
+  public_key = private_key + public_key;
+  if (public_key > 0xfffffff)
+    goto after_14;
+after_28:;
+  private_key_len = public_key + private_key_len;
+  if (private_key_len > 0xfffffff)
+    goto after_14;
+  v12 = private_key_len + v12;
+  if (v12 > 0xffffffc)
+    goto after_14;
+  private_key_len = 3;
+  public_key = v12 + 3;
+  if (v12 >= 125)
+    goto after_37;
+  private_key_len = 2;
+  goto after_38;
+after_37:;
+  if (v12 < 253)
+    goto after_38;
+  if (v12 >= 65533)
+    goto after_39;
+  private_key_len = 4;
+  goto after_38;
+after_39:;
+  private_key_len = (v12 < 0xfffffd) ? 5ull : 6ull;
+after_38:;
+  v15 = 7;
+  v12 = public_key + private_key_len;
+  if (out_len < v12)
+    goto after_14;
+  store64(frame + 104, v12);
+  store64(frame + 96, v12);
+  store64(frame + 88, out + ((out == 0) ? 4096ull : 0ull));
+  store64(frame + 176, 0);
+  store64(frame + 184, 0);
+  private_key_len = v13 ? 0ull : curve;
+  if (v16)
+    goto after_40;
+  public_key = frame + 56;
+  store64(frame + 184, load64(public_key + 8));
+  store64(frame + 176, load64(public_key));
+after_40:;
+  store64(frame + 120, load64(frame + 16));
+  store64(frame + 112, load64(frame + 8));
+  store64(frame + 152, v10);
+  store64(frame + 144, curve_len);
+  store64(frame + 136, private_key_len);
+  store64(frame + 128, v14);
+  store64(frame + 160, load64(frame + 176));
+  store64(frame + 168, load64(frame + 184));
+  v10 = v12;
+  if (v16)
+    goto after_41;
+  sec1_der_explicit_ExplicitBitsEncodeValue_prepend_value(frame + 160, frame + 88);
+  v14 = load64(frame + 88);
+  v10 = load64(frame + 104);
+  private_key_len = v12 - v10;
+  if (private_key_len > 127)
+    goto after_42;
+  v10 = v10 + 0xfffffffffffffffe;
+  store16(v14 + v10, (uint16_t)(((uint32_t)private_key_len << 8) | 0xa1u));
+  goto after_43;
+after_42:;
+  t6 = sec1_der_back_writer_prepend_long_header(v14, v10, 161, private_key_len);
+  v10 = t6;
+after_43:;
+  store64(frame + 104, v10);
+after_41:;
+  if (v13)
+    goto after_44;
+  sec1_der_explicit_ExplicitEncodeValue_prepend_value(curve, curve_len, frame + 88);
+  curve = load64(frame + 88);
+  v14 = load64(frame + 104);
+  v10 = v10 - v14;
+  if (v10 > 127)
+    goto after_45;
+  v14 = v14 + 0xfffffffffffffffe;
+  store64(frame + 104, v14);
+  store16(curve + v14, (uint16_t)(((uint32_t)v10 << 8) | 0xa0u));
+  goto after_44;
+after_45:;
+  t7 = sec1_der_back_writer_prepend_long_header(curve, v14, 160, v10);
+  store64(frame + 104, t7);
+after_44:;
+  sec1_der_required_RequiredEncodePart_prepend_part(load64(frame + 112), load64(frame + 120),
+      frame + 88);
+  curve = load64(frame + 88);
+  v10 = load64(frame + 104);
+  curve_len = curve + v10;
+  store8(curve_len + 0xffffffffffffffff, 1);
   v10 = v10 + 0xfffffffffffffffd;
   store16(curve + v10, 258);
-  curve_len = v14 - v10;
-  if (curve_len > 127)
-    goto after_22;
-  store16(v12 + 0xfffffffffffffffb, (uint16_t)(((uint32_t)curve_len << 8) | 0x30u));
-  goto after_23;
-after_22:;
-  sec1_der_back_writer_prepend_long_header(curve, v10, 48, curve_len);
-after_23:;
-  store64(len, v14);
-  v13 = 0;
+  v14 = v12 - v10;
+  if (v14 > 127)
+    goto after_46;
+  store16(curve_len + 0xfffffffffffffffb, (uint16_t)(((uint32_t)v14 << 8) | 0x30u));
+  goto after_47;
+after_46:;
+  sec1_der_back_writer_prepend_long_header(curve, v10, 48, v14);
+after_47:;
+  store64(len, v12);
+  v15 = 0;
   goto after_6;
 after_14:;
-  v15 = load8(frame + 73);
-after_19:;
-  store32(frame + 80, 0);
-  store64(frame + 72, 0);
-  sec1_der_value_element_header(frame + 72, frame + 8);
+  sec1_borrowed_key_BorrowedKey_encoded_len(frame + 72, frame + 8);
   if (load8(frame + 72))
-    goto after_24;
-  curve = load64(frame + 76);
-  v10 = curve >> 32;
-  if (curve >= 0x8000000000)
-    goto after_25;
-  curve = 2;
-  goto after_26;
-after_25:;
-  if (curve >= 0x10000000000)
-    goto after_27;
-  curve = 3;
-  goto after_26;
-after_27:;
-  if (curve >= 0x1000000000000)
-    goto after_28;
-  curve = 4;
-  goto after_26;
-after_28:;
-  curve = (curve < 0x100000000000000) ? 5ull : 6ull;
-after_26:;
-  store64(len, curve + v10);
-  if ((v15 & 0xffu) != 10u)
-    goto after_29;
-  v13 = 16;
-  goto after_6;
-after_24:;
-  if ((v15 & 0xffu) != 10u)
-    goto after_30;
-  v13 = 16;
-  goto after_6;
-after_29:;
-  v13 = load32(CONSTANT(48296) + (((uint64_t)v15 & 0xff) << 2));
-  goto after_6;
-after_30:;
-  v13 = load32(CONSTANT(48296) + (((uint64_t)v15 & 0xff) << 2));
+    goto after_6;
+  store64(len, load64(frame + 80));
 after_6:;
-  return v13;
+  return v15;
 }
 
 /* rattle::export sec1_picture_draw */
@@ -37247,9 +37166,9 @@ static uint32_t export_sec1_private_key_info_write(uint64_t private_key,
     uint64_t private_key_len, uint64_t curve, uint64_t curve_len, uint64_t public_key,
     uint64_t public_key_len, uint64_t has_public_key, uint64_t out, uint64_t out_len, uint64_t len)
 {
-  FRAME(400)
+  FRAME(272)
   uint32_t v11 = 0;
-  uint64_t v12 = 0, v13 = 0, v14 = 0, v15 = 0, t0, t1;
+  uint64_t v12 = 0, v13 = 0, v14 = 0, t0, t1, t2;
   curves_curve_Curve_from_content(frame + 8, curve + ((curve == 0) ? 4096ull : 0ull), curve_len);
   v11 = 11;
   if (load8(frame + 8) != 1u)
@@ -37257,14 +37176,14 @@ static uint32_t export_sec1_private_key_info_write(uint64_t private_key,
   v11 = load8(frame + 9);
   store32(frame + 23, 0);
   store64(frame + 16, 0);
-  store64(frame + 272, 0);
-  store64(frame + 264, 0);
-  store64(frame + 256, 0);
-  store64(frame + 248, 0);
-  store64(frame + 240, 0);
-  store64(frame + 232, 0);
-  curves_curve_Curve_identifier(frame + 232, v11);
-  curve = load64(frame + 272);
+  store64(frame + 120, 0);
+  store64(frame + 112, 0);
+  store64(frame + 104, 0);
+  store64(frame + 96, 0);
+  store64(frame + 88, 0);
+  store64(frame + 80, 0);
+  curves_curve_Curve_identifier(frame + 80, v11);
+  curve = load64(frame + 120);
   if (curve > 0xfffffff)
     goto after_2;
   if (curve >= 128)
@@ -37287,207 +37206,247 @@ after_4:;
   curve_len = v12 + curve;
   if (curve_len > 11)
     goto after_2;
-  v13 = (frame + 232) + curve;
+  v13 = (frame + 80) + curve;
   v12 = (frame + 16) | v12;
   if (curve < 8)
     goto after_7;
-  store64(v12, load64(frame + 232));
+  store64(v12, load64(frame + 80));
   store64(((frame + 16) + curve_len) + 0xfffffffffffffff8, load64(v13 + 0xfffffffffffffff8));
   goto after_8;
 after_7:;
   if (curve < 4)
     goto after_9;
-  store32(v12, load32(frame + 232));
+  store32(v12, load32(frame + 80));
   store32(((frame + 16) + curve_len) + 0xfffffffffffffffc, load32(v13 + 0xfffffffffffffffc));
   goto after_8;
 after_9:;
   if (curve == 0)
     goto after_8;
-  move(v12, frame + 232, curve);
+  move(v12, frame + 80, curve);
 after_8:;
   store16(v12 + 0xfffffffffffffffe, (uint16_t)(((uint32_t)curve << 8) | 6u));
   store64(frame + 224, 0);
   store64(frame + 216, curve_len);
   store64(frame + 208, frame + 16);
-  store64(frame + 256, 0);
-  store64(frame + 248, 0);
-  store64(frame + 240, 0);
-  store64(frame + 232, 0);
-  sec1_der_any_AnyRef_decode(frame + 232, frame + 208);
-  if (load8(frame + 232))
+  store64(frame + 104, 0);
+  store64(frame + 96, 0);
+  store64(frame + 88, 0);
+  store64(frame + 80, 0);
+  sec1_der_any_AnyRef_decode(frame + 80, frame + 208);
+  if (load8(frame + 80))
     goto after_2;
-  store64(frame + 184, load64(frame + 240));
-  store64(frame + 192, load64(frame + 248));
-  store64(frame + 200, load64(frame + 256));
+  store64(frame + 56, load64(frame + 88));
+  store64(frame + 64, load64(frame + 96));
+  store64(frame + 72, load64(frame + 104));
   if (load64(frame + 216) != 0)
     goto after_2;
   if ((uint32_t)load8(frame + 224) & 0xffu)
     goto after_2;
-  curve = load64(frame + 200);
+  curve = load64(frame + 72);
   store64(frame + 48, curve);
-  v12 = load64(frame + 192);
-  store64(frame + 40, v12);
-  v13 = load64(frame + 184);
-  store64(frame + 32, v13);
-  store64(frame + 88, curve_len);
-  store64(frame + 72, 1);
-  store64(frame + 64, 7);
-  store64(frame + 56, CONSTANT(530));
-  store64(frame + 96, v13);
-  store64(frame + 104, v12);
-  store64(frame + 112, curve);
-  private_key = private_key + ((private_key == 0) ? 4096ull : 0ull);
-  store64(frame + 120, private_key);
-  store64(frame + 128, private_key_len);
-  store64(frame + 80, frame + 16);
-  store64(frame + 152, 0);
-  store64(frame + 144, 0);
-  store64(frame + 136, 0);
+  v13 = load64(frame + 64);
+  store64(frame + 40, v13);
+  v14 = load64(frame + 56);
+  store64(frame + 32, v14);
   v11 = (uint32_t)(has_public_key != 0);
-  v12 = v11 ? public_key_len : 0ull;
-  store64(frame + 176, v12);
-  v14 = public_key + ((public_key == 0) ? 4096ull : 0ull);
-  public_key = v11 ? v14 : 0ull;
-  store64(frame + 168, public_key);
-  v13 = v11;
-  store64(frame + 160, v13);
-  store32(frame + 240, 0);
-  store64(frame + 232, 0);
-  sec1_der_value_element_header_3(frame + 232, frame + 56);
-  if (load8(frame + 232))
+  public_key_len = v11 ? public_key_len : 0ull;
+  store64(frame + 200, public_key_len);
+  v12 = v11 ? (public_key + ((public_key == 0) ? 4096ull : 0ull)) : 0ull;
+  store64(frame + 192, v12);
+  store64(frame + 96, 1);
+  store64(frame + 88, 7);
+  store64(frame + 80, CONSTANT(530));
+  store64(frame + 120, v14);
+  store64(frame + 128, v13);
+  store64(frame + 136, curve);
+  store64(frame + 160, 0);
+  store64(frame + 152, private_key_len);
+  curve = private_key + ((private_key == 0) ? 4096ull : 0ull);
+  store64(frame + 144, curve);
+  store64(frame + 168, 0);
+  store64(frame + 176, 0);
+  private_key = v11;
+  store64(frame + 184, private_key);
+  store64(frame + 104, frame + 16);
+  store64(frame + 112, curve_len);
+  store32(frame + 208, 0);
+  v13 = curve_len + 11;
+  v11 = (uint32_t)v13;
+  store32(frame + 212, v11);
+  sec1_der_required_RequiredEncodePart_part_len(frame + 208, frame + 144);
+  if (load8(frame + 208) == 0u)
     goto after_10;
-  curve = load64(frame + 236);
-  curve_len = curve >> 32;
-  if (curve >= 0x8000000000)
+  public_key = load8(frame + 209);
+  goto after_11;
+after_10:;
+  public_key = 5;
+  v14 = v13 + (uint64_t)load32(frame + 212);
+  if (v14 >= 0x10000000)
     goto after_11;
-  v15 = 2;
-  goto after_12;
-after_11:;
-  if (curve >= 0x10000000000)
-    goto after_13;
-  v15 = 3;
-  goto after_12;
-after_13:;
-  if (curve >= 0x1000000000000)
-    goto after_14;
-  v15 = 4;
-  goto after_12;
-after_14:;
-  v15 = (curve < 0x100000000000000) ? 5ull : 6ull;
+  if (v14 <= 0xffffffc)
+    goto after_12;
+  public_key = 5;
+  goto after_11;
 after_12:;
-  curve = 6;
-  curve_len = v15 + curve_len;
-  if (out_len < curve_len)
+  public_key = v14 + 3;
+  if (v14 >= 125)
+    goto after_13;
+  v14 = 2;
+  goto after_14;
+after_13:;
+  if (v14 >= 253)
     goto after_15;
-  store64(frame + 224, curve_len);
-  store64(frame + 216, curve_len);
-  store64(frame + 208, out + ((out == 0) ? 4096ull : 0ull));
-  curve = load64(frame + 32);
-  store64(frame + 376, curve);
-  out = load64(frame + 40);
-  store64(frame + 384, out);
-  out_len = load64(frame + 48);
-  store64(frame + 392, out_len);
-  store64(frame + 248, 1);
-  store64(frame + 240, 7);
-  store64(frame + 232, CONSTANT(530));
-  store64(frame + 272, curve);
-  store64(frame + 280, out);
-  store64(frame + 288, out_len);
-  curve = frame + 80;
-  out = load64(curve);
-  store64(frame + 360, out);
-  curve = load64(curve + 8);
-  store64(frame + 368, curve);
-  store64(frame + 256, out);
-  store64(frame + 264, curve);
-  store64(frame + 304, private_key_len);
-  store64(frame + 296, private_key);
-  store64(frame + 312, 0);
-  store64(frame + 320, 0);
-  store64(frame + 328, 0);
-  store64(frame + 336, v13);
-  store64(frame + 344, public_key);
-  store64(frame + 352, v12);
-  if (has_public_key == 0)
+  v14 = 3;
+  goto after_14;
+after_15:;
+  if (v14 >= 65533)
     goto after_16;
-  sec1_der_back_writer_BackWriter_prepend_element(frame + 208, v14, public_key_len);
+  v14 = 4;
+  goto after_14;
 after_16:;
-  sec1_der_required_RequiredEncodePart_prepend_part(private_key, private_key_len, frame + 208);
-  curve = load64(frame + 208);
-  public_key = load64(frame + 224);
-  store8((curve + public_key) + 0xffffffffffffffff, 1);
-  private_key = public_key + 0xfffffffffffffffd;
-  store16(curve + private_key, 258);
-  private_key_len = curve_len - private_key;
-  if (private_key_len > 127)
+  v14 = (v14 < 0xfffffd) ? 5ull : 6ull;
+after_14:;
+  public_key = public_key + v14;
+  if (out_len >= public_key)
     goto after_17;
-  public_key = public_key + 0xfffffffffffffffb;
-  store16(curve + public_key, (uint16_t)(((uint32_t)private_key_len << 8) | 0x30u));
-  goto after_18;
-after_17:;
-  t0 = sec1_der_back_writer_prepend_long_header(curve, private_key, 48, private_key_len);
-  public_key = t0;
-after_18:;
-  private_key = curve_len - public_key;
-  if (private_key > 127)
+  public_key = 6;
+after_11:;
+  store64(frame + 112, curve_len);
+  store64(frame + 96, 1);
+  store64(frame + 88, 7);
+  store64(frame + 80, CONSTANT(530));
+  store64(frame + 120, load64(frame + 32));
+  store64(frame + 128, load64(frame + 40));
+  store64(frame + 136, load64(frame + 48));
+  store64(frame + 160, 0);
+  store64(frame + 152, private_key_len);
+  store64(frame + 144, curve);
+  store64(frame + 168, 0);
+  store64(frame + 176, 0);
+  store64(frame + 200, public_key_len);
+  store64(frame + 192, v12);
+  store64(frame + 184, private_key);
+  store64(frame + 104, frame + 16);
+  store64(frame + 208, 0);
+  store32(frame + 212, v11);
+  sec1_der_required_RequiredEncodePart_part_len(frame + 208, frame + 144);
+  if (load8(frame + 208))
+    goto after_18;
+  curve = v13 + (uint64_t)load32(frame + 212);
+  if (curve > 0xfffffff)
+    goto after_18;
+  if (curve > 0xffffffc)
+    goto after_18;
+  curve_len = curve + 3;
+  if (curve >= 125)
     goto after_19;
-  public_key = public_key + 0xfffffffffffffffe;
-  store16(curve + public_key, (uint16_t)(((uint32_t)private_key << 8) | 4u));
+  curve = 2;
   goto after_20;
-after_19:;
-  t1 = sec1_der_back_writer_prepend_long_header(curve, public_key, 4, private_key);
-  public_key = t1;
-after_20:;
-  store64(frame + 224, public_key);
-  pkix_algorithm_AlgorithmIdentifierEncodePart_prepend_part(frame + 232, frame + 208);
-  curve = load64(frame + 208);
-  public_key = load64(frame + 224);
-  private_key_len = curve + public_key;
-  store8(private_key_len + 0xffffffffffffffff, 0);
-  public_key = public_key + 0xfffffffffffffffd;
-  store16(curve + public_key, 258);
-  private_key = curve_len - public_key;
-  if (private_key > 127)
+after_17:;
+  store64(frame + 72, public_key);
+  store64(frame + 64, public_key);
+  store64(frame + 56, out + ((out == 0) ? 4096ull : 0ull));
+  store64(frame + 112, curve_len);
+  store64(frame + 96, 1);
+  store64(frame + 88, 7);
+  store64(frame + 80, CONSTANT(530));
+  store64(frame + 120, load64(frame + 32));
+  store64(frame + 128, load64(frame + 40));
+  store64(frame + 136, load64(frame + 48));
+  store64(frame + 160, 0);
+  store64(frame + 152, private_key_len);
+  store64(frame + 144, curve);
+  store64(frame + 168, 0);
+  store64(frame + 176, 0);
+  store64(frame + 200, public_key_len);
+  store64(frame + 192, v12);
+  store64(frame + 184, private_key);
+  store64(frame + 104, frame + 16);
+  store64(frame + 224, 0);
+  store64(frame + 216, private_key_len);
+  store64(frame + 208, curve);
+  store64(frame + 232, 0);
+  store64(frame + 240, 0);
+  store64(frame + 264, public_key_len);
+  store64(frame + 256, v12);
+  store64(frame + 248, private_key);
+  if (has_public_key == 0)
     goto after_21;
-  store16(private_key_len + 0xfffffffffffffffb, (uint16_t)(((uint32_t)private_key << 8) | 0x30u));
-  goto after_22;
-after_21:;
-  sec1_der_back_writer_prepend_long_header(curve, public_key, 48, private_key);
+  sec1_der_explicit_ExplicitBitsEncodeValue_prepend_value(frame + 256, frame + 56);
+  curve_len = load64(frame + 56);
+  private_key = load64(frame + 72);
+  has_public_key = public_key - private_key;
+  if (has_public_key > 127)
+    goto after_22;
+  private_key = private_key + 0xfffffffffffffffe;
+  store64(frame + 72, private_key);
+  store16(curve_len + private_key, (uint16_t)(((uint32_t)has_public_key << 8) | 0xa1u));
+  goto after_21;
 after_22:;
-  store64(len, curve_len);
+  t0 = sec1_der_back_writer_prepend_long_header(curve_len, private_key, 161, has_public_key);
+  store64(frame + 72, t0);
+after_21:;
+  sec1_der_required_RequiredEncodePart_prepend_part(curve, private_key_len, frame + 56);
+  curve = load64(frame + 56);
+  curve_len = load64(frame + 72);
+  store8((curve + curve_len) + 0xffffffffffffffff, 1);
+  private_key_len = curve_len + 0xfffffffffffffffd;
+  store16(curve + private_key_len, 258);
+  private_key = public_key - private_key_len;
+  if (private_key > 127)
+    goto after_23;
+  curve_len = curve_len + 0xfffffffffffffffb;
+  store16(curve + curve_len, (uint16_t)(((uint32_t)private_key << 8) | 0x30u));
+  goto after_24;
+after_23:;
+  t1 = sec1_der_back_writer_prepend_long_header(curve, private_key_len, 48, private_key);
+  curve_len = t1;
+after_24:;
+  private_key_len = public_key - curve_len;
+  if (private_key_len > 127)
+    goto after_25;
+  curve_len = curve_len + 0xfffffffffffffffe;
+  store16(curve + curve_len, (uint16_t)(((uint32_t)private_key_len << 8) | 4u));
+  goto after_26;
+after_25:;
+  t2 = sec1_der_back_writer_prepend_long_header(curve, curve_len, 4, private_key_len);
+  curve_len = t2;
+after_26:;
+  store64(frame + 72, curve_len);
+  pkix_algorithm_AlgorithmIdentifierEncodePart_prepend_part(frame + 80, frame + 56);
+  curve = load64(frame + 56);
+  curve_len = load64(frame + 72);
+  private_key = curve + curve_len;
+  store8(private_key + 0xffffffffffffffff, 0);
+  curve_len = curve_len + 0xfffffffffffffffd;
+  store16(curve + curve_len, 258);
+  private_key_len = public_key - curve_len;
+  if (private_key_len > 127)
+    goto after_27;
+  store16(private_key + 0xfffffffffffffffb, (uint16_t)(((uint32_t)private_key_len << 8) | 0x30u));
+  goto after_28;
+after_27:;
+  sec1_der_back_writer_prepend_long_header(curve, curve_len, 48, private_key_len);
+after_28:;
+  store64(len, public_key);
   v11 = 0;
   goto after_1;
-after_10:;
-  curve = load8(frame + 233);
-after_15:;
-  store32(frame + 240, 0);
-  store64(frame + 232, 0);
-  sec1_der_value_element_header_3(frame + 232, frame + 56);
-  if (load8(frame + 232))
-    goto after_23;
-  curve_len = load64(frame + 236);
-  public_key = curve_len >> 32;
-  if (curve_len >= 0x8000000000)
-    goto after_24;
-  curve_len = 2;
-  goto after_25;
-after_24:;
-  if (curve_len >= 0x10000000000)
-    goto after_26;
-  curve_len = 3;
-  goto after_25;
-after_26:;
-  if (curve_len >= 0x1000000000000)
-    goto after_27;
-  curve_len = 4;
-  goto after_25;
-after_27:;
-  curve_len = (curve_len < 0x100000000000000) ? 5ull : 6ull;
-after_25:;
-  store64(len, curve_len + public_key);
-after_23:;
-  v11 = load32(CONSTANT(48608) + (curve << 2));
+after_19:;
+  if (curve >= 253)
+    goto after_29;
+  curve = 3;
+  goto after_20;
+after_29:;
+  if (curve >= 65533)
+    goto after_30;
+  curve = 4;
+  goto after_20;
+after_30:;
+  curve = (curve < 0xfffffd) ? 5ull : 6ull;
+after_20:;
+  store64(len, curve_len + curve);
+after_18:;
+  v11 = load32((public_key << 2) + CONSTANT(48296));
 after_1:;
   return v11;
 after_2:;
@@ -37498,22 +37457,25 @@ after_2:;
 static uint32_t export_sec1_public_key_write(uint64_t curve, uint64_t curve_len,
     uint64_t public_key, uint64_t public_key_len, uint64_t out, uint64_t out_len, uint64_t len)
 {
-  FRAME(320)
-  uint32_t v8 = 0, v9 = 0, v10 = 0;
-  uint64_t v11 = 0, v12 = 0, v13 = 0, v14 = 0, v15 = 0, v16 = 0, v17 = 0, v18 = 0, v19 = 0, t0;
+  FRAME(192)
+  uint32_t v8 = 0, v9 = 0, v10 = 0, v13 = 0;
+  uint64_t v11 = 0, v12 = 0, v14 = 0, v15 = 0, v16 = 0, v17 = 0, v18 = 0, v19 = 0, v20 = 0,
+      v21 = 0, v22 = 0, v23 = 0, t0, t1;
   curves_curve_Curve_from_content(frame + 8, curve + ((curve == 0) ? 4096ull : 0ull), curve_len);
   v8 = 11;
   if (load8(frame + 8) != 1u)
     goto after_1;
   v8 = 9;
-  if (public_key_len == 0)
+  v9 = (uint32_t)(public_key_len == 0);
+  if (v9)
     goto after_1;
-  v9 = load8(frame + 9);
-  curve_len = load64(CONSTANT(48336) + (((uint64_t)v9 & 0xff) << 3));
+  v10 = load8(frame + 9);
+  v11 = load64(CONSTANT(48344) + (((uint64_t)v10 & 0xff) << 3));
   curve = 1;
-  public_key = public_key + ((public_key == 0) ? 4096ull : 0ull);
-  v10 = load8(public_key);
-  switch (v10) {
+  v12 = (public_key == 0) ? 4096ull : 0ull;
+  curve_len = public_key + v12;
+  v13 = load8(curve_len);
+  switch (v13) {
   case 2: case 3: case 5:
     goto after_2;
   case 0:
@@ -37526,344 +37488,267 @@ static uint32_t export_sec1_public_key_write(uint64_t curve, uint64_t curve_len,
     goto after_1;
   }
 after_2:;
-  curve = curve_len | 1;
+  curve = v11 | 1;
 after_3:;
   if (public_key_len == curve)
     goto after_6;
   goto after_1;
 after_4:;
-  if (public_key_len != ((curve_len << 1) | 1))
+  if (public_key_len != ((v11 << 1) | 1))
     goto after_1;
-  if (((uint32_t)load8((public_key + public_key_len) + 0xffffffffffffffff) ^ v10) & 1u)
+  if (((uint32_t)load8((curve_len + public_key_len) + 0xffffffffffffffff) ^ v13) & 1u)
     goto after_1;
   goto after_6;
 after_5:;
-  if (public_key_len != ((curve_len << 1) | 1))
+  if (public_key_len != ((v11 << 1) | 1))
     goto after_1;
 after_6:;
   store32(frame + 23, 0);
   store64(frame + 16, 0);
-  store64(frame + 232, 0);
-  store64(frame + 224, 0);
-  store64(frame + 216, 0);
-  store64(frame + 208, 0);
-  store64(frame + 200, 0);
-  store64(frame + 192, 0);
-  curves_curve_Curve_identifier(frame + 192, v9);
-  curve = load64(frame + 232);
+  store64(frame + 144, 0);
+  store64(frame + 136, 0);
+  store64(frame + 128, 0);
+  store64(frame + 120, 0);
+  store64(frame + 112, 0);
+  store64(frame + 104, 0);
+  curves_curve_Curve_identifier(frame + 104, v10);
+  curve = load64(frame + 144);
   if (curve > 0xfffffff)
     goto after_7;
   if (curve >= 128)
     goto after_8;
-  v11 = 2;
+  v14 = 2;
   goto after_9;
 after_8:;
   if (curve >= 256)
     goto after_10;
-  v11 = 3;
+  v14 = 3;
   goto after_9;
 after_10:;
   if (curve >= 0x10000)
     goto after_11;
-  v11 = 4;
+  v14 = 4;
   goto after_9;
 after_11:;
-  v11 = (curve < 0x1000000) ? 5ull : 6ull;
+  v14 = (curve < 0x1000000) ? 5ull : 6ull;
 after_9:;
-  curve_len = v11 + curve;
-  if (curve_len > 11)
+  v15 = v14 + curve;
+  if (v15 > 11)
     goto after_7;
-  v12 = (frame + 192) + curve;
-  v11 = (frame + 16) | v11;
+  v16 = (frame + 104) + curve;
+  v11 = (frame + 16) | v14;
   if (curve < 8)
     goto after_12;
-  store64(v11, load64(frame + 192));
-  store64(((frame + 16) + curve_len) + 0xfffffffffffffff8, load64(v12 + 0xfffffffffffffff8));
+  store64(v11, load64(frame + 104));
+  store64(((frame + 16) + v15) + 0xfffffffffffffff8, load64(v16 + 0xfffffffffffffff8));
   goto after_13;
 after_12:;
   if (curve < 4)
     goto after_14;
-  store32(v11, load32(frame + 192));
-  store32(((frame + 16) + curve_len) + 0xfffffffffffffffc, load32(v12 + 0xfffffffffffffffc));
+  store32(v11, load32(frame + 104));
+  store32(((frame + 16) + v15) + 0xfffffffffffffffc, load32(v16 + 0xfffffffffffffffc));
   goto after_13;
 after_14:;
   if (curve == 0)
     goto after_13;
-  move(v11, frame + 192, curve);
+  move(v11, frame + 104, curve);
 after_13:;
   store16(v11 + 0xfffffffffffffffe, (uint16_t)(((uint32_t)curve << 8) | 6u));
-  store64(frame + 184, 0);
-  store64(frame + 176, curve_len);
-  store64(frame + 168, frame + 16);
-  store64(frame + 216, 0);
-  store64(frame + 208, 0);
-  store64(frame + 200, 0);
-  store64(frame + 192, 0);
-  sec1_der_any_AnyRef_decode(frame + 192, frame + 168);
-  if (load8(frame + 192))
-    goto after_7;
-  store64(frame + 144, load64(frame + 200));
-  store64(frame + 152, load64(frame + 208));
-  store64(frame + 160, load64(frame + 216));
-  if (load64(frame + 176) != 0)
-    goto after_7;
-  if ((uint32_t)load8(frame + 184) & 0xffu)
-    goto after_7;
-  v11 = load64(frame + 160);
-  store64(frame + 48, v11);
-  v12 = load64(frame + 152);
-  store64(frame + 40, v12);
-  v13 = load64(frame + 144);
-  store64(frame + 32, v13);
-  curve = frame + 96;
-  store64(curve, v13);
-  store64(curve + 8, v12);
-  store64(curve + 16, v11);
-  store64(frame + 88, curve_len);
-  store64(frame + 72, 1);
-  store64(frame + 64, 7);
-  store64(frame + 56, CONSTANT(530));
-  store64(frame + 120, 0);
-  store64(frame + 128, public_key);
-  store64(frame + 136, public_key_len);
+  store64(frame + 96, 0);
+  store64(frame + 88, v15);
   store64(frame + 80, frame + 16);
-  store32(frame + 200, 0);
-  store64(frame + 192, 0);
-  sec1_der_value_element_header_2(frame + 192, frame + 56);
-  if (load8(frame + 192))
+  store64(frame + 128, 0);
+  store64(frame + 120, 0);
+  store64(frame + 112, 0);
+  store64(frame + 104, 0);
+  sec1_der_any_AnyRef_decode(frame + 104, frame + 80);
+  if (load8(frame + 104))
+    goto after_7;
+  store64(frame + 56, load64(frame + 112));
+  store64(frame + 64, load64(frame + 120));
+  store64(frame + 72, load64(frame + 128));
+  if (load64(frame + 88) != 0)
+    goto after_7;
+  if ((uint32_t)load8(frame + 96) & 0xffu)
+    goto after_7;
+  store64(frame + 48, load64(frame + 72));
+  store64(frame + 40, load64(frame + 64));
+  store64(frame + 32, load64(frame + 56));
+  v8 = 7;
+  v17 = (public_key_len < 127) ? 2ull : 3ull;
+  v11 = ((public_key_len + v17) + v15) + 12;
+  v18 = (v11 < 128) ? 2ull : 3ull;
+  v11 = v18 + v11;
+  if (out_len < v11)
     goto after_15;
-  curve = load64(frame + 196);
-  v14 = curve >> 32;
-  if (curve >= 0x8000000000)
-    goto after_16;
-  v15 = 2;
-  goto after_17;
-after_16:;
-  if (curve >= 0x10000000000)
-    goto after_18;
-  v15 = 3;
-  goto after_17;
-after_18:;
-  if (curve >= 0x1000000000000)
-    goto after_19;
-  v15 = 4;
-  goto after_17;
-after_19:;
-  v15 = (curve < 0x100000000000000) ? 5ull : 6ull;
-after_17:;
-  curve = 6;
-  curve_len = v15 + v14;
-  if (out_len < curve_len)
-    goto after_20;
-  curve = load64(frame + 32);
-  store64(frame + 296, curve);
-  public_key_len = load64(frame + 40);
-  store64(frame + 304, public_key_len);
-  public_key = load64(frame + 48);
-  store64(frame + 312, public_key);
-  v16 = (out == 0) ? 4096ull : 0ull;
-  v17 = out + v16;
-  store64(frame + 168, v17);
+  store64(frame + 96, v11);
+  store64(frame + 88, v11);
+  v19 = (out == 0) ? 4096ull : 0ull;
+  v20 = out + v19;
+  store64(frame + 80, v20);
+  store64(frame + 160, load64(frame + 48));
+  store64(frame + 152, load64(frame + 40));
+  store64(frame + 144, load64(frame + 32));
   store64(frame + 176, curve_len);
-  store64(frame + 208, 1);
-  store64(frame + 200, 7);
-  store64(frame + 192, CONSTANT(530));
-  store64(frame + 232, curve);
-  store64(frame + 240, public_key_len);
-  store64(frame + 248, public_key);
-  curve = frame + 80;
-  public_key_len = load64(curve);
-  store64(frame + 280, public_key_len);
-  curve = load64(curve + 8);
-  store64(frame + 288, curve);
-  store64(frame + 216, public_key_len);
-  store64(frame + 224, curve);
-  public_key_len = frame + 120;
-  public_key = load64(public_key_len + 16);
-  store64(frame + 272, public_key);
-  curve = load64(public_key_len + 8);
-  store64(frame + 264, curve);
-  store64(frame + 256, load64(public_key_len));
-  v18 = curve_len - public_key;
-  v12 = v17 + v18;
-  if (public_key < 33)
-    goto after_21;
-  public_key_len = curve + public_key;
-  if (public_key > 64)
-    goto after_22;
-  public_key = load64(curve);
-  out = load64(curve + 8);
-  out_len = load64(curve + 16);
-  store64(v12 + 24, load64(curve + 24));
-  store64(v12 + 16, out_len);
-  store64(v12 + 8, out);
-  store64(v12, public_key);
-  curve = public_key_len + 0xffffffffffffffe0;
-  public_key = load64(curve);
-  out = load64(curve + 8);
-  out_len = load64(curve + 16);
-  public_key_len = (v17 + curve_len) + 0xffffffffffffffe0;
+  store64(frame + 168, 0);
+  store64(frame + 136, v15);
+  store64(frame + 120, 1);
+  store64(frame + 112, 7);
+  store64(frame + 104, CONSTANT(530));
+  store64(frame + 184, public_key_len);
+  v21 = v11 - public_key_len;
+  out_len = v20 + v21;
+  store64(frame + 128, frame + 16);
+  if (public_key_len < 33)
+    goto after_16;
+  v15 = curve_len + public_key_len;
+  if (public_key_len > 64)
+    goto after_17;
+  curve = load64(curve_len);
+  public_key_len = load64(curve_len + 8);
+  public_key = load64(curve_len + 16);
+  store64(out_len + 24, load64(curve_len + 24));
+  store64(out_len + 16, public_key);
+  store64(out_len + 8, public_key_len);
+  store64(out_len, curve);
+  curve = v15 + 0xffffffffffffffe0;
+  curve_len = load64(curve);
+  public_key = load64(curve + 8);
+  out = load64(curve + 16);
+  public_key_len = (v20 + v11) + 0xffffffffffffffe0;
   store64(public_key_len + 24, load64(curve + 24));
-  store64(public_key_len + 16, out_len);
-  store64(public_key_len + 8, out);
-  store64(public_key_len, public_key);
-  goto after_23;
-after_22:;
-  if (public_key > 128)
-    goto after_24;
-  public_key = load64(curve);
-  out = load64(curve + 8);
-  out_len = load64(curve + 16);
-  v11 = load64(curve + 24);
-  v13 = load64(curve + 32);
+  store64(public_key_len + 16, out);
+  store64(public_key_len + 8, public_key);
+  store64(public_key_len, curve_len);
+  goto after_18;
+after_17:;
+  if (public_key_len > 128)
+    goto after_19;
+  curve = load64(curve_len);
+  public_key_len = load64(curve_len + 8);
+  public_key = load64(curve_len + 16);
+  out = load64(curve_len + 24);
+  v14 = load64(curve_len + 32);
+  v12 = load64(curve_len + 40);
+  v16 = load64(curve_len + 48);
+  store64(out_len + 56, load64(curve_len + 56));
+  store64(out_len + 48, v16);
+  store64(out_len + 40, v12);
+  store64(out_len + 32, v14);
+  store64(out_len + 24, out);
+  store64(out_len + 16, public_key);
+  store64(out_len + 8, public_key_len);
+  store64(out_len, curve);
+  curve = v15 + 0xffffffffffffffc0;
+  curve_len = load64(curve);
+  public_key = load64(curve + 8);
+  out = load64(curve + 16);
+  out_len = load64(curve + 24);
+  v15 = load64(curve + 32);
   v14 = load64(curve + 40);
-  v15 = load64(curve + 48);
-  store64(v12 + 56, load64(curve + 56));
-  store64(v12 + 48, v15);
-  store64(v12 + 40, v14);
-  store64(v12 + 32, v13);
-  store64(v12 + 24, v11);
-  store64(v12 + 16, out_len);
-  store64(v12 + 8, out);
-  store64(v12, public_key);
-  curve = public_key_len + 0xffffffffffffffc0;
-  public_key = load64(curve);
-  out = load64(curve + 8);
-  out_len = load64(curve + 16);
-  v11 = load64(curve + 24);
-  v12 = load64(curve + 32);
-  v13 = load64(curve + 40);
-  v14 = load64(curve + 48);
-  public_key_len = (v17 + curve_len) + 0xffffffffffffffc0;
+  v12 = load64(curve + 48);
+  public_key_len = (v20 + v11) + 0xffffffffffffffc0;
   store64(public_key_len + 56, load64(curve + 56));
-  store64(public_key_len + 48, v14);
-  store64(public_key_len + 40, v13);
-  store64(public_key_len + 32, v12);
-  store64(public_key_len + 24, v11);
-  store64(public_key_len + 16, out_len);
-  store64(public_key_len + 8, out);
-  store64(public_key_len, public_key);
-  goto after_23;
-after_21:;
-  public_key_len = curve + public_key;
-  if (public_key < 16)
-    goto after_25;
-  public_key = load64(curve);
-  store64(v12 + 8, load64(curve + 8));
-  store64(v12, public_key);
-  curve = public_key_len + 0xfffffffffffffff0;
+  store64(public_key_len + 48, v12);
+  store64(public_key_len + 40, v14);
+  store64(public_key_len + 32, v15);
+  store64(public_key_len + 24, out_len);
+  store64(public_key_len + 16, out);
+  store64(public_key_len + 8, public_key);
+  store64(public_key_len, curve_len);
+  goto after_18;
+after_16:;
+  v15 = curve_len + public_key_len;
+  if (public_key_len < 16)
+    goto after_20;
+  curve = load64(curve_len);
+  store64(out_len + 8, load64(curve_len + 8));
+  store64(out_len, curve);
+  curve = v15 + 0xfffffffffffffff0;
   public_key_len = load64(curve);
-  public_key = (v17 + curve_len) + 0xfffffffffffffff0;
-  store64(public_key + 8, load64(curve + 8));
-  store64(public_key, public_key_len);
-  goto after_23;
-after_25:;
-  if (public_key < 8)
-    goto after_26;
-  store64(v12, load64(curve));
-  store64((v17 + curve_len) + 0xfffffffffffffff8, load64(public_key_len + 0xfffffffffffffff8));
-  goto after_23;
-after_26:;
-  if (public_key < 4)
-    goto after_24;
-  store32(v12, load32(curve));
-  store32((v17 + curve_len) + 0xfffffffffffffffc, load32(public_key_len + 0xfffffffffffffffc));
-  goto after_23;
-after_24:;
-  if ((v12 - curve) >= public_key)
-    goto after_27;
-  v13 = public_key & 3;
-  public_key_len = 0;
-  if (public_key < 4)
-    goto after_28;
-  v19 = public_key & 0xfffffffffffffffc;
-  public_key_len = 0;
-again_29:;
-  out_len = v12 + public_key_len;
-  v11 = curve + public_key_len;
-  store8(out_len, (uint8_t)(uint32_t)load8(v11));
-  store8(out_len + 1, (uint8_t)(uint32_t)load8(v11 + 1));
-  store8(out_len + 2, (uint8_t)(uint32_t)load8(v11 + 2));
-  store8(out_len + 3, (uint8_t)(uint32_t)load8(v11 + 3));
-  public_key_len = public_key_len + 4;
-  if (v19 != public_key_len)
-    goto again_29;
-  if (v13 == 0)
-    goto after_23;
-after_28:;
-  curve = curve + public_key_len;
-  public_key_len = out + ((((v16 + v15) + public_key_len) + v14) - public_key);
-again_30:;
-  store8(public_key_len, (uint8_t)(uint32_t)load8(curve));
-  public_key_len = public_key_len + 1;
-  curve = curve + 1;
-  v13 = v13 + 0xffffffffffffffff;
-  if (v13 != 0)
-    goto again_30;
-  goto after_23;
-after_27:;
-  if (public_key == 0)
-    goto after_23;
-  move(v12, curve, public_key);
-after_23:;
-  curve = v18 + 0xffffffffffffffff;
-  store8(v17 + curve, (uint8_t)(uint32_t)load8(frame + 256));
-  public_key_len = curve_len - curve;
-  if (public_key_len > 127)
-    goto after_31;
-  curve = v18 + 0xfffffffffffffffd;
-  store16(v17 + curve, (uint16_t)(((uint32_t)public_key_len << 8) | 3u));
-  goto after_32;
-after_31:;
-  t0 = sec1_der_back_writer_prepend_long_header(v17, curve, 3, public_key_len);
-  curve = t0;
-after_32:;
-  store64(frame + 184, curve);
-  pkix_algorithm_AlgorithmIdentifierEncodePart_prepend_part(frame + 192, frame + 168);
-  curve = load64(frame + 168);
-  public_key_len = load64(frame + 184);
-  public_key = curve_len - public_key_len;
-  if (public_key > 127)
-    goto after_33;
-  store16((curve + public_key_len) + 0xfffffffffffffffe,
-      (uint16_t)(((uint32_t)public_key << 8) | 0x30u));
-  goto after_34;
-after_33:;
-  sec1_der_back_writer_prepend_long_header(curve, public_key_len, 48, public_key);
-after_34:;
-  store64(len, curve_len);
-  v8 = 0;
-  goto after_1;
-after_15:;
-  curve = load8(frame + 193);
+  curve_len = (v20 + v11) + 0xfffffffffffffff0;
+  store64(curve_len + 8, load64(curve + 8));
+  store64(curve_len, public_key_len);
+  goto after_18;
 after_20:;
-  store32(frame + 200, 0);
-  store64(frame + 192, 0);
-  sec1_der_value_element_header_2(frame + 192, frame + 56);
-  if (load8(frame + 192))
-    goto after_35;
-  curve_len = load64(frame + 196);
-  public_key_len = curve_len >> 32;
-  if (curve_len >= 0x8000000000)
-    goto after_36;
-  curve_len = 2;
-  goto after_37;
-after_36:;
-  if (curve_len >= 0x10000000000)
-    goto after_38;
-  curve_len = 3;
-  goto after_37;
-after_38:;
-  if (curve_len >= 0x1000000000000)
-    goto after_39;
-  curve_len = 4;
-  goto after_37;
-after_39:;
-  curve_len = (curve_len < 0x100000000000000) ? 5ull : 6ull;
-after_37:;
-  store64(len, curve_len + public_key_len);
-after_35:;
-  v8 = load32(CONSTANT(48608) + (curve << 2));
+  if (public_key_len < 8)
+    goto after_21;
+  store64(out_len, load64(curve_len));
+  store64((v20 + v11) + 0xfffffffffffffff8, load64(v15 + 0xfffffffffffffff8));
+  goto after_18;
+after_21:;
+  if (public_key_len < 4)
+    goto after_19;
+  store32(out_len, load32(curve_len));
+  store32((v20 + v11) + 0xfffffffffffffffc, load32(v15 + 0xfffffffffffffffc));
+  goto after_18;
+after_19:;
+  if ((out_len - curve_len) >= public_key_len)
+    goto after_22;
+  v16 = public_key_len & 3;
+  out_len = 0;
+  if (public_key_len < 4)
+    goto after_23;
+  v22 = public_key_len & 0xfffffffffffffffc;
+  v23 = out + ((((v19 + v18) + v17) + v14) + curve);
+  out_len = 0;
+again_24:;
+  public_key_len = v23 + out_len;
+  v15 = curve_len + out_len;
+  store8(public_key_len + 12, (uint8_t)(uint32_t)load8(v15));
+  store8(public_key_len + 13, (uint8_t)(uint32_t)load8(v15 + 1));
+  store8(public_key_len + 14, (uint8_t)(uint32_t)load8(v15 + 2));
+  store8(public_key_len + 15, (uint8_t)(uint32_t)load8(v15 + 3));
+  out_len = out_len + 4;
+  if (v22 != out_len)
+    goto again_24;
+  if (v16 == 0)
+    goto after_18;
+after_23:;
+  public_key_len = public_key + (v12 + out_len);
+  t0 = (((((v19 + v18) + v17) + v14) + out_len) + curve) + out;
+  curve = t0 + 12;
+again_25:;
+  store8(curve, (uint8_t)(uint32_t)load8(public_key_len));
+  curve = curve + 1;
+  public_key_len = public_key_len + 1;
+  v16 = v16 + 0xffffffffffffffff;
+  if (v16 != 0)
+    goto again_25;
+  goto after_18;
+after_22:;
+  if (v9)
+    goto after_18;
+  move(out_len, curve_len, public_key_len);
+after_18:;
+  curve = v21 + 0xffffffffffffffff;
+  store8(v20 + curve, 0);
+  public_key_len = v11 - curve;
+  if (public_key_len > 127)
+    goto after_26;
+  curve = v21 + 0xfffffffffffffffd;
+  store16(v20 + curve, (uint16_t)(((uint32_t)public_key_len << 8) | 3u));
+  goto after_27;
+after_26:;
+  t1 = sec1_der_back_writer_prepend_long_header(v20, curve, 3, public_key_len);
+  curve = t1;
+after_27:;
+  store64(frame + 96, curve);
+  pkix_algorithm_AlgorithmIdentifierEncodePart_prepend_part(frame + 104, frame + 80);
+  curve = load64(frame + 80);
+  public_key_len = load64(frame + 96);
+  curve_len = v11 - public_key_len;
+  if (curve_len > 127)
+    goto after_28;
+  store16((curve + public_key_len) + 0xfffffffffffffffe,
+      (uint16_t)(((uint32_t)curve_len << 8) | 0x30u));
+  goto after_29;
+after_28:;
+  sec1_der_back_writer_prepend_long_header(curve, public_key_len, 48, curve_len);
+after_29:;
+  v8 = 0;
+after_15:;
+  store64(len, v11);
   goto after_1;
 after_7:;
   trap();

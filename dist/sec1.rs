@@ -139,7 +139,7 @@ bytes_17: [u8; 272],
 addresses_17: [Address; 34],
 bytes_18: [u8; 112],
 addresses_18: [Address; 14],
-bytes_19: [u8; 356],
+bytes_19: [u8; 320],
 }
 static CONSTANTS: Constants = Constants {
 bytes_0: [
@@ -2129,17 +2129,15 @@ to(32567), to(32602), to(32640), to(32662), to(32701)
 ],
 bytes_19: [
 1, 0, 0, 0, 2, 0, 0, 0, 3, 0, 0, 0, 4, 0, 0, 0, 5, 0, 0, 0, 6, 0, 0, 0, 7, 0, 0, 0, 14, 0, 0, 0, 15,
-0, 0, 0, 8, 0, 0, 0, 14, 0, 0, 0, 0, 0, 0, 0, 14, 0, 0, 0, 0, 0, 0, 0, 16, 0, 0, 0, 0, 0, 0, 0, 16,
-0, 0, 0, 0, 0, 0, 0, 20, 0, 0, 0, 0, 0, 0, 0, 20, 0, 0, 0, 0, 0, 0, 0, 20, 0, 0, 0, 0, 0, 0, 0, 24,
+0, 0, 0, 8, 0, 0, 0, 16, 0, 0, 0, 0, 0, 0, 0, 14, 0, 0, 0, 0, 0, 0, 0, 14, 0, 0, 0, 0, 0, 0, 0, 16,
+0, 0, 0, 0, 0, 0, 0, 16, 0, 0, 0, 0, 0, 0, 0, 20, 0, 0, 0, 0, 0, 0, 0, 20, 0, 0, 0, 0, 0, 0, 0, 20,
+0, 0, 0, 0, 0, 0, 0, 24, 0, 0, 0, 0, 0, 0, 0, 24, 0, 0, 0, 0, 0, 0, 0, 28, 0, 0, 0, 0, 0, 0, 0, 28,
+0, 0, 0, 0, 0, 0, 0, 32, 0, 0, 0, 0, 0, 0, 0, 32, 0, 0, 0, 0, 0, 0, 0, 48, 0, 0, 0, 0, 0, 0, 0, 66,
+0, 0, 0, 0, 0, 0, 0, 24, 0, 0, 0, 0, 0, 0, 0, 24, 0, 0, 0, 0, 0, 0, 0, 30, 0, 0, 0, 0, 0, 0, 0, 30,
+0, 0, 0, 0, 0, 0, 0, 30, 0, 0, 0, 0, 0, 0, 0, 20, 0, 0, 0, 0, 0, 0, 0, 20, 0, 0, 0, 0, 0, 0, 0, 24,
 0, 0, 0, 0, 0, 0, 0, 24, 0, 0, 0, 0, 0, 0, 0, 28, 0, 0, 0, 0, 0, 0, 0, 28, 0, 0, 0, 0, 0, 0, 0, 32,
-0, 0, 0, 0, 0, 0, 0, 32, 0, 0, 0, 0, 0, 0, 0, 48, 0, 0, 0, 0, 0, 0, 0, 66, 0, 0, 0, 0, 0, 0, 0, 24,
-0, 0, 0, 0, 0, 0, 0, 24, 0, 0, 0, 0, 0, 0, 0, 30, 0, 0, 0, 0, 0, 0, 0, 30, 0, 0, 0, 0, 0, 0, 0, 30,
-0, 0, 0, 0, 0, 0, 0, 20, 0, 0, 0, 0, 0, 0, 0, 20, 0, 0, 0, 0, 0, 0, 0, 24, 0, 0, 0, 0, 0, 0, 0, 24,
-0, 0, 0, 0, 0, 0, 0, 28, 0, 0, 0, 0, 0, 0, 0, 28, 0, 0, 0, 0, 0, 0, 0, 32, 0, 0, 0, 0, 0, 0, 0, 32,
-0, 0, 0, 0, 0, 0, 0, 40, 0, 0, 0, 0, 0, 0, 0, 40, 0, 0, 0, 0, 0, 0, 0, 48, 0, 0, 0, 0, 0, 0, 0, 48,
-0, 0, 0, 0, 0, 0, 0, 64, 0, 0, 0, 0, 0, 0, 0, 64, 0, 0, 0, 0, 0, 0, 0, 1, 0, 0, 0, 2, 0, 0, 0, 3, 0,
-0, 0, 4, 0, 0, 0, 5, 0, 0, 0, 6, 0, 0, 0, 7, 0, 0, 0, 14, 0, 0, 0, 15, 0, 0, 0, 8, 0, 0, 0, 16, 0,
-0, 0
+0, 0, 0, 0, 0, 0, 0, 32, 0, 0, 0, 0, 0, 0, 0, 40, 0, 0, 0, 0, 0, 0, 0, 40, 0, 0, 0, 0, 0, 0, 0, 48,
+0, 0, 0, 0, 0, 0, 0, 48, 0, 0, 0, 0, 0, 0, 0, 64, 0, 0, 0, 0, 0, 0, 0, 64, 0, 0, 0, 0, 0, 0, 0
 ],
 };
 
@@ -15831,7 +15829,7 @@ unsafe fn der_view_said_point_misfit(p0: u64, mut p1: u64) {
   if ((1u32 << (v4 & 31)) & 220) == 0 {
     break 'after_2;
   }
-  let t0 = (load64(constant(48336).wrapping_add(((load8(frame.wrapping_add(9)) as u64) & 255) <<
+  let t0 = (load64(constant(48344).wrapping_add(((load8(frame.wrapping_add(9)) as u64) & 255) <<
       3))) << (((u32::from((v4 & 254) != 2)) as u64) & 63);
   v3 = t0;
   p1 = load64(p1.wrapping_add(144));
@@ -18714,8 +18712,8 @@ unsafe fn pkix_public_key_SubjectPublicKeyInfo_from_der(p0: u64, mut p1: u64, mu
   }
 }
 
-// sec1_der::value::element_header::<#f9f0f5ce30fdb27e>
-unsafe fn sec1_der_value_element_header(p0: u64, mut p1: u64) {
+// sec1::borrowed_key::BorrowedKey::encoded_len
+unsafe fn sec1_borrowed_key_BorrowedKey_encoded_len(p0: u64, mut p1: u64) {
   let mut v2 = 0u64;
   let mut v3 = 0u64;
   let mut v4 = 0u32;
@@ -18910,12 +18908,30 @@ unsafe fn sec1_der_value_element_header(p0: u64, mut p1: u64) {
   if p1 > 0xffffffc {
     break 'after_3;
   }
+  v2 = p1.wrapping_add(3);
+  v3 = 2;
+  'after_26: {
+  if p1 < 125 {
+    break 'after_26;
+  }
+  v3 = 3;
+  if p1 < 253 {
+    break 'after_26;
+  }
+  v3 = 4;
+  if p1 < 65533 {
+    break 'after_26;
+  }
+  v3 = if p1 < 0xfffffd { 5u64 } else { 6u64 };
+  }
   store16(p0, 0);
-  store64(p0.wrapping_add(4), (p1 << 32).wrapping_add(0x300000030));
+  store64(p0.wrapping_add(8), v2.wrapping_add(v3));
+  store8(p0.wrapping_add(2), 0);
   return;
   }
-  store16(p0, 1281);
-  store64(p0.wrapping_add(4), 0);
+  store16(p0, 1);
+  store64(p0.wrapping_add(8), 0);
+  store8(p0.wrapping_add(2), 5);
   return;
 }
 
@@ -19854,8 +19870,9 @@ unsafe fn sec1_der_object_identifier_ObjectIdentifier_to_text(p0: u64, mut p1: u
   return;
 }
 
-// sec1_der::back_writer::BackWriter::prepend_element::<#5bf5a3832346df17>
-unsafe fn sec1_der_back_writer_BackWriter_prepend_element(p0: u64, mut p1: u64, mut p2: u64) {
+// sec1_der::explicit::ExplicitBitsEncodeValue::prepend_value
+unsafe fn sec1_der_explicit_ExplicitBitsEncodeValue_prepend_value(mut p0: u64, p1: u64) {
+  let mut v3 = 0u64;
   let mut v4 = 0u64;
   let mut v5 = 0u64;
   let mut v6 = 0u64;
@@ -19867,123 +19884,125 @@ unsafe fn sec1_der_back_writer_BackWriter_prepend_element(p0: u64, mut p1: u64, 
   let mut v12 = 0u64;
   let mut v13 = 0u64;
   let mut v14 = 0u64;
-  v4 = load64(p0);
-  v5 = load64(p0.wrapping_add(16));
-  v6 = v5.wrapping_sub(p2);
-  v7 = v4.wrapping_add(v6);
+  v3 = load64(p1);
+  v4 = load64(p1.wrapping_add(16));
+  v5 = load64(p0.wrapping_add(8));
+  v6 = v4.wrapping_sub(v5);
+  v7 = v3.wrapping_add(v6);
+  p0 = load64(p0);
   'after_3: {
   'after_4: {
   'after_1: {
-  if p2 < 33 {
+  if v5 < 33 {
     break 'after_1;
   }
-  v8 = p1.wrapping_add(p2);
+  v8 = p0.wrapping_add(v5);
   'after_2: {
-  if p2 > 64 {
+  if v5 > 64 {
     break 'after_2;
   }
-  p2 = load64(p1);
-  v9 = load64(p1.wrapping_add(8));
-  v10 = load64(p1.wrapping_add(16));
-  store64(v7.wrapping_add(24), load64(p1.wrapping_add(24)));
-  store64(v7.wrapping_add(16), v10);
-  store64(v7.wrapping_add(8), v9);
-  store64(v7, p2);
-  p1 = v8.wrapping_add(0xffffffffffffffe0);
-  p2 = load64(p1);
-  v9 = load64(p1.wrapping_add(8));
-  v10 = load64(p1.wrapping_add(16));
-  v8 = (v4.wrapping_add(v5)).wrapping_add(0xffffffffffffffe0);
-  store64(v8.wrapping_add(24), load64(p1.wrapping_add(24)));
-  store64(v8.wrapping_add(16), v10);
-  store64(v8.wrapping_add(8), v9);
-  store64(v8, p2);
+  v9 = load64(p0);
+  v10 = load64(p0.wrapping_add(8));
+  v5 = load64(p0.wrapping_add(16));
+  store64(v7.wrapping_add(24), load64(p0.wrapping_add(24)));
+  store64(v7.wrapping_add(16), v5);
+  store64(v7.wrapping_add(8), v10);
+  store64(v7, v9);
+  p0 = v8.wrapping_add(0xffffffffffffffe0);
+  v9 = load64(p0);
+  v10 = load64(p0.wrapping_add(8));
+  v7 = load64(p0.wrapping_add(16));
+  v8 = (v3.wrapping_add(v4)).wrapping_add(0xffffffffffffffe0);
+  store64(v8.wrapping_add(24), load64(p0.wrapping_add(24)));
+  store64(v8.wrapping_add(16), v7);
+  store64(v8.wrapping_add(8), v10);
+  store64(v8, v9);
   break 'after_3;
   }
-  if p2 > 128 {
+  if v5 > 128 {
     break 'after_4;
   }
-  p2 = load64(p1);
-  v9 = load64(p1.wrapping_add(8));
-  v10 = load64(p1.wrapping_add(16));
-  v11 = load64(p1.wrapping_add(24));
-  v12 = load64(p1.wrapping_add(32));
-  v13 = load64(p1.wrapping_add(40));
-  v14 = load64(p1.wrapping_add(48));
-  store64(v7.wrapping_add(56), load64(p1.wrapping_add(56)));
+  v9 = load64(p0);
+  v10 = load64(p0.wrapping_add(8));
+  v5 = load64(p0.wrapping_add(16));
+  v11 = load64(p0.wrapping_add(24));
+  v12 = load64(p0.wrapping_add(32));
+  v13 = load64(p0.wrapping_add(40));
+  v14 = load64(p0.wrapping_add(48));
+  store64(v7.wrapping_add(56), load64(p0.wrapping_add(56)));
   store64(v7.wrapping_add(48), v14);
   store64(v7.wrapping_add(40), v13);
   store64(v7.wrapping_add(32), v12);
   store64(v7.wrapping_add(24), v11);
-  store64(v7.wrapping_add(16), v10);
-  store64(v7.wrapping_add(8), v9);
-  store64(v7, p2);
-  p1 = v8.wrapping_add(0xffffffffffffffc0);
-  p2 = load64(p1);
-  v9 = load64(p1.wrapping_add(8));
-  v10 = load64(p1.wrapping_add(16));
-  v7 = load64(p1.wrapping_add(24));
-  v11 = load64(p1.wrapping_add(32));
-  v12 = load64(p1.wrapping_add(40));
-  v13 = load64(p1.wrapping_add(48));
-  v8 = (v4.wrapping_add(v5)).wrapping_add(0xffffffffffffffc0);
-  store64(v8.wrapping_add(56), load64(p1.wrapping_add(56)));
+  store64(v7.wrapping_add(16), v5);
+  store64(v7.wrapping_add(8), v10);
+  store64(v7, v9);
+  p0 = v8.wrapping_add(0xffffffffffffffc0);
+  v9 = load64(p0);
+  v10 = load64(p0.wrapping_add(8));
+  v7 = load64(p0.wrapping_add(16));
+  v5 = load64(p0.wrapping_add(24));
+  v11 = load64(p0.wrapping_add(32));
+  v12 = load64(p0.wrapping_add(40));
+  v13 = load64(p0.wrapping_add(48));
+  v8 = (v3.wrapping_add(v4)).wrapping_add(0xffffffffffffffc0);
+  store64(v8.wrapping_add(56), load64(p0.wrapping_add(56)));
   store64(v8.wrapping_add(48), v13);
   store64(v8.wrapping_add(40), v12);
   store64(v8.wrapping_add(32), v11);
-  store64(v8.wrapping_add(24), v7);
-  store64(v8.wrapping_add(16), v10);
-  store64(v8.wrapping_add(8), v9);
-  store64(v8, p2);
+  store64(v8.wrapping_add(24), v5);
+  store64(v8.wrapping_add(16), v7);
+  store64(v8.wrapping_add(8), v10);
+  store64(v8, v9);
   break 'after_3;
   }
-  v8 = p1.wrapping_add(p2);
+  v8 = p0.wrapping_add(v5);
   'after_5: {
-  if p2 < 16 {
+  if v5 < 16 {
     break 'after_5;
   }
-  p2 = load64(p1);
-  store64(v7.wrapping_add(8), load64(p1.wrapping_add(8)));
-  store64(v7, p2);
-  p1 = v8.wrapping_add(0xfffffffffffffff0);
-  v8 = load64(p1);
-  p2 = (v4.wrapping_add(v5)).wrapping_add(0xfffffffffffffff0);
-  store64(p2.wrapping_add(8), load64(p1.wrapping_add(8)));
-  store64(p2, v8);
+  v9 = load64(p0);
+  store64(v7.wrapping_add(8), load64(p0.wrapping_add(8)));
+  store64(v7, v9);
+  p0 = v8.wrapping_add(0xfffffffffffffff0);
+  v8 = load64(p0);
+  v9 = (v3.wrapping_add(v4)).wrapping_add(0xfffffffffffffff0);
+  store64(v9.wrapping_add(8), load64(p0.wrapping_add(8)));
+  store64(v9, v8);
   break 'after_3;
   }
   'after_6: {
-  if p2 < 8 {
+  if v5 < 8 {
     break 'after_6;
   }
-  store64(v7, load64(p1));
-  store64((v4.wrapping_add(v5)).wrapping_add(0xfffffffffffffff8),
+  store64(v7, load64(p0));
+  store64((v3.wrapping_add(v4)).wrapping_add(0xfffffffffffffff8),
       load64(v8.wrapping_add(0xfffffffffffffff8)));
   break 'after_3;
   }
-  if p2 < 4 {
+  if v5 < 4 {
     break 'after_4;
   }
-  store32(v7, load32(p1));
-  store32((v4.wrapping_add(v5)).wrapping_add(0xfffffffffffffffc),
+  store32(v7, load32(p0));
+  store32((v3.wrapping_add(v4)).wrapping_add(0xfffffffffffffffc),
       load32(v8.wrapping_add(0xfffffffffffffffc)));
   break 'after_3;
   }
   'after_7: {
-  if (v7.wrapping_sub(p1)) >= p2 {
+  if (v7.wrapping_sub(p0)) >= v5 {
     break 'after_7;
   }
-  v11 = p2 & 3;
+  v11 = v5 & 3;
   v8 = 0;
   'after_8: {
-  if p2 < 4 {
+  if v5 < 4 {
     break 'after_8;
   }
-  v12 = p2 & 0xfffffffffffffffc;
+  v12 = v5 & 0xfffffffffffffffc;
   v8 = 0;
   'again_9: loop {
   v9 = v7.wrapping_add(v8);
-  v10 = p1.wrapping_add(v8);
+  v10 = p0.wrapping_add(v8);
   store8(v9, (load8(v10) as u32) as u8);
   store8(v9.wrapping_add(1), (load8(v10.wrapping_add(1)) as u32) as u8);
   store8(v9.wrapping_add(2), (load8(v10.wrapping_add(2)) as u32) as u8);
@@ -19998,12 +20017,12 @@ unsafe fn sec1_der_back_writer_BackWriter_prepend_element(p0: u64, mut p1: u64, 
     break 'after_3;
   }
   }
-  p1 = p1.wrapping_add(v8);
-  v8 = v4.wrapping_add((v8.wrapping_add(v5)).wrapping_sub(p2));
+  p0 = p0.wrapping_add(v8);
+  v8 = v3.wrapping_add((v8.wrapping_add(v4)).wrapping_sub(v5));
   'again_10: loop {
-  store8(v8, (load8(p1) as u32) as u8);
+  store8(v8, (load8(p0) as u32) as u8);
   v8 = v8.wrapping_add(1);
-  p1 = p1.wrapping_add(1);
+  p0 = p0.wrapping_add(1);
   v11 = v11.wrapping_add(0xffffffffffffffff);
   if v11 != 0 {
     continue 'again_10;
@@ -20011,40 +20030,27 @@ unsafe fn sec1_der_back_writer_BackWriter_prepend_element(p0: u64, mut p1: u64, 
   break 'after_3;
   }
   }
-  if p2 == 0 {
+  if v5 == 0 {
     break 'after_3;
   }
-  move_(v7, p1, p2);
+  move_(v7, p0, v5);
   }
-  p1 = v6.wrapping_add(0xffffffffffffffff);
-  store8(load64(p0).wrapping_add(p1), 0);
+  p0 = v6.wrapping_add(0xffffffffffffffff);
+  store8(load64(p1).wrapping_add(p0), 0);
   'after_12: {
   'after_11: {
-  v8 = v5.wrapping_sub(p1);
+  v8 = v4.wrapping_sub(p0);
   if v8 > 127 {
     break 'after_11;
   }
-  p1 = v6.wrapping_add(0xfffffffffffffffd);
-  store16(load64(p0).wrapping_add(p1), (((v8 as u32) << 8) | 3) as u16);
+  p0 = v6.wrapping_add(0xfffffffffffffffd);
+  store16(load64(p1).wrapping_add(p0), (((v8 as u32) << 8) | 3) as u16);
   break 'after_12;
   }
-  let t0 = sec1_der_back_writer_prepend_long_header(load64(p0), p1, 3, v8);
-  p1 = t0;
+  let t0 = sec1_der_back_writer_prepend_long_header(load64(p1), p0, 3, v8);
+  p0 = t0;
   }
-  'after_14: {
-  'after_13: {
-  v8 = v5.wrapping_sub(p1);
-  if v8 > 127 {
-    break 'after_13;
-  }
-  p1 = p1.wrapping_add(0xfffffffffffffffe);
-  store16(load64(p0).wrapping_add(p1), (((v8 as u32) << 8) | 161) as u16);
-  break 'after_14;
-  }
-  let t1 = sec1_der_back_writer_prepend_long_header(load64(p0), p1, 161, v8);
-  p1 = t1;
-  }
-  store64(p0.wrapping_add(16), p1);
+  store64(p1.wrapping_add(16), p0);
   return;
 }
 
@@ -20131,8 +20137,8 @@ unsafe fn sec1_der_back_writer_prepend_long_header(p0: u64, p1: u64, p2: u32, mu
   return p3;
 }
 
-// sec1_der::back_writer::BackWriter::prepend_element::<#f70a924d5919e516>
-unsafe fn sec1_der_back_writer_BackWriter_prepend_element_2(p0: u64, mut p1: u64, mut p2: u64) {
+// sec1_der::explicit::ExplicitEncodeValue::prepend_value::<#20ed327930499a52>
+unsafe fn sec1_der_explicit_ExplicitEncodeValue_prepend_value(mut p0: u64, p1: u64, p2: u64) {
   let mut v4 = 0u64;
   let mut v5 = 0u64;
   let mut v6 = 0u64;
@@ -20145,9 +20151,9 @@ unsafe fn sec1_der_back_writer_BackWriter_prepend_element_2(p0: u64, mut p1: u64
   let mut v13 = 0u64;
   let mut v14 = 0u64;
   let mut v15 = 0u64;
-  v4 = load64(p0);
-  v5 = load64(p0.wrapping_add(16));
-  v6 = v5.wrapping_sub(p2);
+  v4 = load64(p2);
+  v5 = load64(p2.wrapping_add(16));
+  v6 = v5.wrapping_sub(p1);
   v7 = v4.wrapping_add(v6);
   'after_13: {
   'after_12: {
@@ -20155,43 +20161,43 @@ unsafe fn sec1_der_back_writer_BackWriter_prepend_element_2(p0: u64, mut p1: u64
   'after_5: {
   'after_4: {
   'after_1: {
-  if p2 < 33 {
+  if p1 < 33 {
     break 'after_1;
   }
-  v8 = p1.wrapping_add(p2);
+  v8 = p0.wrapping_add(p1);
   'after_2: {
-  if p2 > 64 {
+  if p1 > 64 {
     break 'after_2;
   }
-  v9 = load64(p1);
-  v10 = load64(p1.wrapping_add(8));
-  v11 = load64(p1.wrapping_add(16));
-  store64(v7.wrapping_add(24), load64(p1.wrapping_add(24)));
+  v9 = load64(p0);
+  v10 = load64(p0.wrapping_add(8));
+  v11 = load64(p0.wrapping_add(16));
+  store64(v7.wrapping_add(24), load64(p0.wrapping_add(24)));
   store64(v7.wrapping_add(16), v11);
   store64(v7.wrapping_add(8), v10);
   store64(v7, v9);
-  p1 = v8.wrapping_add(0xffffffffffffffe0);
-  v9 = load64(p1);
-  v10 = load64(p1.wrapping_add(8));
-  v7 = load64(p1.wrapping_add(16));
+  p0 = v8.wrapping_add(0xffffffffffffffe0);
+  v9 = load64(p0);
+  v10 = load64(p0.wrapping_add(8));
+  v7 = load64(p0.wrapping_add(16));
   v8 = (v4.wrapping_add(v5)).wrapping_add(0xffffffffffffffe0);
-  store64(v8.wrapping_add(24), load64(p1.wrapping_add(24)));
+  store64(v8.wrapping_add(24), load64(p0.wrapping_add(24)));
   store64(v8.wrapping_add(16), v7);
   store64(v8.wrapping_add(8), v10);
   store64(v8, v9);
   break 'after_3;
   }
-  if p2 > 128 {
+  if p1 > 128 {
     break 'after_4;
   }
-  v9 = load64(p1);
-  v10 = load64(p1.wrapping_add(8));
-  v11 = load64(p1.wrapping_add(16));
-  v12 = load64(p1.wrapping_add(24));
-  v13 = load64(p1.wrapping_add(32));
-  v14 = load64(p1.wrapping_add(40));
-  v15 = load64(p1.wrapping_add(48));
-  store64(v7.wrapping_add(56), load64(p1.wrapping_add(56)));
+  v9 = load64(p0);
+  v10 = load64(p0.wrapping_add(8));
+  v11 = load64(p0.wrapping_add(16));
+  v12 = load64(p0.wrapping_add(24));
+  v13 = load64(p0.wrapping_add(32));
+  v14 = load64(p0.wrapping_add(40));
+  v15 = load64(p0.wrapping_add(48));
+  store64(v7.wrapping_add(56), load64(p0.wrapping_add(56)));
   store64(v7.wrapping_add(48), v15);
   store64(v7.wrapping_add(40), v14);
   store64(v7.wrapping_add(32), v13);
@@ -20199,16 +20205,16 @@ unsafe fn sec1_der_back_writer_BackWriter_prepend_element_2(p0: u64, mut p1: u64
   store64(v7.wrapping_add(16), v11);
   store64(v7.wrapping_add(8), v10);
   store64(v7, v9);
-  p1 = v8.wrapping_add(0xffffffffffffffc0);
-  v9 = load64(p1);
-  v10 = load64(p1.wrapping_add(8));
-  v7 = load64(p1.wrapping_add(16));
-  v11 = load64(p1.wrapping_add(24));
-  v12 = load64(p1.wrapping_add(32));
-  v13 = load64(p1.wrapping_add(40));
-  v14 = load64(p1.wrapping_add(48));
+  p0 = v8.wrapping_add(0xffffffffffffffc0);
+  v9 = load64(p0);
+  v10 = load64(p0.wrapping_add(8));
+  v7 = load64(p0.wrapping_add(16));
+  v11 = load64(p0.wrapping_add(24));
+  v12 = load64(p0.wrapping_add(32));
+  v13 = load64(p0.wrapping_add(40));
+  v14 = load64(p0.wrapping_add(48));
   v8 = (v4.wrapping_add(v5)).wrapping_add(0xffffffffffffffc0);
-  store64(v8.wrapping_add(56), load64(p1.wrapping_add(56)));
+  store64(v8.wrapping_add(56), load64(p0.wrapping_add(56)));
   store64(v8.wrapping_add(48), v14);
   store64(v8.wrapping_add(40), v13);
   store64(v8.wrapping_add(32), v12);
@@ -20218,53 +20224,53 @@ unsafe fn sec1_der_back_writer_BackWriter_prepend_element_2(p0: u64, mut p1: u64
   store64(v8, v9);
   break 'after_5;
   }
-  v8 = p1.wrapping_add(p2);
+  v8 = p0.wrapping_add(p1);
   'after_6: {
-  if p2 < 16 {
+  if p1 < 16 {
     break 'after_6;
   }
-  v9 = load64(p1);
-  store64(v7.wrapping_add(8), load64(p1.wrapping_add(8)));
+  v9 = load64(p0);
+  store64(v7.wrapping_add(8), load64(p0.wrapping_add(8)));
   store64(v7, v9);
-  p1 = v8.wrapping_add(0xfffffffffffffff0);
-  v8 = load64(p1);
+  p0 = v8.wrapping_add(0xfffffffffffffff0);
+  v8 = load64(p0);
   v9 = (v4.wrapping_add(v5)).wrapping_add(0xfffffffffffffff0);
-  store64(v9.wrapping_add(8), load64(p1.wrapping_add(8)));
+  store64(v9.wrapping_add(8), load64(p0.wrapping_add(8)));
   store64(v9, v8);
   break 'after_3;
   }
   'after_7: {
-  if p2 < 8 {
+  if p1 < 8 {
     break 'after_7;
   }
-  store64(v7, load64(p1));
+  store64(v7, load64(p0));
   store64((v4.wrapping_add(v5)).wrapping_add(0xfffffffffffffff8),
       load64(v8.wrapping_add(0xfffffffffffffff8)));
   break 'after_3;
   }
-  if p2 < 4 {
+  if p1 < 4 {
     break 'after_4;
   }
-  store32(v7, load32(p1));
+  store32(v7, load32(p0));
   store32((v4.wrapping_add(v5)).wrapping_add(0xfffffffffffffffc),
       load32(v8.wrapping_add(0xfffffffffffffffc)));
   break 'after_3;
   }
   'after_8: {
-  if (v7.wrapping_sub(p1)) >= p2 {
+  if (v7.wrapping_sub(p0)) >= p1 {
     break 'after_8;
   }
-  v11 = p2 & 3;
+  v11 = p1 & 3;
   v8 = 0;
   'after_9: {
-  if p2 < 4 {
+  if p1 < 4 {
     break 'after_9;
   }
-  v12 = p2 & 0xfffffffffffffffc;
+  v12 = p1 & 0xfffffffffffffffc;
   v8 = 0;
   'again_10: loop {
   v9 = v7.wrapping_add(v8);
-  v10 = p1.wrapping_add(v8);
+  v10 = p0.wrapping_add(v8);
   store8(v9, (load8(v10) as u32) as u8);
   store8(v9.wrapping_add(1), (load8(v10.wrapping_add(1)) as u32) as u8);
   store8(v9.wrapping_add(2), (load8(v10.wrapping_add(2)) as u32) as u8);
@@ -20279,12 +20285,12 @@ unsafe fn sec1_der_back_writer_BackWriter_prepend_element_2(p0: u64, mut p1: u64
     break 'after_5;
   }
   }
-  p1 = p1.wrapping_add(v8);
-  v8 = v4.wrapping_add((v8.wrapping_add(v5)).wrapping_sub(p2));
+  p0 = p0.wrapping_add(v8);
+  v8 = v4.wrapping_add((v8.wrapping_add(v5)).wrapping_sub(p1));
   'again_11: loop {
-  store8(v8, (load8(p1) as u32) as u8);
+  store8(v8, (load8(p0) as u32) as u8);
   v8 = v8.wrapping_add(1);
-  p1 = p1.wrapping_add(1);
+  p0 = p0.wrapping_add(1);
   v11 = v11.wrapping_add(0xffffffffffffffff);
   if v11 != 0 {
     continue 'again_11;
@@ -20292,36 +20298,23 @@ unsafe fn sec1_der_back_writer_BackWriter_prepend_element_2(p0: u64, mut p1: u64
   break 'after_5;
   }
   }
-  if p2 == 0 {
+  if p1 == 0 {
     break 'after_5;
   }
-  move_(v7, p1, p2);
+  move_(v7, p0, p1);
   }
-  if p2 > 127 {
+  if p1 > 127 {
     break 'after_12;
   }
   }
-  p1 = v6.wrapping_add(0xfffffffffffffffe);
-  store16(load64(p0).wrapping_add(p1), (((p2 as u32) << 8) | 6) as u16);
+  p0 = v6.wrapping_add(0xfffffffffffffffe);
+  store16(load64(p2).wrapping_add(p0), (((p1 as u32) << 8) | 6) as u16);
   break 'after_13;
   }
-  let t0 = sec1_der_back_writer_prepend_long_header(load64(p0), v6, 6, p2);
-  p1 = t0;
+  let t0 = sec1_der_back_writer_prepend_long_header(load64(p2), v6, 6, p1);
+  p0 = t0;
   }
-  'after_15: {
-  'after_14: {
-  p2 = v5.wrapping_sub(p1);
-  if p2 > 127 {
-    break 'after_14;
-  }
-  p1 = p1.wrapping_add(0xfffffffffffffffe);
-  store16(load64(p0).wrapping_add(p1), (((p2 as u32) << 8) | 160) as u16);
-  break 'after_15;
-  }
-  let t1 = sec1_der_back_writer_prepend_long_header(load64(p0), p1, 160, p2);
-  p1 = t1;
-  }
-  store64(p0.wrapping_add(16), p1);
+  store64(p2.wrapping_add(16), p0);
   return;
 }
 
@@ -38647,19 +38640,17 @@ unsafe fn pkix_algorithm_AlgorithmIdentifierEncodePart_prepend_part(mut p0: u64,
   return;
 }
 
-// sec1_der::value::element_header::<#1aa56edede66dd4d>
-unsafe fn sec1_der_value_element_header_3(p0: u64, mut p1: u64) {
+// sec1_der::required::RequiredEncodePart::part_len::<#4a2b62df43707a59>
+unsafe fn sec1_der_required_RequiredEncodePart_part_len(p0: u64, mut p1: u64) {
   let mut v2 = 0u64;
   let mut v3 = 0u64;
   let mut v4 = 0u32;
   let mut v5 = 0u32;
-  let mut v6 = 0u64;
-  let mut v7 = 0u64;
+  let mut v6 = 0u32;
+  let mut v7 = 0u32;
   let mut v8 = 0u32;
   let mut v9 = 0u64;
   let mut v10 = 0u64;
-  let mut v11 = 0u32;
-  let mut v12 = 0u32;
   v2 = 0;
   v3 = 0;
   'after_1: {
@@ -38670,534 +38661,247 @@ unsafe fn sec1_der_value_element_header_3(p0: u64, mut p1: u64) {
   v3 = load64(p1.wrapping_add(32));
   }
   'after_2: {
-  v5 = load8(p1.wrapping_add(80)) as u32;
+  v5 = load8(p1.wrapping_add(40)) as u32;
   if v5 != 1 {
     break 'after_2;
   }
-  v2 = load64(p1.wrapping_add(96));
+  v2 = load64(p1.wrapping_add(56));
   }
-  v6 = load64(p1.wrapping_add(8));
-  v7 = 0;
+  v6 = 1;
+  v7 = 5;
+  v8 = 0;
   'after_3: {
-  v8 = load8(p1.wrapping_add(104)) as u32;
-  if v8 != 1 {
+  p1 = load64(p1.wrapping_add(8));
+  if p1 > 0xfffffff {
     break 'after_3;
   }
-  v7 = load64(p1.wrapping_add(120));
-  }
-  'after_4: {
-  if v6 == 0 {
-    break 'after_4;
-  }
-  v9 = load64(p1);
-  v3 = if v4 != 1 { 0u64 } else { v3 };
-  v10 = load64(p1.wrapping_add(72));
-  p1 = 0;
-  v11 = 1;
-  'again_6: loop {
-  v12 = (load8(v9.wrapping_add(p1)) as u32) as i8 as i32 as u32;
   'after_5: {
-  if (v11 & 1) == 0 {
-    break 'after_5;
-  }
-  if v12 == 0xffffff80 {
-    break 'after_4;
-  }
-  }
-  v11 = u32::from((v12 as i32) > (0xffffffffu32 as i32));
-  p1 = p1.wrapping_add(1);
-  if v6 != p1 {
-    continue 'again_6;
-  }
-  break;
-  }
-  if v6 > 0xfffffff {
-    break 'after_4;
-  }
-  if (v12 as i32) < (0u32 as i32) {
-    break 'after_4;
-  }
-  'after_8: {
-  'after_7: {
-  if v6 >= 128 {
-    break 'after_7;
-  }
-  p1 = 2;
-  break 'after_8;
-  }
-  'after_9: {
-  if v6 >= 256 {
-    break 'after_9;
-  }
-  p1 = 3;
-  break 'after_8;
-  }
-  'after_10: {
-  if v6 >= 0x10000 {
-    break 'after_10;
-  }
-  p1 = 4;
-  break 'after_8;
-  }
-  p1 = if v6 < 0x1000000 { 5u64 } else { 6u64 };
-  }
-  p1 = p1.wrapping_add(v6);
-  if p1 > 0xfffffff {
-    break 'after_4;
-  }
-  'after_11: {
-  v12 = u32::from(v4 != 1);
-  if v12 != 0 {
-    break 'after_11;
-  }
-  if v3 > 0xfffffff {
-    break 'after_4;
-  }
-  }
-  let t0 = p1.wrapping_add(if v12 != 0 { 0u64 } else { if v3 < 0x10000000 { v3 & 0xffffffff }
-      else { 0u64 } });
-  p1 = t0;
-  if p1 > 0xfffffff {
-    break 'after_4;
-  }
-  'after_13: {
-  'after_12: {
+  'after_4: {
   if p1 >= 128 {
-    break 'after_12;
-  }
-  v6 = 2;
-  break 'after_13;
-  }
-  'after_14: {
-  if p1 >= 256 {
-    break 'after_14;
-  }
-  v6 = 3;
-  break 'after_13;
-  }
-  'after_15: {
-  if p1 >= 0x10000 {
-    break 'after_15;
-  }
-  v6 = 4;
-  break 'after_13;
-  }
-  v6 = if p1 < 0x1000000 { 5u64 } else { 6u64 };
-  }
-  p1 = v6.wrapping_add(p1);
-  if p1 > 0xfffffff {
     break 'after_4;
-  }
-  if v10 > 0xfffffff {
-    break 'after_4;
-  }
-  'after_17: {
-  'after_16: {
-  if v10 >= 128 {
-    break 'after_16;
-  }
-  v6 = 2;
-  break 'after_17;
-  }
-  'after_18: {
-  if v10 >= 256 {
-    break 'after_18;
-  }
-  v6 = 3;
-  break 'after_17;
-  }
-  'after_19: {
-  if v10 >= 0x10000 {
-    break 'after_19;
-  }
-  v6 = 4;
-  break 'after_17;
-  }
-  v6 = if v10 < 0x1000000 { 5u64 } else { 6u64 };
-  }
-  v6 = v6.wrapping_add(v10);
-  if v6 > 0xfffffff {
-    break 'after_4;
-  }
-  v3 = 0;
-  v9 = 0;
-  'after_20: {
-  if v5 != 1 {
-    break 'after_20;
-  }
-  if v2 > 0xfffffff {
-    break 'after_4;
-  }
-  'after_22: {
-  'after_21: {
-  if v2 >= 128 {
-    break 'after_21;
   }
   v9 = 2;
-  break 'after_22;
+  break 'after_5;
   }
-  'after_23: {
-  if v2 >= 256 {
-    break 'after_23;
+  'after_6: {
+  if p1 >= 256 {
+    break 'after_6;
   }
   v9 = 3;
-  break 'after_22;
+  break 'after_5;
   }
-  'after_24: {
-  if v2 >= 0x10000 {
-    break 'after_24;
+  'after_7: {
+  if p1 >= 0x10000 {
+    break 'after_7;
   }
   v9 = 4;
-  break 'after_22;
+  break 'after_5;
   }
-  v9 = if v2 < 0x1000000 { 5u64 } else { 6u64 };
+  v9 = if p1 < 0x1000000 { 5u64 } else { 6u64 };
   }
-  v9 = v9.wrapping_add(v2);
+  p1 = v9.wrapping_add(p1);
+  if p1 > 0xfffffff {
+    break 'after_3;
+  }
+  v6 = 1;
+  v10 = 0;
+  v9 = 0;
+  'after_8: {
+  if v4 != 1 {
+    break 'after_8;
+  }
+  if v3 > 0xfffffff {
+    break 'after_3;
+  }
+  'after_10: {
+  'after_9: {
+  if v3 >= 128 {
+    break 'after_9;
+  }
+  v9 = 2;
+  break 'after_10;
+  }
+  'after_11: {
+  if v3 >= 256 {
+    break 'after_11;
+  }
+  v9 = 3;
+  break 'after_10;
+  }
+  'after_12: {
+  if v3 >= 0x10000 {
+    break 'after_12;
+  }
+  v9 = 4;
+  break 'after_10;
+  }
+  v9 = if v3 < 0x1000000 { 5u64 } else { 6u64 };
+  }
+  v3 = v9.wrapping_add(v3);
+  if v3 > 0xfffffff {
+    break 'after_3;
+  }
+  'after_14: {
+  'after_13: {
+  if v3 >= 128 {
+    break 'after_13;
+  }
+  v9 = 2;
+  break 'after_14;
+  }
+  'after_15: {
+  if v3 >= 256 {
+    break 'after_15;
+  }
+  v9 = 3;
+  break 'after_14;
+  }
+  'after_16: {
+  if v3 >= 0x10000 {
+    break 'after_16;
+  }
+  v9 = 4;
+  break 'after_14;
+  }
+  v9 = if v3 < 0x1000000 { 5u64 } else { 6u64 };
+  }
+  v9 = v9.wrapping_add(v3);
   if v9 > 0xfffffff {
-    break 'after_4;
+    break 'after_3;
   }
-  'after_26: {
-  'after_25: {
-  if v9 >= 128 {
-    break 'after_25;
+  }
+  'after_17: {
+  if v5 != 1 {
+    break 'after_17;
+  }
+  v6 = 1;
+  if v2 > 0xffffffe {
+    break 'after_3;
+  }
+  v3 = v2.wrapping_add(1);
+  'after_19: {
+  'after_18: {
+  if v2 >= 127 {
+    break 'after_18;
   }
   v2 = 2;
-  break 'after_26;
+  break 'after_19;
   }
-  'after_27: {
-  if v9 >= 256 {
-    break 'after_27;
-  }
-  v2 = 3;
-  break 'after_26;
-  }
-  'after_28: {
-  if v9 >= 0x10000 {
-    break 'after_28;
-  }
-  v2 = 4;
-  break 'after_26;
-  }
-  v2 = if v9 < 0x1000000 { 5u64 } else { 6u64 };
-  }
-  v9 = v2.wrapping_add(v9);
-  if v9 > 0xfffffff {
-    break 'after_4;
-  }
-  }
-  'after_29: {
-  if v8 != 1 {
-    break 'after_29;
-  }
-  if v7 > 0xffffffe {
-    break 'after_4;
-  }
-  v3 = v7.wrapping_add(1);
-  'after_31: {
-  'after_30: {
-  if v7 >= 127 {
-    break 'after_30;
-  }
-  v2 = 2;
-  break 'after_31;
-  }
-  'after_32: {
-  if v7 >= 255 {
-    break 'after_32;
+  'after_20: {
+  if v2 >= 255 {
+    break 'after_20;
   }
   v2 = 3;
-  break 'after_31;
+  break 'after_19;
   }
-  'after_33: {
-  if v7 >= 65535 {
-    break 'after_33;
+  'after_21: {
+  if v2 >= 65535 {
+    break 'after_21;
   }
   v2 = 4;
-  break 'after_31;
+  break 'after_19;
   }
-  v2 = if v7 < 0xffffff { 5u64 } else { 6u64 };
+  v2 = if v2 < 0xffffff { 5u64 } else { 6u64 };
   }
   v3 = v3.wrapping_add(v2);
   if v3 > 0xfffffff {
-    break 'after_4;
+    break 'after_3;
   }
-  'after_35: {
-  'after_34: {
+  'after_23: {
+  'after_22: {
   if v3 >= 128 {
-    break 'after_34;
+    break 'after_22;
   }
   v2 = 2;
-  break 'after_35;
+  break 'after_23;
   }
-  'after_36: {
+  'after_24: {
   if v3 >= 256 {
-    break 'after_36;
+    break 'after_24;
   }
   v2 = 3;
-  break 'after_35;
+  break 'after_23;
   }
-  'after_37: {
+  'after_25: {
   if v3 >= 0x10000 {
-    break 'after_37;
+    break 'after_25;
   }
   v2 = 4;
-  break 'after_35;
+  break 'after_23;
   }
   v2 = if v3 < 0x1000000 { 5u64 } else { 6u64 };
   }
-  v3 = v2.wrapping_add(v3);
-  if v3 > 0xfffffff {
-    break 'after_4;
-  }
-  }
-  v9 = v3.wrapping_add(v9);
-  if v9 > 0xfffffff {
-    break 'after_4;
-  }
-  v6 = v9.wrapping_add(v6);
-  if v6 > 0xffffffc {
-    break 'after_4;
-  }
-  v9 = 3;
-  v3 = v6.wrapping_add(3);
-  'after_39: {
-  'after_38: {
-  if v6 >= 125 {
-    break 'after_38;
-  }
-  v9 = 2;
-  break 'after_39;
-  }
-  if v6 < 253 {
-    break 'after_39;
-  }
-  'after_40: {
-  if v6 >= 65533 {
-    break 'after_40;
-  }
-  v9 = 4;
-  break 'after_39;
-  }
-  v9 = if v6 < 0xfffffd { 5u64 } else { 6u64 };
-  }
-  v6 = v3.wrapping_add(v9);
-  if v6 > 0xfffffff {
-    break 'after_4;
-  }
-  'after_42: {
-  'after_41: {
-  if v6 >= 128 {
-    break 'after_41;
-  }
-  v9 = 2;
-  break 'after_42;
-  }
-  'after_43: {
-  if v6 >= 256 {
-    break 'after_43;
-  }
-  v9 = 3;
-  break 'after_42;
-  }
-  'after_44: {
-  if v6 >= 0x10000 {
-    break 'after_44;
-  }
-  v9 = 4;
-  break 'after_42;
-  }
-  v9 = if v6 < 0x1000000 { 5u64 } else { 6u64 };
-  }
-  v6 = v9.wrapping_add(v6);
-  if v6 > 0xfffffff {
-    break 'after_4;
-  }
-  p1 = v6.wrapping_add(p1);
-  if p1 > 0xffffffc {
-    break 'after_4;
-  }
-  store16(p0, 0);
-  store64(p0.wrapping_add(4), (p1 << 32).wrapping_add(0x300000030));
-  return;
-  }
-  store16(p0, 1281);
-  store64(p0.wrapping_add(4), 0);
-  return;
-}
-
-// sec1_der::value::element_header::<#1deaba2dde898d37>
-unsafe fn sec1_der_value_element_header_2(p0: u64, mut p1: u64) {
-  let mut v2 = 0u32;
-  let mut v3 = 0u64;
-  let mut v4 = 0u64;
-  let mut v5 = 0u32;
-  let mut v6 = 0u32;
-  let mut v7 = 0u32;
-  let mut v8 = 0u64;
-  let mut v9 = 0u64;
-  let mut v10 = 0u64;
-  let mut v11 = 0u32;
-  v2 = 1;
-  v3 = 0;
-  v4 = 0;
-  'after_1: {
-  v5 = load8(p1.wrapping_add(16)) as u32;
-  v6 = u32::from(v5 != 1);
-  if v6 != 0 {
-    break 'after_1;
-  }
-  v4 = load64(p1.wrapping_add(32));
-  }
-  v7 = 5;
-  'after_2: {
-  v8 = load64(p1.wrapping_add(8));
-  if v8 == 0 {
-    break 'after_2;
-  }
-  v9 = if v6 != 0 { 0u64 } else { v4 };
-  v10 = load64(p1.wrapping_add(80));
-  v4 = load64(p1);
-  v3 = 0;
-  v2 = 1;
-  v11 = 1;
-  p1 = 0;
-  'again_4: loop {
-  v6 = (load8(v4.wrapping_add(p1)) as u32) as i8 as i32 as u32;
-  'after_3: {
-  if (v11 & 1) == 0 {
+  v10 = v2.wrapping_add(v3);
+  if v10 > 0xfffffff {
     break 'after_3;
   }
-  if v6 == 0xffffff80 {
-    break 'after_2;
   }
+  v6 = 1;
+  v3 = v10.wrapping_add(v9);
+  if v3 > 0xfffffff {
+    break 'after_3;
   }
-  v11 = u32::from((v6 as i32) > (0xffffffffu32 as i32));
-  p1 = p1.wrapping_add(1);
-  if v8 != p1 {
-    continue 'again_4;
+  p1 = v3.wrapping_add(p1);
+  if p1 > 0xffffffc {
+    break 'after_3;
   }
-  break;
+  v3 = 3;
+  v2 = p1.wrapping_add(3);
+  'after_27: {
+  'after_26: {
+  if p1 >= 125 {
+    break 'after_26;
   }
-  if v8 > 0xfffffff {
-    break 'after_2;
+  v3 = 2;
+  break 'after_27;
   }
-  if (v6 as i32) < (0u32 as i32) {
-    break 'after_2;
+  if p1 < 253 {
+    break 'after_27;
   }
-  'after_6: {
-  'after_5: {
-  if v8 >= 128 {
-    break 'after_5;
+  'after_28: {
+  if p1 >= 65533 {
+    break 'after_28;
   }
-  p1 = 2;
-  break 'after_6;
+  v3 = 4;
+  break 'after_27;
   }
-  'after_7: {
-  if v8 >= 256 {
-    break 'after_7;
+  v3 = if p1 < 0xfffffd { 5u64 } else { 6u64 };
   }
-  p1 = 3;
-  break 'after_6;
-  }
-  'after_8: {
-  if v8 >= 0x10000 {
-    break 'after_8;
-  }
-  p1 = 4;
-  break 'after_6;
-  }
-  p1 = if v8 < 0x1000000 { 5u64 } else { 6u64 };
-  }
-  p1 = p1.wrapping_add(v8);
+  p1 = v2.wrapping_add(v3);
   if p1 > 0xfffffff {
-    break 'after_2;
+    break 'after_3;
   }
-  v2 = 1;
-  'after_9: {
-  if v5 != 1 {
-    break 'after_9;
-  }
-  if v9 > 0xfffffff {
-    break 'after_2;
-  }
-  }
-  v3 = 0;
-  v2 = 1;
-  let t0 = if v5 != 1 { 0u64 } else { if v9 < 0x10000000 { v9 & 0xffffffff } else { 0u64 } };
-  p1 = p1.wrapping_add(t0);
-  if p1 > 0xfffffff {
-    break 'after_2;
-  }
-  'after_11: {
-  'after_10: {
+  'after_30: {
+  'after_29: {
   if p1 >= 128 {
-    break 'after_10;
+    break 'after_29;
   }
-  v8 = 2;
-  break 'after_11;
+  v3 = 2;
+  break 'after_30;
   }
-  'after_12: {
+  'after_31: {
   if p1 >= 256 {
-    break 'after_12;
+    break 'after_31;
   }
-  v8 = 3;
-  break 'after_11;
+  v3 = 3;
+  break 'after_30;
   }
-  'after_13: {
+  'after_32: {
   if p1 >= 0x10000 {
-    break 'after_13;
+    break 'after_32;
   }
-  v8 = 4;
-  break 'after_11;
+  v3 = 4;
+  break 'after_30;
   }
-  v8 = if p1 < 0x1000000 { 5u64 } else { 6u64 };
+  v3 = if p1 < 0x1000000 { 5u64 } else { 6u64 };
   }
-  v8 = v8.wrapping_add(p1);
-  if v8 > 0xfffffff {
-    break 'after_2;
+  p1 = v3.wrapping_add(p1);
+  v6 = u32::from(p1 > 0xfffffff);
+  v8 = if v6 != 0 { 0u32 } else { p1 as u32 };
+  v7 = if v6 != 0 { 5u32 } else { 0u32 };
   }
-  p1 = v10.wrapping_add(1);
-  if p1 > 0xfffffff {
-    break 'after_2;
-  }
-  'after_15: {
-  'after_14: {
-  if p1 >= 128 {
-    break 'after_14;
-  }
-  v4 = 2;
-  break 'after_15;
-  }
-  'after_16: {
-  if p1 >= 256 {
-    break 'after_16;
-  }
-  v4 = 3;
-  break 'after_15;
-  }
-  'after_17: {
-  if p1 >= 0x10000 {
-    break 'after_17;
-  }
-  v4 = 4;
-  break 'after_15;
-  }
-  v4 = if p1 < 0x1000000 { 5u64 } else { 6u64 };
-  }
-  p1 = v4.wrapping_add(p1);
-  if p1 > 0xfffffff {
-    break 'after_2;
-  }
-  p1 = p1.wrapping_add(v8);
-  if p1 > 0xfffffff {
-    break 'after_2;
-  }
-  v3 = (p1 << 32) | 48;
-  v2 = 0;
-  v7 = 0;
-  }
-  store8(p0, v2 as u8);
-  store64(p0.wrapping_add(4), v3);
+  store8(p0, v6 as u8);
+  store32(p0.wrapping_add(4), v8);
   store8(p0.wrapping_add(1), v7 as u8);
   return;
 }
@@ -40772,7 +40476,7 @@ unsafe fn export_sec1_certificate_read_public_key(mut bytes: u64, bytes_len: u64
   }
   v8 = load8(frame.wrapping_add(1)) as u32;
   }
-  v4 = load32(constant(48608).wrapping_add(((v8 as u64) & 255) << 2));
+  v4 = load32(constant(48296).wrapping_add(((v8 as u64) & 255) << 2));
   break 'after_3;
   }
   'after_104: {
@@ -41169,7 +40873,7 @@ unsafe fn export_sec1_curve_field_len(content: u64, content_len: u64, field_len:
     break 'after_1;
   }
   store64(field_len,
-      load64(constant(48336).wrapping_add(((load8(frame.wrapping_add(9)) as u64) & 255) << 3)));
+      load64(constant(48344).wrapping_add(((load8(frame.wrapping_add(9)) as u64) & 255) << 3)));
   v4 = 0;
   }
   return v4;
@@ -41324,7 +41028,7 @@ unsafe fn export_sec1_element_read(mut bytes: u64, bytes_len: u64, header_len: u
   v5 = 0;
   break 'after_2;
   }
-  v5 = load32(constant(48608).wrapping_add((load8(frame.wrapping_add(9)) as u64) << 2));
+  v5 = load32(constant(48296).wrapping_add((load8(frame.wrapping_add(9)) as u64) << 2));
   }
   return v5;
 }
@@ -41972,7 +41676,7 @@ unsafe fn export_sec1_private_key_info_read(mut bytes: u64, mut bytes_len: u64, 
   }
   v14 = load8(frame.wrapping_add(17)) as u32;
   }
-  v14 = load32(constant(48608).wrapping_add(((v14 as u64) & 255) << 2));
+  v14 = load32(constant(48296).wrapping_add(((v14 as u64) & 255) << 2));
   }
   return v14;
   }
@@ -42145,7 +41849,7 @@ unsafe fn export_sec1_signature_read(mut bytes: u64, bytes_len: u64, parts: u64)
   }
   trap();
   }
-  v4 = load32(constant(48608).wrapping_add(((v4 as u64) & 255) << 2));
+  v4 = load32(constant(48296).wrapping_add(((v4 as u64) & 255) << 2));
   }
   return v4;
 }
@@ -42622,7 +42326,7 @@ unsafe fn export_sec1_private_key_read(mut bytes: u64, mut bytes_len: u64, parts
   }
   v15 = load8(frame.wrapping_add(17)) as u32;
   }
-  v15 = load32(constant(48608).wrapping_add(((v15 as u64) & 255) << 2));
+  v15 = load32(constant(48296).wrapping_add(((v15 as u64) & 255) << 2));
   break 'after_6;
   }
   let t4 = sec1_c_key_sec1_key_read(bytes, bytes_len, parts);
@@ -43205,7 +42909,7 @@ unsafe fn export_sec1_public_key_read(mut bytes: u64, bytes_len: u64, parts: u64
     break 'after_2;
   }
   v9 = load8(frame.wrapping_add(9)) as u64;
-  v8 = load64(constant(48336).wrapping_add((v9 & 255) << 3));
+  v8 = load64(constant(48344).wrapping_add((v9 & 255) << 3));
   bytes = 1;
   'after_8: {
   'after_7: {
@@ -43265,7 +42969,7 @@ unsafe fn export_sec1_public_key_read(mut bytes: u64, bytes_len: u64, parts: u64
   v4 = 0;
   break 'after_2;
   }
-  v4 = load32(constant(48608).wrapping_add((load8(frame.wrapping_add(17)) as u64) << 2));
+  v4 = load32(constant(48296).wrapping_add((load8(frame.wrapping_add(17)) as u64) << 2));
   }
   return v4;
 }
@@ -43638,44 +43342,50 @@ unsafe fn export_sec1_key_len(private_key: u64, private_key_len: u64, mut curve:
   store64(frame.wrapping_add(48), if v12 != 0 { public_key.wrapping_add(if public_key == 0 {
       4096u64 } else { 0u64 }) } else { 0u64 });
   store64(frame.wrapping_add(40), v12 as u64);
-  store32(frame.wrapping_add(72), 0);
+  store64(frame.wrapping_add(72), 0);
   store64(frame.wrapping_add(64), 0);
-  sec1_der_value_element_header(frame.wrapping_add(64), frame);
+  sec1_borrowed_key_BorrowedKey_encoded_len(frame.wrapping_add(64), frame);
   'after_14: {
   if (load8(frame.wrapping_add(64)) as u32) != 0 {
     break 'after_14;
   }
-  curve = load64(frame.wrapping_add(68));
-  v8 = curve >> 32;
-  'after_16: {
-  'after_15: {
-  if curve >= 0x8000000000 {
-    break 'after_15;
-  }
-  curve = 2;
-  break 'after_16;
-  }
-  'after_17: {
-  if curve >= 0x10000000000 {
-    break 'after_17;
-  }
-  curve = 3;
-  break 'after_16;
-  }
-  'after_18: {
-  if curve >= 0x1000000000000 {
-    break 'after_18;
-  }
-  curve = 4;
-  break 'after_16;
-  }
-  curve = if curve < 0x100000000000000 { 5u64 } else { 6u64 };
-  }
-  store64(len, curve.wrapping_add(v8));
+  store64(len, load64(frame.wrapping_add(72)));
   v12 = 0;
   break 'after_6;
   }
-  v12 = load32(constant(48608).wrapping_add((load8(frame.wrapping_add(65)) as u64) << 2));
+  v12 = 9;
+  'after_17: {
+  'after_16: {
+  'after_15: {
+  'after_18: {
+  match (load8(frame.wrapping_add(65)) as u64) as u32 {
+  4 => {
+    break 'after_15;
+  }
+  1 => {
+    break 'after_16;
+  }
+  3 => {
+    break 'after_17;
+  }
+  2 => {
+    break 'after_6;
+  }
+  _ => {
+    break 'after_18;
+  }
+  }
+  }
+  v12 = load32(constant(48296).wrapping_add((load8(frame.wrapping_add(66)) as u64) << 2));
+  break 'after_6;
+  }
+  v12 = 16;
+  break 'after_6;
+  }
+  v12 = 17;
+  break 'after_6;
+  }
+  v12 = 18;
   }
   return v12;
 }
@@ -43701,7 +43411,7 @@ unsafe fn export_sec1_certificate_fault_at(bytes: u64, mut bytes_len: u64, offse
   }
   bytes_len = load8(frame.wrapping_add(16)) as u64;
   store64(offset, load64(frame.wrapping_add(8)));
-  v4 = load32(constant(48608).wrapping_add(bytes_len << 2));
+  v4 = load32(constant(48296).wrapping_add(bytes_len << 2));
   }
   return v4;
 }
@@ -43727,7 +43437,7 @@ unsafe fn export_sec1_key_fault_at(bytes: u64, mut bytes_len: u64, offset: u64) 
   }
   bytes_len = load8(frame.wrapping_add(16)) as u64;
   store64(offset, load64(frame.wrapping_add(8)));
-  v4 = load32(constant(48608).wrapping_add(bytes_len << 2));
+  v4 = load32(constant(48296).wrapping_add(bytes_len << 2));
   }
   return v4;
 }
@@ -43755,7 +43465,7 @@ unsafe fn export_sec1_key_read_at(mut bytes: u64, mut bytes_len: u64, parts: u64
   }
   bytes_len = load8(frame.wrapping_add(16)) as u64;
   store64(fault_offset, load64(frame.wrapping_add(8)));
-  v5 = load32(constant(48608).wrapping_add(bytes_len << 2));
+  v5 = load32(constant(48296).wrapping_add(bytes_len << 2));
   }
   return v5;
 }
@@ -43781,7 +43491,7 @@ unsafe fn export_sec1_signature_fault_at(bytes: u64, mut bytes_len: u64, offset:
   }
   bytes_len = load8(frame.wrapping_add(16)) as u64;
   store64(offset, load64(frame.wrapping_add(8)));
-  v4 = load32(constant(48608).wrapping_add(bytes_len << 2));
+  v4 = load32(constant(48296).wrapping_add(bytes_len << 2));
   }
   return v4;
 }
@@ -43807,7 +43517,7 @@ unsafe fn export_sec1_tree_fault_at(bytes: u64, mut bytes_len: u64, offset: u64)
   }
   bytes_len = load8(frame.wrapping_add(16)) as u64;
   store64(offset, load64(frame.wrapping_add(8)));
-  v4 = load32(constant(48608).wrapping_add(bytes_len << 2));
+  v4 = load32(constant(48296).wrapping_add(bytes_len << 2));
   }
   return v4;
 }
@@ -43954,7 +43664,7 @@ unsafe fn export_sec1_private_key_info_fault_at(mut bytes: u64, mut bytes_len: u
   }
   bytes_len = load8(frame.wrapping_add(280)) as u64;
   store64(offset, load64(frame.wrapping_add(272)));
-  v4 = load32(constant(48608).wrapping_add(bytes_len << 2));
+  v4 = load32(constant(48296).wrapping_add(bytes_len << 2));
   }
   return v4;
 }
@@ -44240,7 +43950,7 @@ unsafe fn export_sec1_private_key_fault_at(mut bytes: u64, mut bytes_len: u64, o
   }
   bytes = load8(frame.wrapping_add(544)) as u64;
   store64(offset, (load64(frame.wrapping_add(536))).wrapping_add(bytes_len));
-  v4 = load32(constant(48608).wrapping_add(bytes << 2));
+  v4 = load32(constant(48296).wrapping_add(bytes << 2));
   break 'after_11;
   }
   let t4 = sec1_c_container_fault_tell_curve(bytes_len, frame.wrapping_add(128), offset);
@@ -44262,12 +43972,12 @@ unsafe fn export_sec1_private_key_fault_at(mut bytes: u64, mut bytes_len: u64, o
   }
   bytes_len = load8(frame.wrapping_add(280)) as u64;
   store64(offset, load64(frame.wrapping_add(272)));
-  v4 = load32(constant(48608).wrapping_add(bytes_len << 2));
+  v4 = load32(constant(48296).wrapping_add(bytes_len << 2));
   break 'after_11;
   }
   bytes_len = load8(frame.wrapping_add(280)) as u64;
   store64(offset, load64(frame.wrapping_add(272)));
-  v4 = load32(constant(48608).wrapping_add(bytes_len << 2));
+  v4 = load32(constant(48296).wrapping_add(bytes_len << 2));
   }
   return v4;
   }
@@ -44384,7 +44094,7 @@ unsafe fn export_sec1_public_key_fault_at(mut bytes: u64, mut bytes_len: u64, of
   if v4 == 0 {
     break 'after_11;
   }
-  bytes = load64(constant(48336).wrapping_add(((load8(frame.wrapping_add(9)) as u64) & 255) << 3));
+  bytes = load64(constant(48344).wrapping_add(((load8(frame.wrapping_add(9)) as u64) & 255) << 3));
   bytes_len = 1;
   v7 = load8(v8) as u32;
   match v7 {
@@ -44516,7 +44226,7 @@ unsafe fn export_sec1_public_key_fault_at(mut bytes: u64, mut bytes_len: u64, of
   }
   bytes_len = load8(frame.wrapping_add(128)) as u64;
   store64(offset, load64(frame.wrapping_add(120)));
-  v7 = load32(constant(48608).wrapping_add(bytes_len << 2));
+  v7 = load32(constant(48296).wrapping_add(bytes_len << 2));
   break 'after_26;
   }
   store64(offset, v5);
@@ -45438,7 +45148,7 @@ unsafe fn export_sec1_identifier_from_text(mut text: u64, mut text_len: u64, mut
   break 'after_1;
   }
   }
-  v6 = load32(constant(48608).wrapping_add(((v17 as u64) & 255) << 2));
+  v6 = load32(constant(48296).wrapping_add(((v17 as u64) & 255) << 2));
   }
   return v6;
 }
@@ -46320,10 +46030,10 @@ unsafe fn export_sec1_element_write(mut tag: u64, content: u64, content_len: u64
 }
 
 // rattle::export sec1_key_write
-unsafe fn export_sec1_key_write(private_key: u64, private_key_len: u64, mut curve: u64,
+unsafe fn export_sec1_key_write(mut private_key: u64, mut private_key_len: u64, mut curve: u64,
     mut curve_len: u64, mut public_key: u64, public_key_len: u64, has_public_key: u64, out: u64,
     out_len: u64, len: u64) -> u32 {
-  let mut array = Frame::<96>::new();
+  let mut array = Frame::<192>::new();
   let frame = address(&raw mut array);
   let mut v10 = 0u64;
   let mut v12 = 0u64;
@@ -46394,7 +46104,7 @@ unsafe fn export_sec1_key_write(private_key: u64, private_key_len: u64, mut curv
   if (curve_len.wrapping_add(0xffffffffffffffd8)) >= 0xffffffffffffffd9 {
     break 'after_4;
   }
-  v13 = 5;
+  v15 = 5;
   break 'after_6;
   }
   v10 = curve_len.wrapping_add(0xffffffffffffffff);
@@ -46418,7 +46128,7 @@ unsafe fn export_sec1_key_write(private_key: u64, private_key_len: u64, mut curv
   if v15 != 0xffffff80 {
     break 'after_9;
   }
-  v13 = 5;
+  v15 = 5;
   break 'after_6;
   }
   v13 = if v15 < 0xffffff90 { 1u32 } else { 2u32 };
@@ -46428,7 +46138,7 @@ unsafe fn export_sec1_key_write(private_key: u64, private_key_len: u64, mut curv
   if v16 <= 3 {
     break 'after_11;
   }
-  v13 = 5;
+  v15 = 5;
   break 'after_6;
   }
   v13 = v13.wrapping_add(1);
@@ -46436,7 +46146,7 @@ unsafe fn export_sec1_key_write(private_key: u64, private_key_len: u64, mut curv
   if v10 != 0 {
     break 'after_12;
   }
-  v13 = 5;
+  v15 = 5;
   break 'after_6;
   }
   v13 = 0;
@@ -46451,149 +46161,317 @@ unsafe fn export_sec1_key_write(private_key: u64, private_key_len: u64, mut curv
   }
   curve = v12;
   }
-  store64(frame.wrapping_add(40), curve_len);
   store64(frame.wrapping_add(32), curve);
   store64(frame.wrapping_add(24), v14);
-  store64(frame.wrapping_add(16), private_key_len);
-  v10 = private_key.wrapping_add(if private_key == 0 { 4096u64 } else { 0u64 });
-  store64(frame.wrapping_add(8), v10);
+  store64(frame.wrapping_add(8),
+      private_key.wrapping_add(if private_key == 0 { 4096u64 } else { 0u64 }));
   v15 = u32::from(has_public_key != 0);
   store64(frame.wrapping_add(64), if v15 != 0 { public_key_len } else { 0u64 });
-  v12 = public_key.wrapping_add(if public_key == 0 { 4096u64 } else { 0u64 });
-  store64(frame.wrapping_add(56), if v15 != 0 { v12 } else { 0u64 });
-  store64(frame.wrapping_add(48), v15 as u64);
-  store32(frame.wrapping_add(80), 0);
+  store64(frame.wrapping_add(56), if v15 != 0 { public_key.wrapping_add(if public_key == 0 {
+      4096u64 } else { 0u64 }) } else { 0u64 });
+  v10 = v15 as u64;
+  store64(frame.wrapping_add(48), v10);
+  store64(frame.wrapping_add(16), private_key_len);
+  store64(frame.wrapping_add(40), curve_len);
+  store64(frame.wrapping_add(80), 0);
   store64(frame.wrapping_add(72), 0);
-  sec1_der_value_element_header(frame.wrapping_add(72), frame.wrapping_add(8));
-  'after_19: {
+  v15 = 6;
   'after_14: {
-  if (load8(frame.wrapping_add(72)) as u32) != 0 {
+  if private_key_len > 0xfffffff {
     break 'after_14;
   }
-  v14 = load64(frame.wrapping_add(76));
-  public_key = v14 >> 32;
   'after_16: {
   'after_15: {
-  if v14 >= 0x8000000000 {
+  if private_key_len >= 128 {
     break 'after_15;
   }
-  v14 = 2;
+  v12 = 2;
   break 'after_16;
   }
   'after_17: {
-  if v14 >= 0x10000000000 {
+  if private_key_len >= 256 {
     break 'after_17;
   }
-  v14 = 3;
+  v12 = 3;
   break 'after_16;
   }
   'after_18: {
-  if v14 >= 0x1000000000000 {
+  if private_key_len >= 0x10000 {
     break 'after_18;
   }
-  v14 = 4;
+  v12 = 4;
   break 'after_16;
   }
-  v14 = if v14 < 0x100000000000000 { 5u64 } else { 6u64 };
+  v12 = if private_key_len < 0x1000000 { 5u64 } else { 6u64 };
   }
-  v15 = 6;
-  v14 = v14.wrapping_add(public_key);
-  if out_len < v14 {
+  v12 = v12.wrapping_add(private_key_len);
+  if v12 > 0xfffffff {
+    break 'after_14;
+  }
+  curve_len = if v13 != 0 { 0u64 } else { curve_len };
+  public_key = 0;
+  private_key_len = 0;
+  'after_19: {
+  if v13 != 0 {
     break 'after_19;
   }
-  store64(frame.wrapping_add(88), v14);
-  store64(frame.wrapping_add(80), v14);
-  store64(frame.wrapping_add(72), out.wrapping_add(if out == 0 { 4096u64 } else { 0u64 }));
-  'after_20: {
-  if has_public_key == 0 {
-    break 'after_20;
-  }
-  sec1_der_back_writer_BackWriter_prepend_element(frame.wrapping_add(72), v12, public_key_len);
+  if curve_len > 0xfffffff {
+    break 'after_14;
   }
   'after_21: {
-  if v13 != 0 {
-    break 'after_21;
+  'after_20: {
+  if curve_len >= 128 {
+    break 'after_20;
   }
-  sec1_der_back_writer_BackWriter_prepend_element_2(frame.wrapping_add(72), curve, curve_len);
+  private_key_len = 2;
+  break 'after_21;
   }
-  sec1_der_required_RequiredEncodePart_prepend_part(v10, private_key_len, frame.wrapping_add(72));
-  curve = load64(frame.wrapping_add(72));
-  v10 = load64(frame.wrapping_add(88));
-  v12 = curve.wrapping_add(v10);
-  store8(v12.wrapping_add(0xffffffffffffffff), 1);
-  v10 = v10.wrapping_add(0xfffffffffffffffd);
-  store16(curve.wrapping_add(v10), 258);
-  'after_23: {
   'after_22: {
-  curve_len = v14.wrapping_sub(v10);
-  if curve_len > 127 {
+  if curve_len >= 256 {
     break 'after_22;
   }
-  store16(v12.wrapping_add(0xfffffffffffffffb), (((curve_len as u32) << 8) | 48) as u16);
-  break 'after_23;
+  private_key_len = 3;
+  break 'after_21;
   }
-  sec1_der_back_writer_prepend_long_header(curve, v10, 48, curve_len);
+  'after_23: {
+  if curve_len >= 0x10000 {
+    break 'after_23;
   }
-  store64(len, v14);
-  v13 = 0;
-  break 'after_6;
+  private_key_len = 4;
+  break 'after_21;
   }
-  v15 = load8(frame.wrapping_add(73)) as u32;
+  private_key_len = if curve_len < 0x1000000 { 5u64 } else { 6u64 };
   }
-  store32(frame.wrapping_add(80), 0);
-  store64(frame.wrapping_add(72), 0);
-  sec1_der_value_element_header(frame.wrapping_add(72), frame.wrapping_add(8));
-  'after_30: {
-  'after_29: {
+  private_key_len = private_key_len.wrapping_add(curve_len);
+  if private_key_len > 0xfffffff {
+    break 'after_14;
+  }
+  'after_25: {
   'after_24: {
-  if (load8(frame.wrapping_add(72)) as u32) != 0 {
+  if private_key_len >= 128 {
     break 'after_24;
   }
-  curve = load64(frame.wrapping_add(76));
-  v10 = curve >> 32;
-  'after_26: {
-  'after_25: {
-  if curve >= 0x8000000000 {
-    break 'after_25;
+  private_key = 2;
+  break 'after_25;
   }
-  curve = 2;
-  break 'after_26;
+  'after_26: {
+  if private_key_len >= 256 {
+    break 'after_26;
+  }
+  private_key = 3;
+  break 'after_25;
   }
   'after_27: {
-  if curve >= 0x10000000000 {
+  if private_key_len >= 0x10000 {
     break 'after_27;
   }
-  curve = 3;
-  break 'after_26;
+  private_key = 4;
+  break 'after_25;
+  }
+  private_key = if private_key_len < 0x1000000 { 5u64 } else { 6u64 };
+  }
+  private_key_len = private_key.wrapping_add(private_key_len);
+  if private_key_len > 0xfffffff {
+    break 'after_14;
+  }
   }
   'after_28: {
-  if curve >= 0x1000000000000 {
+  v16 = u32::from(has_public_key == 0);
+  if v16 != 0 {
     break 'after_28;
   }
-  curve = 4;
-  break 'after_26;
+  if public_key_len > 0xffffffe {
+    break 'after_14;
   }
-  curve = if curve < 0x100000000000000 { 5u64 } else { 6u64 };
-  }
-  store64(len, curve.wrapping_add(v10));
-  if (v15 & 255) != 10 {
+  public_key = public_key_len.wrapping_add(1);
+  'after_30: {
+  'after_29: {
+  if public_key_len >= 127 {
     break 'after_29;
   }
-  v13 = 16;
+  private_key = 2;
+  break 'after_30;
+  }
+  'after_31: {
+  if public_key_len >= 255 {
+    break 'after_31;
+  }
+  private_key = 3;
+  break 'after_30;
+  }
+  'after_32: {
+  if public_key_len >= 65535 {
+    break 'after_32;
+  }
+  private_key = 4;
+  break 'after_30;
+  }
+  private_key = if public_key_len < 0xffffff { 5u64 } else { 6u64 };
+  }
+  public_key = public_key.wrapping_add(private_key);
+  if public_key > 0xfffffff {
+    break 'after_14;
+  }
+  'after_34: {
+  'after_33: {
+  if public_key >= 128 {
+    break 'after_33;
+  }
+  private_key = 2;
+  break 'after_34;
+  }
+  'after_35: {
+  if public_key >= 256 {
+    break 'after_35;
+  }
+  private_key = 3;
+  break 'after_34;
+  }
+  'after_36: {
+  if public_key >= 0x10000 {
+    break 'after_36;
+  }
+  private_key = 4;
+  break 'after_34;
+  }
+  private_key = if public_key < 0x1000000 { 5u64 } else { 6u64 };
+  }
+  public_key = private_key.wrapping_add(public_key);
+  if public_key > 0xfffffff {
+    break 'after_14;
+  }
+  }
+  private_key_len = public_key.wrapping_add(private_key_len);
+  if private_key_len > 0xfffffff {
+    break 'after_14;
+  }
+  v12 = private_key_len.wrapping_add(v12);
+  if v12 > 0xffffffc {
+    break 'after_14;
+  }
+  private_key_len = 3;
+  public_key = v12.wrapping_add(3);
+  'after_38: {
+  'after_37: {
+  if v12 >= 125 {
+    break 'after_37;
+  }
+  private_key_len = 2;
+  break 'after_38;
+  }
+  if v12 < 253 {
+    break 'after_38;
+  }
+  'after_39: {
+  if v12 >= 65533 {
+    break 'after_39;
+  }
+  private_key_len = 4;
+  break 'after_38;
+  }
+  private_key_len = if v12 < 0xfffffd { 5u64 } else { 6u64 };
+  }
+  v15 = 7;
+  v12 = public_key.wrapping_add(private_key_len);
+  if out_len < v12 {
+    break 'after_14;
+  }
+  store64(frame.wrapping_add(104), v12);
+  store64(frame.wrapping_add(96), v12);
+  store64(frame.wrapping_add(88), out.wrapping_add(if out == 0 { 4096u64 } else { 0u64 }));
+  store64(frame.wrapping_add(176), 0);
+  store64(frame.wrapping_add(184), 0);
+  private_key_len = if v13 != 0 { 0u64 } else { curve };
+  'after_40: {
+  if v16 != 0 {
+    break 'after_40;
+  }
+  public_key = frame.wrapping_add(56);
+  store64(frame.wrapping_add(184), load64(public_key.wrapping_add(8)));
+  store64(frame.wrapping_add(176), load64(public_key));
+  }
+  store64(frame.wrapping_add(120), load64(frame.wrapping_add(16)));
+  store64(frame.wrapping_add(112), load64(frame.wrapping_add(8)));
+  store64(frame.wrapping_add(152), v10);
+  store64(frame.wrapping_add(144), curve_len);
+  store64(frame.wrapping_add(136), private_key_len);
+  store64(frame.wrapping_add(128), v14);
+  store64(frame.wrapping_add(160), load64(frame.wrapping_add(176)));
+  store64(frame.wrapping_add(168), load64(frame.wrapping_add(184)));
+  v10 = v12;
+  'after_41: {
+  if v16 != 0 {
+    break 'after_41;
+  }
+  sec1_der_explicit_ExplicitBitsEncodeValue_prepend_value(frame.wrapping_add(160),
+      frame.wrapping_add(88));
+  v14 = load64(frame.wrapping_add(88));
+  'after_43: {
+  'after_42: {
+  v10 = load64(frame.wrapping_add(104));
+  private_key_len = v12.wrapping_sub(v10);
+  if private_key_len > 127 {
+    break 'after_42;
+  }
+  v10 = v10.wrapping_add(0xfffffffffffffffe);
+  store16(v14.wrapping_add(v10), (((private_key_len as u32) << 8) | 161) as u16);
+  break 'after_43;
+  }
+  let t6 = sec1_der_back_writer_prepend_long_header(v14, v10, 161, private_key_len);
+  v10 = t6;
+  }
+  store64(frame.wrapping_add(104), v10);
+  }
+  'after_44: {
+  if v13 != 0 {
+    break 'after_44;
+  }
+  sec1_der_explicit_ExplicitEncodeValue_prepend_value(curve, curve_len, frame.wrapping_add(88));
+  curve = load64(frame.wrapping_add(88));
+  'after_45: {
+  v14 = load64(frame.wrapping_add(104));
+  v10 = v10.wrapping_sub(v14);
+  if v10 > 127 {
+    break 'after_45;
+  }
+  v14 = v14.wrapping_add(0xfffffffffffffffe);
+  store64(frame.wrapping_add(104), v14);
+  store16(curve.wrapping_add(v14), (((v10 as u32) << 8) | 160) as u16);
+  break 'after_44;
+  }
+  let t7 = sec1_der_back_writer_prepend_long_header(curve, v14, 160, v10);
+  store64(frame.wrapping_add(104), t7);
+  }
+  sec1_der_required_RequiredEncodePart_prepend_part(load64(frame.wrapping_add(112)),
+      load64(frame.wrapping_add(120)), frame.wrapping_add(88));
+  curve = load64(frame.wrapping_add(88));
+  v10 = load64(frame.wrapping_add(104));
+  curve_len = curve.wrapping_add(v10);
+  store8(curve_len.wrapping_add(0xffffffffffffffff), 1);
+  v10 = v10.wrapping_add(0xfffffffffffffffd);
+  store16(curve.wrapping_add(v10), 258);
+  'after_47: {
+  'after_46: {
+  v14 = v12.wrapping_sub(v10);
+  if v14 > 127 {
+    break 'after_46;
+  }
+  store16(curve_len.wrapping_add(0xfffffffffffffffb), (((v14 as u32) << 8) | 48) as u16);
+  break 'after_47;
+  }
+  sec1_der_back_writer_prepend_long_header(curve, v10, 48, v14);
+  }
+  store64(len, v12);
+  v15 = 0;
   break 'after_6;
   }
-  if (v15 & 255) != 10 {
-    break 'after_30;
+  sec1_borrowed_key_BorrowedKey_encoded_len(frame.wrapping_add(72), frame.wrapping_add(8));
+  if (load8(frame.wrapping_add(72)) as u32) != 0 {
+    break 'after_6;
   }
-  v13 = 16;
-  break 'after_6;
+  store64(len, load64(frame.wrapping_add(80)));
   }
-  v13 = load32(constant(48296).wrapping_add(((v15 as u64) & 255) << 2));
-  break 'after_6;
-  }
-  v13 = load32(constant(48296).wrapping_add(((v15 as u64) & 255) << 2));
-  }
-  return v13;
+  return v15;
 }
 
 // rattle::export sec1_picture_draw
@@ -47578,15 +47456,14 @@ unsafe fn export_sec1_signature_write(mut r: u64, mut r_len: u64, mut s: u64, mu
 
 // rattle::export sec1_private_key_info_write
 unsafe fn export_sec1_private_key_info_write(mut private_key: u64, mut private_key_len: u64,
-    mut curve: u64, mut curve_len: u64, mut public_key: u64, public_key_len: u64,
-    has_public_key: u64, mut out: u64, mut out_len: u64, len: u64) -> u32 {
-  let mut array = Frame::<400>::new();
+    mut curve: u64, mut curve_len: u64, mut public_key: u64, mut public_key_len: u64,
+    mut has_public_key: u64, out: u64, out_len: u64, len: u64) -> u32 {
+  let mut array = Frame::<272>::new();
   let frame = address(&raw mut array);
   let mut v11 = 0u32;
   let mut v12 = 0u64;
   let mut v13 = 0u64;
   let mut v14 = 0u64;
-  let mut v15 = 0u64;
   'after_2: {
   curves_curve_Curve_from_content(frame.wrapping_add(8),
       curve.wrapping_add(if curve == 0 { 4096u64 } else { 0u64 }), curve_len);
@@ -47598,14 +47475,14 @@ unsafe fn export_sec1_private_key_info_write(mut private_key: u64, mut private_k
   v11 = load8(frame.wrapping_add(9)) as u32;
   store32(frame.wrapping_add(23), 0);
   store64(frame.wrapping_add(16), 0);
-  store64(frame.wrapping_add(272), 0);
-  store64(frame.wrapping_add(264), 0);
-  store64(frame.wrapping_add(256), 0);
-  store64(frame.wrapping_add(248), 0);
-  store64(frame.wrapping_add(240), 0);
-  store64(frame.wrapping_add(232), 0);
-  curves_curve_Curve_identifier(frame.wrapping_add(232), v11);
-  curve = load64(frame.wrapping_add(272));
+  store64(frame.wrapping_add(120), 0);
+  store64(frame.wrapping_add(112), 0);
+  store64(frame.wrapping_add(104), 0);
+  store64(frame.wrapping_add(96), 0);
+  store64(frame.wrapping_add(88), 0);
+  store64(frame.wrapping_add(80), 0);
+  curves_curve_Curve_identifier(frame.wrapping_add(80), v11);
+  curve = load64(frame.wrapping_add(120));
   if curve > 0xfffffff {
     break 'after_2;
   }
@@ -47637,14 +47514,14 @@ unsafe fn export_sec1_private_key_info_write(mut private_key: u64, mut private_k
   if curve_len > 11 {
     break 'after_2;
   }
-  v13 = (frame.wrapping_add(232)).wrapping_add(curve);
+  v13 = (frame.wrapping_add(80)).wrapping_add(curve);
   v12 = (frame.wrapping_add(16)) | v12;
   'after_8: {
   'after_7: {
   if curve < 8 {
     break 'after_7;
   }
-  store64(v12, load64(frame.wrapping_add(232)));
+  store64(v12, load64(frame.wrapping_add(80)));
   store64(((frame.wrapping_add(16)).wrapping_add(curve_len)).wrapping_add(0xfffffffffffffff8),
       load64(v13.wrapping_add(0xfffffffffffffff8)));
   break 'after_8;
@@ -47653,7 +47530,7 @@ unsafe fn export_sec1_private_key_info_write(mut private_key: u64, mut private_k
   if curve < 4 {
     break 'after_9;
   }
-  store32(v12, load32(frame.wrapping_add(232)));
+  store32(v12, load32(frame.wrapping_add(80)));
   store32(((frame.wrapping_add(16)).wrapping_add(curve_len)).wrapping_add(0xfffffffffffffffc),
       load32(v13.wrapping_add(0xfffffffffffffffc)));
   break 'after_8;
@@ -47661,228 +47538,277 @@ unsafe fn export_sec1_private_key_info_write(mut private_key: u64, mut private_k
   if curve == 0 {
     break 'after_8;
   }
-  move_(v12, frame.wrapping_add(232), curve);
+  move_(v12, frame.wrapping_add(80), curve);
   }
   store16(v12.wrapping_add(0xfffffffffffffffe), (((curve as u32) << 8) | 6) as u16);
   store64(frame.wrapping_add(224), 0);
   store64(frame.wrapping_add(216), curve_len);
   store64(frame.wrapping_add(208), frame.wrapping_add(16));
-  store64(frame.wrapping_add(256), 0);
-  store64(frame.wrapping_add(248), 0);
-  store64(frame.wrapping_add(240), 0);
-  store64(frame.wrapping_add(232), 0);
-  sec1_der_any_AnyRef_decode(frame.wrapping_add(232), frame.wrapping_add(208));
-  if (load8(frame.wrapping_add(232)) as u32) != 0 {
+  store64(frame.wrapping_add(104), 0);
+  store64(frame.wrapping_add(96), 0);
+  store64(frame.wrapping_add(88), 0);
+  store64(frame.wrapping_add(80), 0);
+  sec1_der_any_AnyRef_decode(frame.wrapping_add(80), frame.wrapping_add(208));
+  if (load8(frame.wrapping_add(80)) as u32) != 0 {
     break 'after_2;
   }
-  store64(frame.wrapping_add(184), load64(frame.wrapping_add(240)));
-  store64(frame.wrapping_add(192), load64(frame.wrapping_add(248)));
-  store64(frame.wrapping_add(200), load64(frame.wrapping_add(256)));
+  store64(frame.wrapping_add(56), load64(frame.wrapping_add(88)));
+  store64(frame.wrapping_add(64), load64(frame.wrapping_add(96)));
+  store64(frame.wrapping_add(72), load64(frame.wrapping_add(104)));
   if (load64(frame.wrapping_add(216))) != 0 {
     break 'after_2;
   }
   if ((load8(frame.wrapping_add(224)) as u32) & 255) != 0 {
     break 'after_2;
   }
-  curve = load64(frame.wrapping_add(200));
+  curve = load64(frame.wrapping_add(72));
   store64(frame.wrapping_add(48), curve);
-  v12 = load64(frame.wrapping_add(192));
-  store64(frame.wrapping_add(40), v12);
-  v13 = load64(frame.wrapping_add(184));
-  store64(frame.wrapping_add(32), v13);
-  store64(frame.wrapping_add(88), curve_len);
-  store64(frame.wrapping_add(72), 1);
-  store64(frame.wrapping_add(64), 7);
-  store64(frame.wrapping_add(56), constant(530));
-  store64(frame.wrapping_add(96), v13);
-  store64(frame.wrapping_add(104), v12);
-  store64(frame.wrapping_add(112), curve);
-  private_key = private_key.wrapping_add(if private_key == 0 { 4096u64 } else { 0u64 });
-  store64(frame.wrapping_add(120), private_key);
-  store64(frame.wrapping_add(128), private_key_len);
-  store64(frame.wrapping_add(80), frame.wrapping_add(16));
-  store64(frame.wrapping_add(152), 0);
-  store64(frame.wrapping_add(144), 0);
-  store64(frame.wrapping_add(136), 0);
+  v13 = load64(frame.wrapping_add(64));
+  store64(frame.wrapping_add(40), v13);
+  v14 = load64(frame.wrapping_add(56));
+  store64(frame.wrapping_add(32), v14);
   v11 = u32::from(has_public_key != 0);
-  v12 = if v11 != 0 { public_key_len } else { 0u64 };
-  store64(frame.wrapping_add(176), v12);
-  v14 = public_key.wrapping_add(if public_key == 0 { 4096u64 } else { 0u64 });
-  public_key = if v11 != 0 { v14 } else { 0u64 };
-  store64(frame.wrapping_add(168), public_key);
-  v13 = v11 as u64;
-  store64(frame.wrapping_add(160), v13);
-  store32(frame.wrapping_add(240), 0);
-  store64(frame.wrapping_add(232), 0);
-  sec1_der_value_element_header_3(frame.wrapping_add(232), frame.wrapping_add(56));
-  'after_15: {
-  'after_10: {
-  if (load8(frame.wrapping_add(232)) as u32) != 0 {
-    break 'after_10;
-  }
-  curve = load64(frame.wrapping_add(236));
-  curve_len = curve >> 32;
-  'after_12: {
-  'after_11: {
-  if curve >= 0x8000000000 {
-    break 'after_11;
-  }
-  v15 = 2;
-  break 'after_12;
-  }
-  'after_13: {
-  if curve >= 0x10000000000 {
-    break 'after_13;
-  }
-  v15 = 3;
-  break 'after_12;
-  }
-  'after_14: {
-  if curve >= 0x1000000000000 {
-    break 'after_14;
-  }
-  v15 = 4;
-  break 'after_12;
-  }
-  v15 = if curve < 0x100000000000000 { 5u64 } else { 6u64 };
-  }
-  curve = 6;
-  curve_len = v15.wrapping_add(curve_len);
-  if out_len < curve_len {
-    break 'after_15;
-  }
-  store64(frame.wrapping_add(224), curve_len);
-  store64(frame.wrapping_add(216), curve_len);
-  store64(frame.wrapping_add(208), out.wrapping_add(if out == 0 { 4096u64 } else { 0u64 }));
-  curve = load64(frame.wrapping_add(32));
-  store64(frame.wrapping_add(376), curve);
-  out = load64(frame.wrapping_add(40));
-  store64(frame.wrapping_add(384), out);
-  out_len = load64(frame.wrapping_add(48));
-  store64(frame.wrapping_add(392), out_len);
-  store64(frame.wrapping_add(248), 1);
-  store64(frame.wrapping_add(240), 7);
-  store64(frame.wrapping_add(232), constant(530));
-  store64(frame.wrapping_add(272), curve);
-  store64(frame.wrapping_add(280), out);
-  store64(frame.wrapping_add(288), out_len);
-  curve = frame.wrapping_add(80);
-  out = load64(curve);
-  store64(frame.wrapping_add(360), out);
-  curve = load64(curve.wrapping_add(8));
-  store64(frame.wrapping_add(368), curve);
-  store64(frame.wrapping_add(256), out);
-  store64(frame.wrapping_add(264), curve);
-  store64(frame.wrapping_add(304), private_key_len);
-  store64(frame.wrapping_add(296), private_key);
-  store64(frame.wrapping_add(312), 0);
-  store64(frame.wrapping_add(320), 0);
-  store64(frame.wrapping_add(328), 0);
-  store64(frame.wrapping_add(336), v13);
-  store64(frame.wrapping_add(344), public_key);
-  store64(frame.wrapping_add(352), v12);
-  'after_16: {
-  if has_public_key == 0 {
-    break 'after_16;
-  }
-  sec1_der_back_writer_BackWriter_prepend_element(frame.wrapping_add(208), v14, public_key_len);
-  }
-  sec1_der_required_RequiredEncodePart_prepend_part(private_key, private_key_len,
-      frame.wrapping_add(208));
-  curve = load64(frame.wrapping_add(208));
-  public_key = load64(frame.wrapping_add(224));
-  store8((curve.wrapping_add(public_key)).wrapping_add(0xffffffffffffffff), 1);
-  private_key = public_key.wrapping_add(0xfffffffffffffffd);
-  store16(curve.wrapping_add(private_key), 258);
+  public_key_len = if v11 != 0 { public_key_len } else { 0u64 };
+  store64(frame.wrapping_add(200), public_key_len);
+  v12 = if v11 != 0 { public_key.wrapping_add(if public_key == 0 { 4096u64 } else { 0u64 }) }
+      else { 0u64 };
+  store64(frame.wrapping_add(192), v12);
+  store64(frame.wrapping_add(96), 1);
+  store64(frame.wrapping_add(88), 7);
+  store64(frame.wrapping_add(80), constant(530));
+  store64(frame.wrapping_add(120), v14);
+  store64(frame.wrapping_add(128), v13);
+  store64(frame.wrapping_add(136), curve);
+  store64(frame.wrapping_add(160), 0);
+  store64(frame.wrapping_add(152), private_key_len);
+  curve = private_key.wrapping_add(if private_key == 0 { 4096u64 } else { 0u64 });
+  store64(frame.wrapping_add(144), curve);
+  store64(frame.wrapping_add(168), 0);
+  store64(frame.wrapping_add(176), 0);
+  private_key = v11 as u64;
+  store64(frame.wrapping_add(184), private_key);
+  store64(frame.wrapping_add(104), frame.wrapping_add(16));
+  store64(frame.wrapping_add(112), curve_len);
+  store32(frame.wrapping_add(208), 0);
+  v13 = curve_len.wrapping_add(11);
+  v11 = v13 as u32;
+  store32(frame.wrapping_add(212), v11);
+  sec1_der_required_RequiredEncodePart_part_len(frame.wrapping_add(208), frame.wrapping_add(144));
   'after_18: {
-  'after_17: {
-  private_key_len = curve_len.wrapping_sub(private_key);
-  if private_key_len > 127 {
-    break 'after_17;
-  }
-  public_key = public_key.wrapping_add(0xfffffffffffffffb);
-  store16(curve.wrapping_add(public_key), (((private_key_len as u32) << 8) | 48) as u16);
-  break 'after_18;
-  }
-  let t0 = sec1_der_back_writer_prepend_long_header(curve, private_key, 48, private_key_len);
-  public_key = t0;
-  }
   'after_20: {
   'after_19: {
-  private_key = curve_len.wrapping_sub(public_key);
-  if private_key > 127 {
+  'after_17: {
+  'after_11: {
+  'after_10: {
+  if (load8(frame.wrapping_add(208)) as u32) == 0 {
+    break 'after_10;
+  }
+  public_key = load8(frame.wrapping_add(209)) as u64;
+  break 'after_11;
+  }
+  public_key = 5;
+  v14 = v13.wrapping_add(load32(frame.wrapping_add(212)) as u64);
+  if v14 >= 0x10000000 {
+    break 'after_11;
+  }
+  'after_12: {
+  if v14 <= 0xffffffc {
+    break 'after_12;
+  }
+  public_key = 5;
+  break 'after_11;
+  }
+  public_key = v14.wrapping_add(3);
+  'after_14: {
+  'after_13: {
+  if v14 >= 125 {
+    break 'after_13;
+  }
+  v14 = 2;
+  break 'after_14;
+  }
+  'after_15: {
+  if v14 >= 253 {
+    break 'after_15;
+  }
+  v14 = 3;
+  break 'after_14;
+  }
+  'after_16: {
+  if v14 >= 65533 {
+    break 'after_16;
+  }
+  v14 = 4;
+  break 'after_14;
+  }
+  v14 = if v14 < 0xfffffd { 5u64 } else { 6u64 };
+  }
+  public_key = public_key.wrapping_add(v14);
+  if out_len >= public_key {
+    break 'after_17;
+  }
+  public_key = 6;
+  }
+  store64(frame.wrapping_add(112), curve_len);
+  store64(frame.wrapping_add(96), 1);
+  store64(frame.wrapping_add(88), 7);
+  store64(frame.wrapping_add(80), constant(530));
+  store64(frame.wrapping_add(120), load64(frame.wrapping_add(32)));
+  store64(frame.wrapping_add(128), load64(frame.wrapping_add(40)));
+  store64(frame.wrapping_add(136), load64(frame.wrapping_add(48)));
+  store64(frame.wrapping_add(160), 0);
+  store64(frame.wrapping_add(152), private_key_len);
+  store64(frame.wrapping_add(144), curve);
+  store64(frame.wrapping_add(168), 0);
+  store64(frame.wrapping_add(176), 0);
+  store64(frame.wrapping_add(200), public_key_len);
+  store64(frame.wrapping_add(192), v12);
+  store64(frame.wrapping_add(184), private_key);
+  store64(frame.wrapping_add(104), frame.wrapping_add(16));
+  store64(frame.wrapping_add(208), 0);
+  store32(frame.wrapping_add(212), v11);
+  sec1_der_required_RequiredEncodePart_part_len(frame.wrapping_add(208), frame.wrapping_add(144));
+  if (load8(frame.wrapping_add(208)) as u32) != 0 {
+    break 'after_18;
+  }
+  curve = v13.wrapping_add(load32(frame.wrapping_add(212)) as u64);
+  if curve > 0xfffffff {
+    break 'after_18;
+  }
+  if curve > 0xffffffc {
+    break 'after_18;
+  }
+  curve_len = curve.wrapping_add(3);
+  if curve >= 125 {
     break 'after_19;
   }
-  public_key = public_key.wrapping_add(0xfffffffffffffffe);
-  store16(curve.wrapping_add(public_key), (((private_key as u32) << 8) | 4) as u16);
+  curve = 2;
   break 'after_20;
   }
-  let t1 = sec1_der_back_writer_prepend_long_header(curve, public_key, 4, private_key);
-  public_key = t1;
-  }
-  store64(frame.wrapping_add(224), public_key);
-  pkix_algorithm_AlgorithmIdentifierEncodePart_prepend_part(frame.wrapping_add(232),
-      frame.wrapping_add(208));
-  curve = load64(frame.wrapping_add(208));
-  public_key = load64(frame.wrapping_add(224));
-  private_key_len = curve.wrapping_add(public_key);
-  store8(private_key_len.wrapping_add(0xffffffffffffffff), 0);
-  public_key = public_key.wrapping_add(0xfffffffffffffffd);
-  store16(curve.wrapping_add(public_key), 258);
-  'after_22: {
+  store64(frame.wrapping_add(72), public_key);
+  store64(frame.wrapping_add(64), public_key);
+  store64(frame.wrapping_add(56), out.wrapping_add(if out == 0 { 4096u64 } else { 0u64 }));
+  store64(frame.wrapping_add(112), curve_len);
+  store64(frame.wrapping_add(96), 1);
+  store64(frame.wrapping_add(88), 7);
+  store64(frame.wrapping_add(80), constant(530));
+  store64(frame.wrapping_add(120), load64(frame.wrapping_add(32)));
+  store64(frame.wrapping_add(128), load64(frame.wrapping_add(40)));
+  store64(frame.wrapping_add(136), load64(frame.wrapping_add(48)));
+  store64(frame.wrapping_add(160), 0);
+  store64(frame.wrapping_add(152), private_key_len);
+  store64(frame.wrapping_add(144), curve);
+  store64(frame.wrapping_add(168), 0);
+  store64(frame.wrapping_add(176), 0);
+  store64(frame.wrapping_add(200), public_key_len);
+  store64(frame.wrapping_add(192), v12);
+  store64(frame.wrapping_add(184), private_key);
+  store64(frame.wrapping_add(104), frame.wrapping_add(16));
+  store64(frame.wrapping_add(224), 0);
+  store64(frame.wrapping_add(216), private_key_len);
+  store64(frame.wrapping_add(208), curve);
+  store64(frame.wrapping_add(232), 0);
+  store64(frame.wrapping_add(240), 0);
+  store64(frame.wrapping_add(264), public_key_len);
+  store64(frame.wrapping_add(256), v12);
+  store64(frame.wrapping_add(248), private_key);
   'after_21: {
-  private_key = curve_len.wrapping_sub(public_key);
-  if private_key > 127 {
+  if has_public_key == 0 {
     break 'after_21;
   }
-  store16(private_key_len.wrapping_add(0xfffffffffffffffb),
-      (((private_key as u32) << 8) | 48) as u16);
-  break 'after_22;
+  sec1_der_explicit_ExplicitBitsEncodeValue_prepend_value(frame.wrapping_add(256),
+      frame.wrapping_add(56));
+  curve_len = load64(frame.wrapping_add(56));
+  'after_22: {
+  private_key = load64(frame.wrapping_add(72));
+  has_public_key = public_key.wrapping_sub(private_key);
+  if has_public_key > 127 {
+    break 'after_22;
   }
-  sec1_der_back_writer_prepend_long_header(curve, public_key, 48, private_key);
+  private_key = private_key.wrapping_add(0xfffffffffffffffe);
+  store64(frame.wrapping_add(72), private_key);
+  store16(curve_len.wrapping_add(private_key), (((has_public_key as u32) << 8) | 161) as u16);
+  break 'after_21;
   }
-  store64(len, curve_len);
+  let t0 = sec1_der_back_writer_prepend_long_header(curve_len, private_key, 161, has_public_key);
+  store64(frame.wrapping_add(72), t0);
+  }
+  sec1_der_required_RequiredEncodePart_prepend_part(curve, private_key_len, frame.wrapping_add(56));
+  curve = load64(frame.wrapping_add(56));
+  curve_len = load64(frame.wrapping_add(72));
+  store8((curve.wrapping_add(curve_len)).wrapping_add(0xffffffffffffffff), 1);
+  private_key_len = curve_len.wrapping_add(0xfffffffffffffffd);
+  store16(curve.wrapping_add(private_key_len), 258);
+  'after_24: {
+  'after_23: {
+  private_key = public_key.wrapping_sub(private_key_len);
+  if private_key > 127 {
+    break 'after_23;
+  }
+  curve_len = curve_len.wrapping_add(0xfffffffffffffffb);
+  store16(curve.wrapping_add(curve_len), (((private_key as u32) << 8) | 48) as u16);
+  break 'after_24;
+  }
+  let t1 = sec1_der_back_writer_prepend_long_header(curve, private_key_len, 48, private_key);
+  curve_len = t1;
+  }
+  'after_26: {
+  'after_25: {
+  private_key_len = public_key.wrapping_sub(curve_len);
+  if private_key_len > 127 {
+    break 'after_25;
+  }
+  curve_len = curve_len.wrapping_add(0xfffffffffffffffe);
+  store16(curve.wrapping_add(curve_len), (((private_key_len as u32) << 8) | 4) as u16);
+  break 'after_26;
+  }
+  let t2 = sec1_der_back_writer_prepend_long_header(curve, curve_len, 4, private_key_len);
+  curve_len = t2;
+  }
+  store64(frame.wrapping_add(72), curve_len);
+  pkix_algorithm_AlgorithmIdentifierEncodePart_prepend_part(frame.wrapping_add(80),
+      frame.wrapping_add(56));
+  curve = load64(frame.wrapping_add(56));
+  curve_len = load64(frame.wrapping_add(72));
+  private_key = curve.wrapping_add(curve_len);
+  store8(private_key.wrapping_add(0xffffffffffffffff), 0);
+  curve_len = curve_len.wrapping_add(0xfffffffffffffffd);
+  store16(curve.wrapping_add(curve_len), 258);
+  'after_28: {
+  'after_27: {
+  private_key_len = public_key.wrapping_sub(curve_len);
+  if private_key_len > 127 {
+    break 'after_27;
+  }
+  store16(private_key.wrapping_add(0xfffffffffffffffb),
+      (((private_key_len as u32) << 8) | 48) as u16);
+  break 'after_28;
+  }
+  sec1_der_back_writer_prepend_long_header(curve, curve_len, 48, private_key_len);
+  }
+  store64(len, public_key);
   v11 = 0;
   break 'after_1;
   }
-  curve = load8(frame.wrapping_add(233)) as u64;
+  'after_29: {
+  if curve >= 253 {
+    break 'after_29;
   }
-  store32(frame.wrapping_add(240), 0);
-  store64(frame.wrapping_add(232), 0);
-  sec1_der_value_element_header_3(frame.wrapping_add(232), frame.wrapping_add(56));
-  'after_23: {
-  if (load8(frame.wrapping_add(232)) as u32) != 0 {
-    break 'after_23;
+  curve = 3;
+  break 'after_20;
   }
-  curve_len = load64(frame.wrapping_add(236));
-  public_key = curve_len >> 32;
-  'after_25: {
-  'after_24: {
-  if curve_len >= 0x8000000000 {
-    break 'after_24;
+  'after_30: {
+  if curve >= 65533 {
+    break 'after_30;
   }
-  curve_len = 2;
-  break 'after_25;
+  curve = 4;
+  break 'after_20;
   }
-  'after_26: {
-  if curve_len >= 0x10000000000 {
-    break 'after_26;
+  curve = if curve < 0xfffffd { 5u64 } else { 6u64 };
   }
-  curve_len = 3;
-  break 'after_25;
+  store64(len, curve_len.wrapping_add(curve));
   }
-  'after_27: {
-  if curve_len >= 0x1000000000000 {
-    break 'after_27;
-  }
-  curve_len = 4;
-  break 'after_25;
-  }
-  curve_len = if curve_len < 0x100000000000000 { 5u64 } else { 6u64 };
-  }
-  store64(len, curve_len.wrapping_add(public_key));
-  }
-  v11 = load32(constant(48608).wrapping_add(curve << 2));
+  v11 = load32((public_key << 2).wrapping_add(constant(48296)));
   }
   return v11;
   }
@@ -47892,20 +47818,24 @@ unsafe fn export_sec1_private_key_info_write(mut private_key: u64, mut private_k
 // rattle::export sec1_public_key_write
 unsafe fn export_sec1_public_key_write(mut curve: u64, mut curve_len: u64, mut public_key: u64,
     mut public_key_len: u64, mut out: u64, mut out_len: u64, len: u64) -> u32 {
-  let mut array = Frame::<320>::new();
+  let mut array = Frame::<192>::new();
   let frame = address(&raw mut array);
   let mut v8 = 0u32;
   let mut v9 = 0u32;
   let mut v10 = 0u32;
   let mut v11 = 0u64;
   let mut v12 = 0u64;
-  let mut v13 = 0u64;
+  let mut v13 = 0u32;
   let mut v14 = 0u64;
   let mut v15 = 0u64;
   let mut v16 = 0u64;
   let mut v17 = 0u64;
   let mut v18 = 0u64;
   let mut v19 = 0u64;
+  let mut v20 = 0u64;
+  let mut v21 = 0u64;
+  let mut v22 = 0u64;
+  let mut v23 = 0u64;
   'after_1: {
   'after_7: {
   curves_curve_Curve_from_content(frame.wrapping_add(8),
@@ -47915,20 +47845,22 @@ unsafe fn export_sec1_public_key_write(mut curve: u64, mut curve_len: u64, mut p
     break 'after_1;
   }
   v8 = 9;
-  if public_key_len == 0 {
+  v9 = u32::from(public_key_len == 0);
+  if v9 != 0 {
     break 'after_1;
   }
-  v9 = load8(frame.wrapping_add(9)) as u32;
-  curve_len = load64(constant(48336).wrapping_add(((v9 as u64) & 255) << 3));
+  v10 = load8(frame.wrapping_add(9)) as u32;
+  v11 = load64(constant(48344).wrapping_add(((v10 as u64) & 255) << 3));
   curve = 1;
   'after_6: {
   'after_5: {
   'after_4: {
   'after_3: {
   'after_2: {
-  public_key = public_key.wrapping_add(if public_key == 0 { 4096u64 } else { 0u64 });
-  v10 = load8(public_key) as u32;
-  match v10 {
+  v12 = if public_key == 0 { 4096u64 } else { 0u64 };
+  curve_len = public_key.wrapping_add(v12);
+  v13 = load8(curve_len) as u32;
+  match v13 {
   2 | 3 | 5 => {
     break 'after_2;
   }
@@ -47946,36 +47878,36 @@ unsafe fn export_sec1_public_key_write(mut curve: u64, mut curve_len: u64, mut p
   }
   }
   }
-  curve = curve_len | 1;
+  curve = v11 | 1;
   }
   if public_key_len == curve {
     break 'after_6;
   }
   break 'after_1;
   }
-  if public_key_len != ((curve_len << 1) | 1) {
+  if public_key_len != ((v11 << 1) | 1) {
     break 'after_1;
   }
-  if (((load8((public_key.wrapping_add(public_key_len)).wrapping_add(0xffffffffffffffff)) as
-      u32) ^ v10) & 1) != 0 {
+  if (((load8((curve_len.wrapping_add(public_key_len)).wrapping_add(0xffffffffffffffff)) as u32)
+      ^ v13) & 1) != 0 {
     break 'after_1;
   }
   break 'after_6;
   }
-  if public_key_len != ((curve_len << 1) | 1) {
+  if public_key_len != ((v11 << 1) | 1) {
     break 'after_1;
   }
   }
   store32(frame.wrapping_add(23), 0);
   store64(frame.wrapping_add(16), 0);
-  store64(frame.wrapping_add(232), 0);
-  store64(frame.wrapping_add(224), 0);
-  store64(frame.wrapping_add(216), 0);
-  store64(frame.wrapping_add(208), 0);
-  store64(frame.wrapping_add(200), 0);
-  store64(frame.wrapping_add(192), 0);
-  curves_curve_Curve_identifier(frame.wrapping_add(192), v9);
-  curve = load64(frame.wrapping_add(232));
+  store64(frame.wrapping_add(144), 0);
+  store64(frame.wrapping_add(136), 0);
+  store64(frame.wrapping_add(128), 0);
+  store64(frame.wrapping_add(120), 0);
+  store64(frame.wrapping_add(112), 0);
+  store64(frame.wrapping_add(104), 0);
+  curves_curve_Curve_identifier(frame.wrapping_add(104), v10);
+  curve = load64(frame.wrapping_add(144));
   if curve > 0xfffffff {
     break 'after_7;
   }
@@ -47984,384 +47916,290 @@ unsafe fn export_sec1_public_key_write(mut curve: u64, mut curve_len: u64, mut p
   if curve >= 128 {
     break 'after_8;
   }
-  v11 = 2;
+  v14 = 2;
   break 'after_9;
   }
   'after_10: {
   if curve >= 256 {
     break 'after_10;
   }
-  v11 = 3;
+  v14 = 3;
   break 'after_9;
   }
   'after_11: {
   if curve >= 0x10000 {
     break 'after_11;
   }
-  v11 = 4;
+  v14 = 4;
   break 'after_9;
   }
-  v11 = if curve < 0x1000000 { 5u64 } else { 6u64 };
+  v14 = if curve < 0x1000000 { 5u64 } else { 6u64 };
   }
-  curve_len = v11.wrapping_add(curve);
-  if curve_len > 11 {
+  v15 = v14.wrapping_add(curve);
+  if v15 > 11 {
     break 'after_7;
   }
-  v12 = (frame.wrapping_add(192)).wrapping_add(curve);
-  v11 = (frame.wrapping_add(16)) | v11;
+  v16 = (frame.wrapping_add(104)).wrapping_add(curve);
+  v11 = (frame.wrapping_add(16)) | v14;
   'after_13: {
   'after_12: {
   if curve < 8 {
     break 'after_12;
   }
-  store64(v11, load64(frame.wrapping_add(192)));
-  store64(((frame.wrapping_add(16)).wrapping_add(curve_len)).wrapping_add(0xfffffffffffffff8),
-      load64(v12.wrapping_add(0xfffffffffffffff8)));
+  store64(v11, load64(frame.wrapping_add(104)));
+  store64(((frame.wrapping_add(16)).wrapping_add(v15)).wrapping_add(0xfffffffffffffff8),
+      load64(v16.wrapping_add(0xfffffffffffffff8)));
   break 'after_13;
   }
   'after_14: {
   if curve < 4 {
     break 'after_14;
   }
-  store32(v11, load32(frame.wrapping_add(192)));
-  store32(((frame.wrapping_add(16)).wrapping_add(curve_len)).wrapping_add(0xfffffffffffffffc),
-      load32(v12.wrapping_add(0xfffffffffffffffc)));
+  store32(v11, load32(frame.wrapping_add(104)));
+  store32(((frame.wrapping_add(16)).wrapping_add(v15)).wrapping_add(0xfffffffffffffffc),
+      load32(v16.wrapping_add(0xfffffffffffffffc)));
   break 'after_13;
   }
   if curve == 0 {
     break 'after_13;
   }
-  move_(v11, frame.wrapping_add(192), curve);
+  move_(v11, frame.wrapping_add(104), curve);
   }
   store16(v11.wrapping_add(0xfffffffffffffffe), (((curve as u32) << 8) | 6) as u16);
-  store64(frame.wrapping_add(184), 0);
-  store64(frame.wrapping_add(176), curve_len);
-  store64(frame.wrapping_add(168), frame.wrapping_add(16));
-  store64(frame.wrapping_add(216), 0);
-  store64(frame.wrapping_add(208), 0);
-  store64(frame.wrapping_add(200), 0);
-  store64(frame.wrapping_add(192), 0);
-  sec1_der_any_AnyRef_decode(frame.wrapping_add(192), frame.wrapping_add(168));
-  if (load8(frame.wrapping_add(192)) as u32) != 0 {
-    break 'after_7;
-  }
-  store64(frame.wrapping_add(144), load64(frame.wrapping_add(200)));
-  store64(frame.wrapping_add(152), load64(frame.wrapping_add(208)));
-  store64(frame.wrapping_add(160), load64(frame.wrapping_add(216)));
-  if (load64(frame.wrapping_add(176))) != 0 {
-    break 'after_7;
-  }
-  if ((load8(frame.wrapping_add(184)) as u32) & 255) != 0 {
-    break 'after_7;
-  }
-  v11 = load64(frame.wrapping_add(160));
-  store64(frame.wrapping_add(48), v11);
-  v12 = load64(frame.wrapping_add(152));
-  store64(frame.wrapping_add(40), v12);
-  v13 = load64(frame.wrapping_add(144));
-  store64(frame.wrapping_add(32), v13);
-  curve = frame.wrapping_add(96);
-  store64(curve, v13);
-  store64(curve.wrapping_add(8), v12);
-  store64(curve.wrapping_add(16), v11);
-  store64(frame.wrapping_add(88), curve_len);
-  store64(frame.wrapping_add(72), 1);
-  store64(frame.wrapping_add(64), 7);
-  store64(frame.wrapping_add(56), constant(530));
-  store64(frame.wrapping_add(120), 0);
-  store64(frame.wrapping_add(128), public_key);
-  store64(frame.wrapping_add(136), public_key_len);
+  store64(frame.wrapping_add(96), 0);
+  store64(frame.wrapping_add(88), v15);
   store64(frame.wrapping_add(80), frame.wrapping_add(16));
-  store32(frame.wrapping_add(200), 0);
-  store64(frame.wrapping_add(192), 0);
-  sec1_der_value_element_header_2(frame.wrapping_add(192), frame.wrapping_add(56));
-  'after_20: {
+  store64(frame.wrapping_add(128), 0);
+  store64(frame.wrapping_add(120), 0);
+  store64(frame.wrapping_add(112), 0);
+  store64(frame.wrapping_add(104), 0);
+  sec1_der_any_AnyRef_decode(frame.wrapping_add(104), frame.wrapping_add(80));
+  if (load8(frame.wrapping_add(104)) as u32) != 0 {
+    break 'after_7;
+  }
+  store64(frame.wrapping_add(56), load64(frame.wrapping_add(112)));
+  store64(frame.wrapping_add(64), load64(frame.wrapping_add(120)));
+  store64(frame.wrapping_add(72), load64(frame.wrapping_add(128)));
+  if (load64(frame.wrapping_add(88))) != 0 {
+    break 'after_7;
+  }
+  if ((load8(frame.wrapping_add(96)) as u32) & 255) != 0 {
+    break 'after_7;
+  }
+  store64(frame.wrapping_add(48), load64(frame.wrapping_add(72)));
+  store64(frame.wrapping_add(40), load64(frame.wrapping_add(64)));
+  store64(frame.wrapping_add(32), load64(frame.wrapping_add(56)));
+  v8 = 7;
   'after_15: {
-  if (load8(frame.wrapping_add(192)) as u32) != 0 {
+  v17 = if public_key_len < 127 { 2u64 } else { 3u64 };
+  v11 = ((public_key_len.wrapping_add(v17)).wrapping_add(v15)).wrapping_add(12);
+  v18 = if v11 < 128 { 2u64 } else { 3u64 };
+  v11 = v18.wrapping_add(v11);
+  if out_len < v11 {
     break 'after_15;
   }
-  curve = load64(frame.wrapping_add(196));
-  v14 = curve >> 32;
-  'after_17: {
+  store64(frame.wrapping_add(96), v11);
+  store64(frame.wrapping_add(88), v11);
+  v19 = if out == 0 { 4096u64 } else { 0u64 };
+  v20 = out.wrapping_add(v19);
+  store64(frame.wrapping_add(80), v20);
+  store64(frame.wrapping_add(160), load64(frame.wrapping_add(48)));
+  store64(frame.wrapping_add(152), load64(frame.wrapping_add(40)));
+  store64(frame.wrapping_add(144), load64(frame.wrapping_add(32)));
+  store64(frame.wrapping_add(176), curve_len);
+  store64(frame.wrapping_add(168), 0);
+  store64(frame.wrapping_add(136), v15);
+  store64(frame.wrapping_add(120), 1);
+  store64(frame.wrapping_add(112), 7);
+  store64(frame.wrapping_add(104), constant(530));
+  store64(frame.wrapping_add(184), public_key_len);
+  v21 = v11.wrapping_sub(public_key_len);
+  out_len = v20.wrapping_add(v21);
+  store64(frame.wrapping_add(128), frame.wrapping_add(16));
+  'after_18: {
+  'after_19: {
   'after_16: {
-  if curve >= 0x8000000000 {
+  if public_key_len < 33 {
     break 'after_16;
   }
-  v15 = 2;
-  break 'after_17;
+  v15 = curve_len.wrapping_add(public_key_len);
+  'after_17: {
+  if public_key_len > 64 {
+    break 'after_17;
   }
-  'after_18: {
-  if curve >= 0x10000000000 {
-    break 'after_18;
+  curve = load64(curve_len);
+  public_key_len = load64(curve_len.wrapping_add(8));
+  public_key = load64(curve_len.wrapping_add(16));
+  store64(out_len.wrapping_add(24), load64(curve_len.wrapping_add(24)));
+  store64(out_len.wrapping_add(16), public_key);
+  store64(out_len.wrapping_add(8), public_key_len);
+  store64(out_len, curve);
+  curve = v15.wrapping_add(0xffffffffffffffe0);
+  curve_len = load64(curve);
+  public_key = load64(curve.wrapping_add(8));
+  out = load64(curve.wrapping_add(16));
+  public_key_len = (v20.wrapping_add(v11)).wrapping_add(0xffffffffffffffe0);
+  store64(public_key_len.wrapping_add(24), load64(curve.wrapping_add(24)));
+  store64(public_key_len.wrapping_add(16), out);
+  store64(public_key_len.wrapping_add(8), public_key);
+  store64(public_key_len, curve_len);
+  break 'after_18;
   }
-  v15 = 3;
-  break 'after_17;
-  }
-  'after_19: {
-  if curve >= 0x1000000000000 {
+  if public_key_len > 128 {
     break 'after_19;
   }
-  v15 = 4;
-  break 'after_17;
+  curve = load64(curve_len);
+  public_key_len = load64(curve_len.wrapping_add(8));
+  public_key = load64(curve_len.wrapping_add(16));
+  out = load64(curve_len.wrapping_add(24));
+  v14 = load64(curve_len.wrapping_add(32));
+  v12 = load64(curve_len.wrapping_add(40));
+  v16 = load64(curve_len.wrapping_add(48));
+  store64(out_len.wrapping_add(56), load64(curve_len.wrapping_add(56)));
+  store64(out_len.wrapping_add(48), v16);
+  store64(out_len.wrapping_add(40), v12);
+  store64(out_len.wrapping_add(32), v14);
+  store64(out_len.wrapping_add(24), out);
+  store64(out_len.wrapping_add(16), public_key);
+  store64(out_len.wrapping_add(8), public_key_len);
+  store64(out_len, curve);
+  curve = v15.wrapping_add(0xffffffffffffffc0);
+  curve_len = load64(curve);
+  public_key = load64(curve.wrapping_add(8));
+  out = load64(curve.wrapping_add(16));
+  out_len = load64(curve.wrapping_add(24));
+  v15 = load64(curve.wrapping_add(32));
+  v14 = load64(curve.wrapping_add(40));
+  v12 = load64(curve.wrapping_add(48));
+  public_key_len = (v20.wrapping_add(v11)).wrapping_add(0xffffffffffffffc0);
+  store64(public_key_len.wrapping_add(56), load64(curve.wrapping_add(56)));
+  store64(public_key_len.wrapping_add(48), v12);
+  store64(public_key_len.wrapping_add(40), v14);
+  store64(public_key_len.wrapping_add(32), v15);
+  store64(public_key_len.wrapping_add(24), out_len);
+  store64(public_key_len.wrapping_add(16), out);
+  store64(public_key_len.wrapping_add(8), public_key);
+  store64(public_key_len, curve_len);
+  break 'after_18;
   }
-  v15 = if curve < 0x100000000000000 { 5u64 } else { 6u64 };
-  }
-  curve = 6;
-  curve_len = v15.wrapping_add(v14);
-  if out_len < curve_len {
+  v15 = curve_len.wrapping_add(public_key_len);
+  'after_20: {
+  if public_key_len < 16 {
     break 'after_20;
   }
-  curve = load64(frame.wrapping_add(32));
-  store64(frame.wrapping_add(296), curve);
-  public_key_len = load64(frame.wrapping_add(40));
-  store64(frame.wrapping_add(304), public_key_len);
-  public_key = load64(frame.wrapping_add(48));
-  store64(frame.wrapping_add(312), public_key);
-  v16 = if out == 0 { 4096u64 } else { 0u64 };
-  v17 = out.wrapping_add(v16);
-  store64(frame.wrapping_add(168), v17);
-  store64(frame.wrapping_add(176), curve_len);
-  store64(frame.wrapping_add(208), 1);
-  store64(frame.wrapping_add(200), 7);
-  store64(frame.wrapping_add(192), constant(530));
-  store64(frame.wrapping_add(232), curve);
-  store64(frame.wrapping_add(240), public_key_len);
-  store64(frame.wrapping_add(248), public_key);
-  curve = frame.wrapping_add(80);
+  curve = load64(curve_len);
+  store64(out_len.wrapping_add(8), load64(curve_len.wrapping_add(8)));
+  store64(out_len, curve);
+  curve = v15.wrapping_add(0xfffffffffffffff0);
   public_key_len = load64(curve);
-  store64(frame.wrapping_add(280), public_key_len);
-  curve = load64(curve.wrapping_add(8));
-  store64(frame.wrapping_add(288), curve);
-  store64(frame.wrapping_add(216), public_key_len);
-  store64(frame.wrapping_add(224), curve);
-  public_key_len = frame.wrapping_add(120);
-  public_key = load64(public_key_len.wrapping_add(16));
-  store64(frame.wrapping_add(272), public_key);
-  curve = load64(public_key_len.wrapping_add(8));
-  store64(frame.wrapping_add(264), curve);
-  store64(frame.wrapping_add(256), load64(public_key_len));
-  v18 = curve_len.wrapping_sub(public_key);
-  v12 = v17.wrapping_add(v18);
-  'after_23: {
-  'after_24: {
+  curve_len = (v20.wrapping_add(v11)).wrapping_add(0xfffffffffffffff0);
+  store64(curve_len.wrapping_add(8), load64(curve.wrapping_add(8)));
+  store64(curve_len, public_key_len);
+  break 'after_18;
+  }
   'after_21: {
-  if public_key < 33 {
+  if public_key_len < 8 {
     break 'after_21;
   }
-  public_key_len = curve.wrapping_add(public_key);
+  store64(out_len, load64(curve_len));
+  store64((v20.wrapping_add(v11)).wrapping_add(0xfffffffffffffff8),
+      load64(v15.wrapping_add(0xfffffffffffffff8)));
+  break 'after_18;
+  }
+  if public_key_len < 4 {
+    break 'after_19;
+  }
+  store32(out_len, load32(curve_len));
+  store32((v20.wrapping_add(v11)).wrapping_add(0xfffffffffffffffc),
+      load32(v15.wrapping_add(0xfffffffffffffffc)));
+  break 'after_18;
+  }
   'after_22: {
-  if public_key > 64 {
+  if (out_len.wrapping_sub(curve_len)) >= public_key_len {
     break 'after_22;
   }
-  public_key = load64(curve);
-  out = load64(curve.wrapping_add(8));
-  out_len = load64(curve.wrapping_add(16));
-  store64(v12.wrapping_add(24), load64(curve.wrapping_add(24)));
-  store64(v12.wrapping_add(16), out_len);
-  store64(v12.wrapping_add(8), out);
-  store64(v12, public_key);
-  curve = public_key_len.wrapping_add(0xffffffffffffffe0);
-  public_key = load64(curve);
-  out = load64(curve.wrapping_add(8));
-  out_len = load64(curve.wrapping_add(16));
-  public_key_len = (v17.wrapping_add(curve_len)).wrapping_add(0xffffffffffffffe0);
-  store64(public_key_len.wrapping_add(24), load64(curve.wrapping_add(24)));
-  store64(public_key_len.wrapping_add(16), out_len);
-  store64(public_key_len.wrapping_add(8), out);
-  store64(public_key_len, public_key);
-  break 'after_23;
+  v16 = public_key_len & 3;
+  out_len = 0;
+  'after_23: {
+  if public_key_len < 4 {
+    break 'after_23;
   }
-  if public_key > 128 {
-    break 'after_24;
-  }
-  public_key = load64(curve);
-  out = load64(curve.wrapping_add(8));
-  out_len = load64(curve.wrapping_add(16));
-  v11 = load64(curve.wrapping_add(24));
-  v13 = load64(curve.wrapping_add(32));
-  v14 = load64(curve.wrapping_add(40));
-  v15 = load64(curve.wrapping_add(48));
-  store64(v12.wrapping_add(56), load64(curve.wrapping_add(56)));
-  store64(v12.wrapping_add(48), v15);
-  store64(v12.wrapping_add(40), v14);
-  store64(v12.wrapping_add(32), v13);
-  store64(v12.wrapping_add(24), v11);
-  store64(v12.wrapping_add(16), out_len);
-  store64(v12.wrapping_add(8), out);
-  store64(v12, public_key);
-  curve = public_key_len.wrapping_add(0xffffffffffffffc0);
-  public_key = load64(curve);
-  out = load64(curve.wrapping_add(8));
-  out_len = load64(curve.wrapping_add(16));
-  v11 = load64(curve.wrapping_add(24));
-  v12 = load64(curve.wrapping_add(32));
-  v13 = load64(curve.wrapping_add(40));
-  v14 = load64(curve.wrapping_add(48));
-  public_key_len = (v17.wrapping_add(curve_len)).wrapping_add(0xffffffffffffffc0);
-  store64(public_key_len.wrapping_add(56), load64(curve.wrapping_add(56)));
-  store64(public_key_len.wrapping_add(48), v14);
-  store64(public_key_len.wrapping_add(40), v13);
-  store64(public_key_len.wrapping_add(32), v12);
-  store64(public_key_len.wrapping_add(24), v11);
-  store64(public_key_len.wrapping_add(16), out_len);
-  store64(public_key_len.wrapping_add(8), out);
-  store64(public_key_len, public_key);
-  break 'after_23;
-  }
-  public_key_len = curve.wrapping_add(public_key);
-  'after_25: {
-  if public_key < 16 {
-    break 'after_25;
-  }
-  public_key = load64(curve);
-  store64(v12.wrapping_add(8), load64(curve.wrapping_add(8)));
-  store64(v12, public_key);
-  curve = public_key_len.wrapping_add(0xfffffffffffffff0);
-  public_key_len = load64(curve);
-  public_key = (v17.wrapping_add(curve_len)).wrapping_add(0xfffffffffffffff0);
-  store64(public_key.wrapping_add(8), load64(curve.wrapping_add(8)));
-  store64(public_key, public_key_len);
-  break 'after_23;
-  }
-  'after_26: {
-  if public_key < 8 {
-    break 'after_26;
-  }
-  store64(v12, load64(curve));
-  store64((v17.wrapping_add(curve_len)).wrapping_add(0xfffffffffffffff8),
-      load64(public_key_len.wrapping_add(0xfffffffffffffff8)));
-  break 'after_23;
-  }
-  if public_key < 4 {
-    break 'after_24;
-  }
-  store32(v12, load32(curve));
-  store32((v17.wrapping_add(curve_len)).wrapping_add(0xfffffffffffffffc),
-      load32(public_key_len.wrapping_add(0xfffffffffffffffc)));
-  break 'after_23;
-  }
-  'after_27: {
-  if (v12.wrapping_sub(curve)) >= public_key {
-    break 'after_27;
-  }
-  v13 = public_key & 3;
-  public_key_len = 0;
-  'after_28: {
-  if public_key < 4 {
-    break 'after_28;
-  }
-  v19 = public_key & 0xfffffffffffffffc;
-  public_key_len = 0;
-  'again_29: loop {
-  out_len = v12.wrapping_add(public_key_len);
-  v11 = curve.wrapping_add(public_key_len);
-  store8(out_len, (load8(v11) as u32) as u8);
-  store8(out_len.wrapping_add(1), (load8(v11.wrapping_add(1)) as u32) as u8);
-  store8(out_len.wrapping_add(2), (load8(v11.wrapping_add(2)) as u32) as u8);
-  store8(out_len.wrapping_add(3), (load8(v11.wrapping_add(3)) as u32) as u8);
-  public_key_len = public_key_len.wrapping_add(4);
-  if v19 != public_key_len {
-    continue 'again_29;
+  v22 = public_key_len & 0xfffffffffffffffc;
+  v23 =
+      out.wrapping_add((((v19.wrapping_add(v18)).wrapping_add(v17)).wrapping_add(v14)).wrapping_add(curve));
+  out_len = 0;
+  'again_24: loop {
+  public_key_len = v23.wrapping_add(out_len);
+  v15 = curve_len.wrapping_add(out_len);
+  store8(public_key_len.wrapping_add(12), (load8(v15) as u32) as u8);
+  store8(public_key_len.wrapping_add(13), (load8(v15.wrapping_add(1)) as u32) as u8);
+  store8(public_key_len.wrapping_add(14), (load8(v15.wrapping_add(2)) as u32) as u8);
+  store8(public_key_len.wrapping_add(15), (load8(v15.wrapping_add(3)) as u32) as u8);
+  out_len = out_len.wrapping_add(4);
+  if v22 != out_len {
+    continue 'again_24;
   }
   break;
   }
-  if v13 == 0 {
-    break 'after_23;
+  if v16 == 0 {
+    break 'after_18;
   }
   }
-  curve = curve.wrapping_add(public_key_len);
-  public_key_len =
-      out.wrapping_add((((v16.wrapping_add(v15)).wrapping_add(public_key_len)).wrapping_add(v14)).wrapping_sub(public_key));
-  'again_30: loop {
-  store8(public_key_len, (load8(curve) as u32) as u8);
-  public_key_len = public_key_len.wrapping_add(1);
+  public_key_len = public_key.wrapping_add(v12.wrapping_add(out_len));
+  let t0 =
+      (((((v19.wrapping_add(v18)).wrapping_add(v17)).wrapping_add(v14)).wrapping_add(out_len)).wrapping_add(curve)).wrapping_add(out);
+  curve = t0.wrapping_add(12);
+  'again_25: loop {
+  store8(curve, (load8(public_key_len) as u32) as u8);
   curve = curve.wrapping_add(1);
-  v13 = v13.wrapping_add(0xffffffffffffffff);
-  if v13 != 0 {
-    continue 'again_30;
+  public_key_len = public_key_len.wrapping_add(1);
+  v16 = v16.wrapping_add(0xffffffffffffffff);
+  if v16 != 0 {
+    continue 'again_25;
   }
-  break 'after_23;
+  break 'after_18;
   }
   }
-  if public_key == 0 {
-    break 'after_23;
+  if v9 != 0 {
+    break 'after_18;
   }
-  move_(v12, curve, public_key);
+  move_(out_len, curve_len, public_key_len);
   }
-  curve = v18.wrapping_add(0xffffffffffffffff);
-  store8(v17.wrapping_add(curve), (load8(frame.wrapping_add(256)) as u32) as u8);
-  'after_32: {
-  'after_31: {
-  public_key_len = curve_len.wrapping_sub(curve);
+  curve = v21.wrapping_add(0xffffffffffffffff);
+  store8(v20.wrapping_add(curve), 0);
+  'after_27: {
+  'after_26: {
+  public_key_len = v11.wrapping_sub(curve);
   if public_key_len > 127 {
-    break 'after_31;
+    break 'after_26;
   }
-  curve = v18.wrapping_add(0xfffffffffffffffd);
-  store16(v17.wrapping_add(curve), (((public_key_len as u32) << 8) | 3) as u16);
-  break 'after_32;
+  curve = v21.wrapping_add(0xfffffffffffffffd);
+  store16(v20.wrapping_add(curve), (((public_key_len as u32) << 8) | 3) as u16);
+  break 'after_27;
   }
-  let t0 = sec1_der_back_writer_prepend_long_header(v17, curve, 3, public_key_len);
-  curve = t0;
+  let t1 = sec1_der_back_writer_prepend_long_header(v20, curve, 3, public_key_len);
+  curve = t1;
   }
-  store64(frame.wrapping_add(184), curve);
-  pkix_algorithm_AlgorithmIdentifierEncodePart_prepend_part(frame.wrapping_add(192),
-      frame.wrapping_add(168));
-  curve = load64(frame.wrapping_add(168));
-  'after_34: {
-  'after_33: {
-  public_key_len = load64(frame.wrapping_add(184));
-  public_key = curve_len.wrapping_sub(public_key_len);
-  if public_key > 127 {
-    break 'after_33;
+  store64(frame.wrapping_add(96), curve);
+  pkix_algorithm_AlgorithmIdentifierEncodePart_prepend_part(frame.wrapping_add(104),
+      frame.wrapping_add(80));
+  curve = load64(frame.wrapping_add(80));
+  'after_29: {
+  'after_28: {
+  public_key_len = load64(frame.wrapping_add(96));
+  curve_len = v11.wrapping_sub(public_key_len);
+  if curve_len > 127 {
+    break 'after_28;
   }
   store16((curve.wrapping_add(public_key_len)).wrapping_add(0xfffffffffffffffe),
-      (((public_key as u32) << 8) | 48) as u16);
-  break 'after_34;
+      (((curve_len as u32) << 8) | 48) as u16);
+  break 'after_29;
   }
-  sec1_der_back_writer_prepend_long_header(curve, public_key_len, 48, public_key);
+  sec1_der_back_writer_prepend_long_header(curve, public_key_len, 48, curve_len);
   }
-  store64(len, curve_len);
   v8 = 0;
-  break 'after_1;
   }
-  curve = load8(frame.wrapping_add(193)) as u64;
-  }
-  store32(frame.wrapping_add(200), 0);
-  store64(frame.wrapping_add(192), 0);
-  sec1_der_value_element_header_2(frame.wrapping_add(192), frame.wrapping_add(56));
-  'after_35: {
-  if (load8(frame.wrapping_add(192)) as u32) != 0 {
-    break 'after_35;
-  }
-  curve_len = load64(frame.wrapping_add(196));
-  public_key_len = curve_len >> 32;
-  'after_37: {
-  'after_36: {
-  if curve_len >= 0x8000000000 {
-    break 'after_36;
-  }
-  curve_len = 2;
-  break 'after_37;
-  }
-  'after_38: {
-  if curve_len >= 0x10000000000 {
-    break 'after_38;
-  }
-  curve_len = 3;
-  break 'after_37;
-  }
-  'after_39: {
-  if curve_len >= 0x1000000000000 {
-    break 'after_39;
-  }
-  curve_len = 4;
-  break 'after_37;
-  }
-  curve_len = if curve_len < 0x100000000000000 { 5u64 } else { 6u64 };
-  }
-  store64(len, curve_len.wrapping_add(public_key_len));
-  }
-  v8 = load32(constant(48608).wrapping_add(curve << 2));
+  store64(len, v11);
   break 'after_1;
   }
   trap();

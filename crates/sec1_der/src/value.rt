@@ -145,6 +145,7 @@ pub trait Sequence<'a>: DecodeValue<'a> + EncodeValue + FixedTag {
 }
 
 /// Returns the header of the value's element.
+#[inline(always)]
 pub(crate) fn element_header<T: EncodeValue + Tagged>(value: &T) -> Result<Header>
     ensures { MatchResult result
         (λ header. IsTrue (is_tag T.tag_byte) × IsSomeAnd (within_limit (T.content value.now))

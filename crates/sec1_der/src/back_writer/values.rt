@@ -23,6 +23,7 @@ impl<'b> BackWriter<'b> {
     }
 
     /// Prepends the element of a value, for which there is room.
+    #[inline(always)]
     pub fn prepend_element<T: EncodeValue + Tagged>(&mut self, value: &T)
         requires { HasRoom (element_of T.tag_byte (T.content value.now)) self.old }
         ensures { HasPrepended (element_of T.tag_byte (T.content value.now)) self.old self.new }
