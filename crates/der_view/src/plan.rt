@@ -2,7 +2,7 @@
 ghost use Rattle.std.specs.Prelude.{◌≡◌, ◌+◌, ◌<◌, ◌^◌, ◌||◌, false, nat_le};
 ghost use Rattle.std.specs.Prelude.{None, Some, if◌then◌else◌};
 ghost use Rattle.der_view.specs.CountLaws.{capped_left, capped_none, capped_parts};
-ghost use Rattle.der_view.specs.Pictures.{best, better, capped, is_nearer, is_strict, left_as};
+ghost use Rattle.der_view.specs.Pictures.{best, capped, is_nearer, is_strict, left_as};
 ghost use Rattle.der_view.specs.Pictures.{left_in, parts_as, parts_in, plan_of, way_of, whole_as};
 
 use crate::grammar::{Component, ELEMENT, FIRST, Form, OTHERS, Secrecy};
@@ -44,8 +44,7 @@ pub struct Plan {
 pub fn plan_of(bytes: &[u8]) -> Plan
     ensures { result ≡ plan_of bytes.now }
 {
-    let nearest = best(bytes, FIRST, &OTHERS);
-    let shape = shape_as(nearest.0, bytes);
+    let (nearest, shape) = best(bytes, FIRST, shape_as(FIRST.0, bytes), &OTHERS);
     let form = known_as(nearest, shape.is_whole, shape.parts);
     let is_whole = shape.is_whole;
     let is_tree = shape_as(ELEMENT, bytes).is_whole;
@@ -99,28 +98,25 @@ fn is_strict(secrecy: Secrecy, is_whole: bool, is_tree: bool) -> bool
     }
 }
 
-/// Returns the form of these that the fewest of the bytes don't follow; of several the first that
-/// is followed to its end, or else the first.
-#[tactic(auto, unfolding(crate::specs::Pictures::best))]
-fn best(bytes: &[u8], first: Form, others: &[Form]) -> Form
-    ensures { result ≡ best bytes.now first others.now }
+/// Returns the form of these that the fewest of the bytes don't follow, and their shape as it; of
+/// several the first that is followed to its end, or else the first.
+#[tactic(auto, unfolding(crate::specs::Pictures::best, crate::specs::Pictures::better))]
+fn best(bytes: &[u8], first: Form, shape: Shape, others: &[Form]) -> (Form, Shape)
+    requires left { shape.left ≡ left_as first.0 bytes.now }
+    requires parts { shape.parts ≡ parts_as first.0 bytes.now }
+    requires whole { shape.is_whole ≡ whole_as false first.0 bytes.now }
+    ensures form { result.0 ≡ best bytes.now first others.now }
+    ensures parts { result.1.parts ≡ parts_as result.0.0 bytes.now }
+    ensures whole { result.1.is_whole ≡ whole_as false result.0.0 bytes.now }
 {
     let [second, others @ ..] = others else {
-        return first;
+        return (first, shape);
     };
-    best(bytes, better(bytes, first, *second), others)
-}
-
-/// Returns the form of two that fewer bytes don't follow; of two that as many don't, the first,
-/// unless only the second is followed to its end.
-#[tactic(auto, unfolding(crate::specs::Pictures::better))]
-fn better(bytes: &[u8], first: Form, second: Form) -> Form
-    ensures { result ≡ better bytes.now first second }
-{
-    if is_nearer(shape_as(second.0, bytes), shape_as(first.0, bytes)) {
-        second
+    let other = shape_as(second.0, bytes);
+    if is_nearer(other, shape) {
+        best(bytes, *second, other, others)
     } else {
-        first
+        best(bytes, first, shape, others)
     }
 }
 
