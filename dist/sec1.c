@@ -2253,9 +2253,9 @@ static void der_view_text_Sources_new(uint64_t p0, uint64_t p1, uint64_t p2);
 static void der_view_plan_plan_of(uint64_t p0, uint64_t p1, uint64_t p2);
 static uint32_t core_slice_reads_slice_T_contains(uint64_t p0, uint64_t p1, uint64_t p2);
 static void der_view_text_next_block(uint64_t p0, uint64_t p1, uint64_t p2);
-static void der_view_plan_best(uint64_t p0, uint64_t p1, uint64_t p2, uint64_t p3, uint64_t p4,
-    uint64_t p5);
 static void der_view_plan_shape_as(uint64_t p0, uint64_t p1, uint64_t p2, uint64_t p3);
+static void der_view_plan_best(uint64_t p0, uint64_t p1, uint64_t p2, uint64_t p3, uint64_t p4,
+    uint64_t p5, uint64_t p6);
 static void der_view_step_step_by(uint64_t p0, uint32_t p1, uint32_t p2, uint64_t p3,
     uint64_t p4, uint64_t p5, uint64_t p6);
 static void der_view_walk_draw_step_3(uint64_t p0, uint64_t p1, uint64_t p2, uint64_t p3,
@@ -5472,32 +5472,31 @@ static void der_view_plan_plan_of(uint64_t p0, uint64_t p1, uint64_t p2)
   FRAME(208)
   uint32_t v4 = 0, v9 = 0, v10 = 0, v11 = 0, v12 = 0, t0;
   uint64_t v5 = 0, v6 = 0, v7 = 0, v8 = 0, t1;
-  store32(frame + 75, 0);
-  store32(frame + 72, 0);
-  store64(frame + 48, 0);
-  store64(frame + 56, 0);
+  store64(frame + 72, 0);
   store64(frame + 64, 0);
-  store64(frame + 8, 0);
+  store64(frame + 56, 0);
+  store64(frame + 48, 0);
   store64(frame + 16, 0);
   store64(frame + 24, 0);
-  store32(frame + 42, 0x60030);
-  store16(frame + 46, 2560);
-  store32(frame + 32, 0x60030);
-  store16(frame + 36, 2560);
-  store8(frame + 38, 0);
-  der_view_plan_best(frame + 72, p1, p2, frame + 32, CONSTANT(292), 34);
-  der_view_plan_shape_as(frame + 48, frame + 72, p1, p2);
-  store16(frame + 46, 0);
-  store32(frame + 42, 0x80200);
-  v4 = load8(frame + 64);
-  v5 = load64(frame + 56);
-  v6 = load32(frame + 72);
-  v7 = load8(frame + 78);
-  v8 = load16(frame + 76);
-  der_view_plan_shape_as(frame + 8, frame + 42, p1, p2);
+  store64(frame + 32, 0);
+  store8(frame + 47, 0);
+  store16(frame + 45, 2560);
+  store32(frame + 41, 0x60030);
+  store16(frame + 14, 2560);
+  store32(frame + 10, 0x60030);
+  der_view_plan_shape_as(frame + 16, frame + 10, p1, p2);
+  der_view_plan_best(frame + 48, p1, p2, frame + 41, frame + 16, CONSTANT(292), 34);
+  store16(frame + 14, 0);
+  store32(frame + 10, 0x80200);
+  v4 = load8(frame + 72);
+  v5 = load64(frame + 64);
+  v6 = load32(frame + 48);
+  v7 = load8(frame + 54);
+  v8 = load16(frame + 52);
+  der_view_plan_shape_as(frame + 16, frame + 10, p1, p2);
   v6 = v6 | ((v7 << 48) | (v8 << 32));
   v9 = 1;
-  v10 = load8(frame + 24);
+  v10 = load8(frame + 32);
   v11 = v4 | (uint32_t)(v5 > 1);
   if ((v11 & 1u) == 0u)
     goto after_1;
@@ -5539,8 +5538,8 @@ after_6:;
   store32(p0 + 12, 0);
   store8(p0 + 11, (uint8_t)v12);
   store8(p0 + 10, (uint8_t)v10);
-  store8(p0 + 9, (uint8_t)v4);
   store8(p0 + 8, (uint8_t)v9);
+  store8(p0 + 9, (uint8_t)(v4 & 1u));
   t1 = ((v11 & 1u) ? (v6 << 8) : 0ull) | ((uint64_t)v11 & 1);
   store64(p0, t1);
   return;
@@ -6220,68 +6219,6 @@ after_39:;
   return;
 }
 
-/* der_view::plan::best */
-static void der_view_plan_best(uint64_t p0, uint64_t p1, uint64_t p2, uint64_t p3, uint64_t p4,
-    uint64_t p5)
-{
-  FRAME(96)
-  uint32_t v7 = 0, v8 = 0;
-  uint64_t v9 = 0;
-  store32(frame + 11, 0);
-  store32(frame + 8, 0);
-  if (p5 != 0)
-    goto after_1;
-  v7 = load32(p3);
-  v8 = load16(p3 + 4);
-  store8(p0 + 6, (uint8_t)(uint32_t)load8(p3 + 6));
-  store16(p0 + 4, (uint16_t)v8);
-  store32(p0, v7);
-  goto after_2;
-after_1:;
-  store64(frame + 56, 0);
-  store64(frame + 64, 0);
-  store64(frame + 72, 0);
-  store64(frame + 24, 0);
-  store64(frame + 32, 0);
-  store64(frame + 40, 0);
-  store32(frame + 88, load32(p3));
-  store32(frame + 91, load32(p3 + 3));
-  v7 = load32(p4);
-  store32(frame + 80, v7);
-  store32(frame + 83, load32(p4 + 3));
-  store32(frame + 48, v7);
-  store16(frame + 52, (uint16_t)(uint32_t)load16(p4 + 4));
-  der_view_plan_shape_as(frame + 56, frame + 48, p1, p2);
-  der_view_plan_shape_as(frame + 24, frame + 88, p1, p2);
-  p3 = p5 + 0xffffffffffffffff;
-  p4 = p4 + 7;
-  p5 = load64(frame + 56);
-  v9 = load64(frame + 24);
-  if (p5 < v9)
-    goto after_3;
-  if (p5 != v9)
-    goto after_4;
-  if (((uint32_t)load8(frame + 72) & 1u) == 0u)
-    goto after_4;
-  if ((uint32_t)load8(frame + 40) & 1u)
-    goto after_4;
-after_3:;
-  store32(frame + 19, load32(frame + 83));
-  store32(frame + 16, load32(frame + 80));
-  goto after_5;
-after_4:;
-  store32(frame + 19, load32(frame + 91));
-  store32(frame + 16, load32(frame + 88));
-after_5:;
-  store32(frame + 3, load32(frame + 19));
-  store32(frame, load32(frame + 16));
-  der_view_plan_best(frame + 8, p1, p2, frame, p4, p3);
-  store32(p0 + 3, load32(frame + 11));
-  store32(p0, load32(frame + 8));
-after_2:;
-  return;
-}
-
 /* der_view::plan::shape_as */
 static void der_view_plan_shape_as(uint64_t p0, uint64_t p1, uint64_t p2, uint64_t p3)
 {
@@ -6330,6 +6267,72 @@ after_2:;
   store64(p0 + 8, load64(frame + 40));
   store64(p0, load64(frame + 32));
   store32(p0 + 20, 0);
+}
+
+/* der_view::plan::best */
+static void der_view_plan_best(uint64_t p0, uint64_t p1, uint64_t p2, uint64_t p3, uint64_t p4,
+    uint64_t p5, uint64_t p6)
+{
+  FRAME(128)
+  uint64_t v8 = 0;
+  store32(frame + 99, load32(p3 + 3));
+  store32(frame + 96, load32(p3));
+  store64(frame + 72, load64(p4));
+  store64(frame + 80, load64(p4 + 8));
+  store64(frame + 88, load64(p4 + 16));
+  store64(frame + 64, 0);
+  store64(frame + 56, 0);
+  store64(frame + 48, 0);
+  store64(frame + 8, 0);
+  store64(frame + 16, 0);
+  store64(frame + 24, 0);
+  store64(frame + 32, 0);
+  if (p6 != 0)
+    goto after_1;
+  p6 = load8(p3 + 6);
+  p2 = load16(p3 + 4);
+  p1 = load32(p3);
+  p3 = load64(p4 + 16);
+  p5 = load64(p4);
+  p4 = load64(p4 + 8);
+  store64(p0 + 16, p4);
+  store64(p0 + 8, p5);
+  store64(p0 + 24, p3);
+  store64(p0, p1 | ((p6 << 48) | (p2 << 32)));
+  store64(frame + 104, p5);
+  store64(frame + 112, p4);
+  store64(frame + 120, p3);
+  goto after_2;
+after_1:;
+  store16(frame + 44, (uint16_t)(uint32_t)load16(p5 + 4));
+  store32(frame + 40, load32(p5));
+  der_view_plan_shape_as(frame + 48, frame + 40, p1, p2);
+  p4 = p6 + 0xffffffffffffffff;
+  p3 = p5 + 7;
+  p6 = load64(frame + 48);
+  v8 = load64(frame + 72);
+  if (p6 < v8)
+    goto after_3;
+  if (p6 != v8)
+    goto after_4;
+  if (((uint32_t)load8(frame + 64) & 1u) == 0u)
+    goto after_4;
+  if ((uint32_t)load8(frame + 88) & 1u)
+    goto after_4;
+after_3:;
+  store32(frame + 3, load32(p5 + 3));
+  store32(frame, load32(p5));
+  der_view_plan_best(frame + 8, p1, p2, frame, frame + 48, p3, p4);
+  goto after_5;
+after_4:;
+  der_view_plan_best(frame + 8, p1, p2, frame + 96, frame + 72, p3, p4);
+after_5:;
+  store64(p0 + 24, load64(frame + 32));
+  store64(p0 + 16, load64(frame + 24));
+  store64(p0 + 8, load64(frame + 16));
+  store64(p0, load64(frame + 8));
+after_2:;
+  return;
 }
 
 /* der_view::step::step_by */

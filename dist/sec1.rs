@@ -6158,32 +6158,32 @@ unsafe fn der_view_plan_plan_of(p0: u64, p1: u64, p2: u64) {
   let mut v10 = 0u32;
   let mut v11 = 0u32;
   let mut v12 = 0u32;
-  store32(frame.wrapping_add(75), 0);
-  store32(frame.wrapping_add(72), 0);
-  store64(frame.wrapping_add(48), 0);
-  store64(frame.wrapping_add(56), 0);
+  store64(frame.wrapping_add(72), 0);
   store64(frame.wrapping_add(64), 0);
-  store64(frame.wrapping_add(8), 0);
+  store64(frame.wrapping_add(56), 0);
+  store64(frame.wrapping_add(48), 0);
   store64(frame.wrapping_add(16), 0);
   store64(frame.wrapping_add(24), 0);
-  store32(frame.wrapping_add(42), 0x60030);
-  store16(frame.wrapping_add(46), 2560);
-  store32(frame.wrapping_add(32), 0x60030);
-  store16(frame.wrapping_add(36), 2560);
-  store8(frame.wrapping_add(38), 0);
-  der_view_plan_best(frame.wrapping_add(72), p1, p2, frame.wrapping_add(32), constant(292), 34);
-  der_view_plan_shape_as(frame.wrapping_add(48), frame.wrapping_add(72), p1, p2);
-  store16(frame.wrapping_add(46), 0);
-  store32(frame.wrapping_add(42), 0x80200);
-  v4 = load8(frame.wrapping_add(64)) as u32;
-  v5 = load64(frame.wrapping_add(56));
-  v6 = load32(frame.wrapping_add(72)) as u64;
-  v7 = load8(frame.wrapping_add(78)) as u64;
-  v8 = load16(frame.wrapping_add(76)) as u64;
-  der_view_plan_shape_as(frame.wrapping_add(8), frame.wrapping_add(42), p1, p2);
+  store64(frame.wrapping_add(32), 0);
+  store8(frame.wrapping_add(47), 0);
+  store16(frame.wrapping_add(45), 2560);
+  store32(frame.wrapping_add(41), 0x60030);
+  store16(frame.wrapping_add(14), 2560);
+  store32(frame.wrapping_add(10), 0x60030);
+  der_view_plan_shape_as(frame.wrapping_add(16), frame.wrapping_add(10), p1, p2);
+  der_view_plan_best(frame.wrapping_add(48), p1, p2, frame.wrapping_add(41),
+      frame.wrapping_add(16), constant(292), 34);
+  store16(frame.wrapping_add(14), 0);
+  store32(frame.wrapping_add(10), 0x80200);
+  v4 = load8(frame.wrapping_add(72)) as u32;
+  v5 = load64(frame.wrapping_add(64));
+  v6 = load32(frame.wrapping_add(48)) as u64;
+  v7 = load8(frame.wrapping_add(54)) as u64;
+  v8 = load16(frame.wrapping_add(52)) as u64;
+  der_view_plan_shape_as(frame.wrapping_add(16), frame.wrapping_add(10), p1, p2);
   v6 = v6 | ((v7 << 48) | (v8 << 32));
   v9 = 1;
-  v10 = load8(frame.wrapping_add(24)) as u32;
+  v10 = load8(frame.wrapping_add(32)) as u32;
   'after_3: {
   'after_1: {
   v11 = v4 | (u32::from(v5 > 1));
@@ -6239,8 +6239,8 @@ unsafe fn der_view_plan_plan_of(p0: u64, p1: u64, p2: u64) {
   store32(p0.wrapping_add(12), 0);
   store8(p0.wrapping_add(11), v12 as u8);
   store8(p0.wrapping_add(10), v10 as u8);
-  store8(p0.wrapping_add(9), v4 as u8);
   store8(p0.wrapping_add(8), v9 as u8);
+  store8(p0.wrapping_add(9), (v4 & 1) as u8);
   let t1 = (if (v11 & 1) != 0 { v6 << 8 } else { 0u64 }) | ((v11 as u64) & 1);
   store64(p0, t1);
   return;
@@ -7157,78 +7157,6 @@ unsafe fn der_view_text_next_block(p0: u64, mut p1: u64, p2: u64) {
   return;
 }
 
-// der_view::plan::best
-unsafe fn der_view_plan_best(p0: u64, p1: u64, p2: u64, mut p3: u64, mut p4: u64, mut p5: u64) {
-  let mut array = Frame::<96>::new();
-  let frame = address(&raw mut array);
-  let mut v7 = 0u32;
-  let mut v8 = 0u32;
-  let mut v9 = 0u64;
-  store32(frame.wrapping_add(11), 0);
-  store32(frame.wrapping_add(8), 0);
-  'after_2: {
-  'after_1: {
-  if p5 != 0 {
-    break 'after_1;
-  }
-  v7 = load32(p3);
-  v8 = load16(p3.wrapping_add(4)) as u32;
-  store8(p0.wrapping_add(6), (load8(p3.wrapping_add(6)) as u32) as u8);
-  store16(p0.wrapping_add(4), v8 as u16);
-  store32(p0, v7);
-  break 'after_2;
-  }
-  store64(frame.wrapping_add(56), 0);
-  store64(frame.wrapping_add(64), 0);
-  store64(frame.wrapping_add(72), 0);
-  store64(frame.wrapping_add(24), 0);
-  store64(frame.wrapping_add(32), 0);
-  store64(frame.wrapping_add(40), 0);
-  store32(frame.wrapping_add(88), load32(p3));
-  store32(frame.wrapping_add(91), load32(p3.wrapping_add(3)));
-  v7 = load32(p4);
-  store32(frame.wrapping_add(80), v7);
-  store32(frame.wrapping_add(83), load32(p4.wrapping_add(3)));
-  store32(frame.wrapping_add(48), v7);
-  store16(frame.wrapping_add(52), (load16(p4.wrapping_add(4)) as u32) as u16);
-  der_view_plan_shape_as(frame.wrapping_add(56), frame.wrapping_add(48), p1, p2);
-  der_view_plan_shape_as(frame.wrapping_add(24), frame.wrapping_add(88), p1, p2);
-  p3 = p5.wrapping_add(0xffffffffffffffff);
-  p4 = p4.wrapping_add(7);
-  'after_5: {
-  'after_4: {
-  'after_3: {
-  p5 = load64(frame.wrapping_add(56));
-  v9 = load64(frame.wrapping_add(24));
-  if p5 < v9 {
-    break 'after_3;
-  }
-  if p5 != v9 {
-    break 'after_4;
-  }
-  if ((load8(frame.wrapping_add(72)) as u32) & 1) == 0 {
-    break 'after_4;
-  }
-  if ((load8(frame.wrapping_add(40)) as u32) & 1) != 0 {
-    break 'after_4;
-  }
-  }
-  store32(frame.wrapping_add(19), load32(frame.wrapping_add(83)));
-  store32(frame.wrapping_add(16), load32(frame.wrapping_add(80)));
-  break 'after_5;
-  }
-  store32(frame.wrapping_add(19), load32(frame.wrapping_add(91)));
-  store32(frame.wrapping_add(16), load32(frame.wrapping_add(88)));
-  }
-  store32(frame.wrapping_add(3), load32(frame.wrapping_add(19)));
-  store32(frame, load32(frame.wrapping_add(16)));
-  der_view_plan_best(frame.wrapping_add(8), p1, p2, frame, p4, p3);
-  store32(p0.wrapping_add(3), load32(frame.wrapping_add(11)));
-  store32(p0, load32(frame.wrapping_add(8)));
-  }
-  return;
-}
-
 // der_view::plan::shape_as
 unsafe fn der_view_plan_shape_as(p0: u64, mut p1: u64, mut p2: u64, mut p3: u64) {
   let mut array = Frame::<240>::new();
@@ -7285,6 +7213,83 @@ unsafe fn der_view_plan_shape_as(p0: u64, mut p1: u64, mut p2: u64, mut p3: u64)
   store64(p0.wrapping_add(8), load64(frame.wrapping_add(40)));
   store64(p0, load64(frame.wrapping_add(32)));
   store32(p0.wrapping_add(20), 0);
+}
+
+// der_view::plan::best
+unsafe fn der_view_plan_best(p0: u64, mut p1: u64, mut p2: u64, mut p3: u64, mut p4: u64,
+    mut p5: u64, mut p6: u64) {
+  let mut array = Frame::<128>::new();
+  let frame = address(&raw mut array);
+  let mut v8 = 0u64;
+  store32(frame.wrapping_add(99), load32(p3.wrapping_add(3)));
+  store32(frame.wrapping_add(96), load32(p3));
+  store64(frame.wrapping_add(72), load64(p4));
+  store64(frame.wrapping_add(80), load64(p4.wrapping_add(8)));
+  store64(frame.wrapping_add(88), load64(p4.wrapping_add(16)));
+  store64(frame.wrapping_add(64), 0);
+  store64(frame.wrapping_add(56), 0);
+  store64(frame.wrapping_add(48), 0);
+  store64(frame.wrapping_add(8), 0);
+  store64(frame.wrapping_add(16), 0);
+  store64(frame.wrapping_add(24), 0);
+  store64(frame.wrapping_add(32), 0);
+  'after_2: {
+  'after_1: {
+  if p6 != 0 {
+    break 'after_1;
+  }
+  p6 = load8(p3.wrapping_add(6)) as u64;
+  p2 = load16(p3.wrapping_add(4)) as u64;
+  p1 = load32(p3) as u64;
+  p3 = load64(p4.wrapping_add(16));
+  p5 = load64(p4);
+  p4 = load64(p4.wrapping_add(8));
+  store64(p0.wrapping_add(16), p4);
+  store64(p0.wrapping_add(8), p5);
+  store64(p0.wrapping_add(24), p3);
+  store64(p0, p1 | ((p6 << 48) | (p2 << 32)));
+  store64(frame.wrapping_add(104), p5);
+  store64(frame.wrapping_add(112), p4);
+  store64(frame.wrapping_add(120), p3);
+  break 'after_2;
+  }
+  store16(frame.wrapping_add(44), (load16(p5.wrapping_add(4)) as u32) as u16);
+  store32(frame.wrapping_add(40), load32(p5));
+  der_view_plan_shape_as(frame.wrapping_add(48), frame.wrapping_add(40), p1, p2);
+  p4 = p6.wrapping_add(0xffffffffffffffff);
+  p3 = p5.wrapping_add(7);
+  'after_5: {
+  'after_4: {
+  'after_3: {
+  p6 = load64(frame.wrapping_add(48));
+  v8 = load64(frame.wrapping_add(72));
+  if p6 < v8 {
+    break 'after_3;
+  }
+  if p6 != v8 {
+    break 'after_4;
+  }
+  if ((load8(frame.wrapping_add(64)) as u32) & 1) == 0 {
+    break 'after_4;
+  }
+  if ((load8(frame.wrapping_add(88)) as u32) & 1) != 0 {
+    break 'after_4;
+  }
+  }
+  store32(frame.wrapping_add(3), load32(p5.wrapping_add(3)));
+  store32(frame, load32(p5));
+  der_view_plan_best(frame.wrapping_add(8), p1, p2, frame, frame.wrapping_add(48), p3, p4);
+  break 'after_5;
+  }
+  der_view_plan_best(frame.wrapping_add(8), p1, p2, frame.wrapping_add(96),
+      frame.wrapping_add(72), p3, p4);
+  }
+  store64(p0.wrapping_add(24), load64(frame.wrapping_add(32)));
+  store64(p0.wrapping_add(16), load64(frame.wrapping_add(24)));
+  store64(p0.wrapping_add(8), load64(frame.wrapping_add(16)));
+  store64(p0, load64(frame.wrapping_add(8)));
+  }
+  return;
 }
 
 // der_view::step::step_by
