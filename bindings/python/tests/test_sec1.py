@@ -1203,6 +1203,7 @@ class Program(unittest.TestCase):
                 (["--all", four], b"", 0, all_shown, ""),
                 ([four, "--all"], b"", 0, all_shown, ""),
                 ([], b"", 1, "The input is empty.\n", ""),
+                (["--all"], drawn[1][0], 0, all_shown, ""),
                 ([], drawn[3][0], 1, cut_shown, ""),
                 (["-"], drawn[0][0], 0, shown, ""),
                 (["--all", "-"], drawn[1][0], 0, all_shown, ""),
