@@ -259,6 +259,9 @@ FAULTS = [
     ("_library.py", "return line.value, status, data", "return 1, status, data"),
     # the program
     ("__main__.py", "json=as_json", "json=False"),
+    ("__main__.py", "json=as_json", "json=True"),
+    ("__main__.py", "drawn(path, given.all, given.json, path)", 'drawn(path, given.all, given.json, "")'),
+    ("__main__.py", "drawn(path, given.all, given.json, path)", "drawn(path, given.all, given.json, os.path.basename(path))"),
     ("__main__.py", "file=os.fsencode(file)", 'file=b""'),
     ("__main__.py", "file=os.fsencode(file)", "file=os.fsencode(path)"),
     ("__main__.py", "file=os.fsencode(file)", "file=os.fsencode(escaped(file))"),
