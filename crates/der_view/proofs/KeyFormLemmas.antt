@@ -1,5 +1,6 @@
 -- A key is an ECPrivateKey, whole, and each of its elements follows.
-use Rattle.std.proofs.Common.{◌≡◌, ℕ, zero, suc, ◌+◌, ◌-◌, ◌≤◌, ◌&&◌, not, inl, Bool, true, false, List, [], ◌∷◌, ◌++◌}
+use Rattle.std.proofs.Common.{◌≡◌, ℕ, zero, suc, ◌+◌, ◌-◌, ◌≤◌, ◌&&◌, not, inl, Bool, true, false, List, [], ◌∷◌}
+use Rattle.std.proofs.Common.{◌++◌}
 use Rattle.std.proofs.Common.{length, refl, sym, ap, ◌∙◌, Option, Some, None, arith, eq-eqb, append_assoc, subst}
 use Rattle.std.proofs.Common.{take, ◌==◌}
 use Rattle.std.proofs.lemmas.Bool.Decides.{nat_tests}
@@ -15,13 +16,15 @@ use Rattle.sec1_der.specs.Identifiers.{content_of}
 use Rattle.der_view.specs.Grammar.{Component, Form, components, key_components}
 use Rattle.der_view.specs.Headers.{max_content_len}
 use Rattle.der_view.specs.Keys.{IsContent, is_low, root_bytes}
-use Rattle.der_view.specs.Pictures.{best, better, capped, ended_by, first_place, is_nearer, known_as, left_as, left_in}
+use Rattle.der_view.specs.Pictures.{best, better, capped, ended_by, first_place, is_nearer, known_as, left_as}
+use Rattle.der_view.specs.Pictures.{left_in}
 use Rattle.der_view.specs.Pictures.{nearest, picture, plan_of, root_step, rows_as, rows_by, strictly, whole_as}
 use Rattle.der_view.specs.RowLaws.{AllFollow}
 use Rattle.der_view.specs.Rows.{Element, EndOfContents, How, NotDrawn, Row, Step, admits, after, after_inside, around}
 use Rattle.der_view.specs.Rows.{component_at}
-use Rattle.der_view.specs.Rows.{end_at, end_rows, fitting, inside, inside_loose, is_open, may_end, next_rows}
-use Rattle.der_view.specs.Rows.{opened_in, opened_of, rest_after, rest_next, rest_of, rows_of, step_at, step_by}
+use Rattle.der_view.specs.Rows.{end_at, end_rows, fitting, inside, inside_bytes, inside_loose, is_open, may_end}
+use Rattle.der_view.specs.Rows.{next_rows, opened_in, opened_of, rest_after, rest_next, rest_of, rows_of, step_at}
+use Rattle.der_view.specs.Rows.{step_by}
 use Rattle.der_view.specs.Rows.{step_made, step_rows}
 use Rattle.der_view.specs.Rows.{step_with}
 use Rattle.der_view.specs.declared.grammar.Content.{Content}
@@ -67,6 +70,7 @@ strict_inside (contents.Of family) = refl
 strict_inside contents.Point = refl
 strict_inside (contents.Inside s) = refl
 strict_inside (contents.Whole s) = refl
+strict_inside (contents.Bits s) = refl
 strict_inside contents.Free = refl
 
 -- an element that isn't drawn loosely follows
@@ -145,26 +149,26 @@ element_follow small most place some step rest follows is inner =
         rw some' (
           follows,
           subst (λ (l : Bool). AllFollow (rows_of (hidden l small) most (is_open step)
-              (inside place step) (components s) step.content)) (sym (strict_inside step.component.2))
-              (by_rest (rest_of false most (place.depth + 1) (is_open step) (components s) step.content) refl),
+              (inside place step) (components s) (inside_bytes step))) (sym (strict_inside step.component.2))
+              (by_rest (rest_of false most (place.depth + 1) (is_open step) (components s) (inside_bytes step)) refl),
         )
       where
         known : after_inside (is_open step) step.rest
             (rest_of (inside_loose step.component.2 false) most (place.depth + 1) (is_open step) (components s)
-            step.content) ≡ Some rest
+            (inside_bytes step)) ≡ Some rest
         known =
             let same : rest_after false most (place.depth + 1) step
             ≡ after_inside (is_open step) step.rest (rest_of (inside_loose step.component.2 false) most
-            (place.depth + 1) (is_open step) (components s) step.content) = rw some' refl in
+            (place.depth + 1) (is_open step) (components s) (inside_bytes step)) = rw some' refl in
             sym same ∙ is
 
         by_rest : (o : Option (List ℕ))
-            → rest_of false most (place.depth + 1) (is_open step) (components s) step.content ≡ o
-            → AllFollow (rows_of how most (is_open step) (inside place step) (components s) step.content)
-        by_rest (Some r) e = inner (is_open step) (inside place step) (components s) step.content r e
+            → rest_of false most (place.depth + 1) (is_open step) (components s) (inside_bytes step) ≡ o
+            → AllFollow (rows_of how most (is_open step) (inside place step) (components s) (inside_bytes step))
+        by_rest (Some r) e = inner (is_open step) (inside place step) (components s) (inside_bytes step) r e
         by_rest None e =
             absurd (cc (sym (ap (λ (l : Bool). after_inside (is_open step) step.rest (rest_of l most (place.depth + 1)
-            (is_open step) (components s) step.content)) (strict_inside step.component.2)
+            (is_open step) (components s) (inside_bytes step))) (strict_inside step.component.2)
             ∙ ap (λ (o : Option (List ℕ)). after_inside (is_open step) step.rest o) e) ∙ known))
 
 level_follow : (small : Bool) (most : ℕ) (marked : Bool) (place : Place) (some : List Component) (bytes r : List ℕ)

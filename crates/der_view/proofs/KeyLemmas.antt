@@ -4,7 +4,8 @@ use Rattle.std.proofs.Common.{◌∷◌, ◌++◌, length, take, drop, refl, sym
 use Rattle.std.proofs.Common.{length-append, append_assoc, append-nil, take-append-drop, ⊎_elim, ◌⊎◌, subst}
 use Rattle.std.proofs.lemmas.Bool.{and_parts, cases_lt}
 use Rattle.std.proofs.lemmas.Bool.Decides.{nat_tests}
-use Rattle.std.proofs.lemmas.List.{length-take-le, take_at, drop_at}
+use Rattle.std.proofs.lemmas.List.{length-take-le, take_all, take_at, drop_at}
+use Rattle.std.specs.Option.{is_some}
 use Rattle.std.specs.Prelude.{if◌then◌else◌, is_none, nat_lt}
 use Rattle.sec1_der.specs.Elements.{element, header}
 use Rattle.der_view.specs.Contents.{has_type, is_number, is_primitive, is_small, is_there, is_whole, shown_len}
@@ -19,7 +20,8 @@ use Rattle.der_view.specs.Masks.{undrawn}
 use Rattle.der_view.specs.Pictures.{best, better, known_as, left_as, nearest, parts_as, plan_of, root_of, root_step}
 use Rattle.der_view.specs.Pictures.{whole_as}
 use Rattle.der_view.specs.Rows.{Step, admits, component_at, element_at, end_at, fitting, has_tag, may_end}
-use Rattle.der_view.specs.Rows.{after_inside, inside_loose, opened_of, rest_after, rest_of, step_by, step_with}
+use Rattle.der_view.specs.Rows.{after_inside, inside_loose, is_followed, opened_in, opened_of, rest_after, rest_of}
+use Rattle.der_view.specs.Rows.{step_by, step_with}
 use Rattle.der_view.specs.declared.grammar.Content.{Content}
 use Rattle.der_view.specs.declared.grammar.Content.TheVariants as contents
 use Rattle.der_view.specs.declared.grammar.TheConstants as elements
@@ -30,7 +32,9 @@ use Rattle.der_view.specs.declared.plan.Plan.{Plan}
 use Rattle.der_view.specs.declared.plan.Way.{Way}
 use Rattle.der_view.specs.declared.plan.Way.TheVariants as ways
 use Rattle.der_view.proofs.DerLemmas.{IsHead, der_header, head_in_der}
-use Rattle.der_view.proofs.SameLemmas.{AreInside, Begins, SameContent, any, content_alike, inside_content, no_level}
+use Rattle.der_view.proofs.RestLemmas.{mask_stop}
+use Rattle.der_view.proofs.SameLemmas.{AreInside, Begins, SameContent, any, closed_alike, content_alike}
+use Rattle.der_view.proofs.SameLemmas.{inside_content, no_level, whole_len}
 use Rattle.der_view.proofs.SameLemmas.{no_next, none_masked, same_content, step_as, steps_masked, unseen_len}
 
 pub undrawn_same : (a b : List ℕ) → length a ≡ length b → undrawn a ≡ undrawn b
@@ -314,9 +318,13 @@ passing loose small holds (part ∷ parts) (suc most) depth some s t (low, few, 
 abbrev is_hidden : Content → Bool
 is_hidden k = inside_content (λ s. false) k
 
+-- whether this holds of the content of an element, if that follows
+abbrev content_at : (Content → Bool) → Option (Component × List Component) → Bool
+content_at fine None = true
+content_at fine (Some found) = fine found.0.2
+
 abbrev hidden_at : Option (Component × List Component) → Bool
-hidden_at None = true
-hidden_at (Some found) = is_hidden found.0.2
+hidden_at found = content_at is_hidden found
 
 -- A primitive element of this tag and length isn't small.
 pub record IsUnseen (tag n : ℕ) : Type 0 where
@@ -369,19 +377,23 @@ key_content loose small most depth tag n c x y low few unseen size is =
     content_alike loose small most depth (der_header tag n) c x y (λ s. false)
     (key_inside small most depth tag n x y low few unseen size) is
 
-last_alike : (loose small : Bool) (most depth : ℕ) (some : List Component) (tag n : ℕ) (x y : List ℕ)
-    → is_low tag ≡ true → IsUnseen tag n → DifferIn n x y → hidden_at (fitting tag some) ≡ true
+-- an element of n bytes, or as far as it is there: its content is masked alike as each component of which this holds
+last_as : (loose small : Bool) (fine : Content → Bool) (most depth : ℕ) (some : List Component) (tag n : ℕ)
+    (x y : List ℕ) → is_low tag ≡ true → DifferIn n x y
+    → ((k d : ℕ) (c : Component) (a b : List ℕ) → a ≡ take n x → b ≡ take n y → length a ≡ length b → fine c.2 ≡ true
+    → SameContent loose small k d (der_header tag n) c a b)
+    → fine elements.ELEMENT.2 ≡ true → content_at fine (fitting tag some) ≡ true
     → masked loose small most depth false some (header tag n ++ x)
     ≡ masked loose small most depth false some (header tag n ++ y)
-last_alike loose small zero depth some tag n x y low unseen differ is =
+last_as loose small fine zero depth some tag n x y low differ same free is =
     undrawn_same (header tag n ++ x) (header tag n ++ y) (append_len (header tag n) x y differ.len)
-last_alike loose small (suc most) depth some tag n x y low unseen differ is =
+last_as loose small fine (suc most) depth some tag n x y low differ same free is =
     ⊎_elim (λ (short : length x < n). cut loose refl short)
     (λ (fits : n ≤ length x).
     let more : n ≤ length y = omega (arith, fits, differ.len) in
     let one : length (take n x) ≡ n = length-take-le n x fits in
     let two : length (take n y) ≡ n = length-take-le n y more in
-    there (take n x) (take n y) (drop n x) (drop n y) one two differ.after (take-append-drop n x)
+    there (take n x) (take n y) (drop n x) (drop n y) refl refl one two differ.after (take-append-drop n x)
     (take-append-drop n y))
     (cases_lt (length x) n)
   where
@@ -391,13 +403,14 @@ last_alike loose small (suc most) depth some tag n x y low unseen differ is =
     found : Header
     found = der_header tag n
 
-    fit : (c : Component) (others : List Component) → fitting tag some ≡ Some (c, others) → is_hidden c.2 ≡ true
-    fit c others at = ap (λ (o : Option (Component × List Component)). hidden_at o) (sym at) ∙ is
+    fit : (c : Component) (others : List Component) → fitting tag some ≡ Some (c, others) → fine c.2 ≡ true
+    fit c others at = ap (λ (o : Option (Component × List Component)). content_at fine o) (sym at) ∙ is
 
-    there : (a b s t : List ℕ) → length a ≡ n → length b ≡ n → s ≡ t → a ++ s ≡ x → b ++ t ≡ y
+    there : (a b s t : List ℕ) → a ≡ take n x → b ≡ take n y → length a ≡ n → length b ≡ n → s ≡ t → a ++ s ≡ x
+        → b ++ t ≡ y
         → masked loose small (suc most) depth false some (front ++ x)
         ≡ masked loose small (suc most) depth false some (front ++ y)
-    there a b s t one two rest first second =
+    there a b s t p q one two rest first second =
         let h = head_in_der tag n low differ.few in
         let size : length a ≡ length b = one ∙ sym two in
         let len : length s ≡ length t = ap length rest in
@@ -407,11 +420,11 @@ last_alike loose small (suc most) depth some tag n x y low unseen differ is =
         (begins_as loose tag n front (b ++ t) b t found h (element_there loose tag n front b t found h two)) len
         (append_len front (a ++ s) (b ++ t) (both_len a b s t size len))
         (λ c others at. (
-          key_content loose small most (depth + 1) tag n c a b low differ.few unseen size (fit c others at),
+          same most (depth + 1) c a b p q size (fit c others at),
           ap (λ (z : List ℕ). masked loose small most depth false others z) rest,
         ))
         (λ may. (
-          key_content loose small most (depth + 1) tag n elements.ELEMENT a b low differ.few unseen size refl,
+          same most (depth + 1) elements.ELEMENT a b p q size free,
           ap (λ (z : List ℕ). masked loose small most depth false any z) rest,
         ))
         ∙ ap (λ (z : List ℕ). masked loose small (suc most) depth false some (front ++ z)) second)
@@ -426,6 +439,8 @@ last_alike loose small (suc most) depth some tag n x y low unseen differ is =
     cut true may short =
         let h = head_in_der tag n low differ.few in
         let other : length y < n = omega (arith, differ.len, short) in
+        let p : x ≡ take n x = sym (take_all n x (omega (arith, short))) in
+        let q : y ≡ take n y = sym (take_all n y (omega (arith, other))) in
         let first = (element_cut tag n front x found h short).0 in
         let second = (element_cut tag n front y found h other).0 in
         element_alike loose small most depth some tag front found (front ++ x) (front ++ y) x y [] []
@@ -434,15 +449,8 @@ last_alike loose small (suc most) depth some tag n x y low unseen differ is =
         (begins_as loose tag n front y y [] found h
         (ap (λ (l : Bool). element_at l (front ++ y)) may ∙ second)) refl
         (append_len front x y differ.len)
-        (λ c others at. (
-          key_content loose small most (depth + 1) tag n c x y low differ.few unseen differ.len
-              (fit c others at),
-          refl,
-        ))
-        (λ m. (
-          key_content loose small most (depth + 1) tag n elements.ELEMENT x y low differ.few unseen differ.len refl,
-          refl,
-        ))
+        (λ c others at. (same most (depth + 1) c x y p q differ.len (fit c others at), refl))
+        (λ m. (same most (depth + 1) elements.ELEMENT x y p q differ.len free, refl))
     cut false strict short =
         let h = head_in_der tag n low differ.few in
         let other : length y < n = omega (arith, differ.len, short) in
@@ -457,6 +465,14 @@ last_alike loose small (suc most) depth some tag n x y low unseen differ is =
         none_masked loose small most depth some (front ++ x) (front ++ y)
         (ends x h) (ends y h) (no_next loose depth some (front ++ x) one) (no_next loose depth some (front ++ y) two)
         (append_len front x y differ.len)
+
+last_alike : (loose small : Bool) (most depth : ℕ) (some : List Component) (tag n : ℕ) (x y : List ℕ)
+    → is_low tag ≡ true → IsUnseen tag n → DifferIn n x y → hidden_at (fitting tag some) ≡ true
+    → masked loose small most depth false some (header tag n ++ x)
+    ≡ masked loose small most depth false some (header tag n ++ y)
+last_alike loose small most depth some tag n x y low unseen differ is =
+    last_as loose small is_hidden most depth some tag n x y low differ
+    (λ k d c a b one two size fine. key_content loose small k d tag n c a b low differ.few unseen size fine) refl is
 
 -- ---- a private element inside elements
 
@@ -608,3 +624,62 @@ key_alike (level ∷ levels) loose small before tag n x y most depth some (are, 
     (element level.tag a ++ level.after) (element level.tag b ++ level.after) are
     (both_len (element level.tag a) (element level.tag b) level.after level.after (element_len level.tag a b size) refl)
     each (λ least. each least any (rw (any_fits level.tag) refl)) is
+
+-- ---- a private element with one in it that doesn't end there
+
+-- no structure is followed to its end in these bytes
+abbrev pub Unfollowed : List ℕ → Type 0
+Unfollowed x = (most depth : ℕ) (s : Structure) → is_followed most depth s x ≡ false
+
+pub cut_unfollowed : (tag k : ℕ) (x : List ℕ) → is_low tag ≡ true → k ≤ max_content_len → length x < k
+    → Unfollowed (header tag k ++ x)
+cut_unfollowed tag k x low few short zero depth s = refl
+cut_unfollowed tag k x low few short (suc most) depth s =
+    let front : List ℕ = header tag k in
+    let h = head_in_der tag k low few in
+    let end : end_at false false (components s) (front ++ x) ≡ None =
+    ap (λ (w : List ℕ). end_at false false (components s) (w ++ x)) h.begins
+    ∙ closed_none false (components s) tag (h.tail ++ x) in
+    let step : step_by false false (components s) (front ++ x) ≡ None =
+    step_front false false (components s) tag k front x (der_header tag k) None h
+    (element_cut tag k front x (der_header tag k) h short).1 in
+    ap (λ (o : Option (List ℕ)). is_some o)
+    (mask_stop false false most depth false (components s) (front ++ x) end
+    (no_next false depth (components s) (front ++ x) step)).1
+
+-- whether a content is hidden, unless it follows a structure to its end
+abbrev is_shut : Content → Bool
+is_shut (contents.Whole s) = true
+is_shut k = is_hidden k
+
+shut_content : (loose small : Bool) (most depth tag n : ℕ) (c : Component) (x y : List ℕ) → is_low tag ≡ true
+    → n ≤ max_content_len → IsUnseen tag n → length x ≡ length y → Unfollowed x → Unfollowed y → is_shut c.2 ≡ true
+    → SameContent loose small most depth (der_header tag n) c x y
+unfolding opened_in admits
+shut_content loose small most depth tag n (g, p, contents.Whole u, name) x y low few unseen size one two is = record {
+  admitted = refl;
+  alike = λ head others follows s t.
+      closed_alike loose small most depth (der_header tag n) head (g, p, contents.Whole u, name) others follows x y s t
+      (rw (one most depth u) refl) (rw (two most depth u) refl) (whole_len small (der_header tag n) u x)
+      (whole_len small (der_header tag n) u y) size;
+}
+shut_content loose small most depth tag n (g, p, content, name) x y low few unseen size one two is =
+    key_content loose small most depth tag n (g, p, content, name) x y low few unseen size is
+
+-- whether an element of this tag after these elements is shut
+abbrev pub shut_after : List Part → ℕ → List Component → Bool
+shut_after before tag some = passed (λ cs. content_at is_shut (fitting tag cs)) (tags_of before) some
+
+pub shut_alike : (loose small : Bool) (before : List Part) (tag n : ℕ) (x y : List ℕ) (most depth : ℕ)
+    (some : List Component) → AreParts before → is_low tag ≡ true → IsUnseen tag n → DifferIn n x y
+    → Unfollowed (take n x) → Unfollowed (take n y) → shut_after before tag some ≡ true
+    → masked loose small most depth false some (key_in [] before tag n x)
+    ≡ masked loose small most depth false some (key_in [] before tag n y)
+shut_alike loose small before tag n x y most depth some are low unseen differ first second is =
+    passing loose small (λ cs. content_at is_shut (fitting tag cs)) before most depth some (header tag n ++ x)
+    (header tag n ++ y)
+    are (append_len (header tag n) x y differ.len)
+    (λ least cs holds. last_as loose small is_shut least depth cs tag n x y low differ
+    (λ k d c a b p q size fine. shut_content loose small k d tag n c a b low differ.few unseen size
+    (subst Unfollowed (sym p) first) (subst Unfollowed (sym q) second) fine) refl holds)
+    (λ least. last_alike loose small least depth any tag n x y low unseen differ (rw (any_fits tag) refl)) is

@@ -1,40 +1,37 @@
 -- Masks of inputs with private keys.
-use Rattle.std.proofs.Common.{◌≡◌, ◌==◌, ◌&&◌, ◌||◌, ℕ, zero, suc, ◌+◌, ◌<◌, ◌≤◌, inl, inr, Bool, true, false, List, []}
-use Rattle.std.proofs.Common.{◌∷◌, ◌++◌, length, take, drop, refl, sym, ap, ap₂, ◌∙◌, Option, Some, None, arith, nat_le}
-use Rattle.std.proofs.Common.{length-append, append_assoc, append-nil, take-append-drop, ⊎_elim, ◌⊎◌, subst}
+use Rattle.std.proofs.Common.{◌≡◌, ◌&&◌, ◌||◌, ℕ, ◌<◌, ◌≤◌, inl, inr, Bool, true, false, List, [], ◌∷◌, ◌++◌, length}
+use Rattle.std.proofs.Common.{take, refl, sym, ap, ◌∙◌, Option, Some, None, arith, nat_le, append-nil, ⊎_elim, ◌⊎◌}
+use Rattle.std.proofs.Common.{◌+◌, length-append, subst}
 use Rattle.std.proofs.lemmas.Bool.{and_parts, cases_lt}
 use Rattle.std.proofs.lemmas.Bool.Decides.{nat_tests}
-use Rattle.std.proofs.lemmas.List.{length-take-le, take_at, drop_at}
-use Rattle.std.specs.Prelude.{if◌then◌else◌, is_none, nat_lt}
-use Rattle.sec1_der.specs.Elements.{element, header}
-use Rattle.der_view.specs.Contents.{has_type, is_number, is_primitive, is_small, is_there, is_whole, shown_len}
-use Rattle.der_view.specs.Grammar.{Component, Form, components, container_components, key_components, public_components}
-use Rattle.der_view.specs.Grammar.{service_components, signed_components}
+use Rattle.std.proofs.lemmas.List.{take_at, length-take}
+use Rattle.std.specs.Prelude.{if◌then◌else◌, is_none, ◌-◌, min}
+use Rattle.sec1_der.specs.Elements.{header}
+use Rattle.der_view.specs.Contents.{has_type, is_number, is_small}
+use Rattle.der_view.specs.Grammar.{Component, Form, components, container_components, key_components}
+use Rattle.der_view.specs.Grammar.{public_components, service_components, signed_components}
 use Rattle.der_view.specs.Headers.{max_content_len}
-use Rattle.der_view.specs.Keys.{AreLevels, AreParts, DifferIn, IsContent, Level, Part, container, integers, is_low}
-use Rattle.der_view.specs.Keys.{key_in}
-use Rattle.der_view.specs.Keys.{parts_bytes, root_bytes, sequence}
-use Rattle.der_view.specs.Masks.{AreAlike, AreAlikeAs, mask_as, mask_by_way, masked, next_mask, picture_mask, step_mask}
-use Rattle.der_view.specs.Masks.{undrawn}
-use Rattle.der_view.specs.Pictures.{best, better, is_nearer, known_as, left_as, nearest, parts_as, plan_of, root_of}
-use Rattle.der_view.specs.Pictures.{root_step, whole_as}
-use Rattle.der_view.specs.Rows.{Step, admits, component_at, element_at, end_at, fitting, has_tag, may_end}
-use Rattle.der_view.specs.Rows.{after_inside, inside_loose, opened_of, rest_after, rest_of, step_by, step_with}
-use Rattle.der_view.specs.declared.grammar.Content.{Content}
-use Rattle.der_view.specs.declared.grammar.Content.TheVariants as contents
-use Rattle.der_view.specs.declared.grammar.TheConstants as elements
+use Rattle.der_view.specs.Keys.{AreLevels, AreParts, DifferIn, IsContent, Level, Part, container, integers, key_in}
+use Rattle.der_view.specs.Keys.{root_bytes, sequence, IsCutIn, container_parts}
+use Rattle.der_view.specs.Masks.{AreAlike, AreAlikeAs, mask_as, mask_by_way, next_mask, picture_mask, step_mask}
+use Rattle.der_view.specs.Masks.{undrawn, masked}
+use Rattle.der_view.specs.Pictures.{best, better, form_by, is_nearer, is_retagged, is_tree, known_as, left_as}
+use Rattle.der_view.specs.Pictures.{nearest, parts_as, plan_of, root_of, root_step, whole_as}
+use Rattle.der_view.specs.Rows.{Step, admits, element_at, fitting, after_inside, inside_bytes, inside_loose}
+use Rattle.der_view.specs.Rows.{opened_of, rest_after, rest_of, step_with}
 use Rattle.der_view.specs.declared.grammar.Structure.{Structure}
-use Rattle.der_view.specs.declared.grammar.forms.TheConstants as tables
 use Rattle.der_view.specs.declared.header.Header.{Header}
 use Rattle.der_view.specs.declared.plan.Plan.{Plan}
 use Rattle.der_view.specs.declared.plan.Way.{Way}
-use Rattle.der_view.specs.declared.plan.Way.TheVariants as ways
 use Rattle.der_view.proofs.DerLemmas.{IsHead, der_header, head_in_der}
-use Rattle.der_view.proofs.SameLemmas.{AreInside, Begins, SameContent, any, content_alike, inside_content, no_level}
-use Rattle.der_view.proofs.SameLemmas.{no_next, none_masked, same_content, step_as, steps_masked, unseen_len}
+use Rattle.der_view.proofs.SameLemmas.{AreInside, SameContent, content_alike, inside_content, step_as, any}
 use Rattle.der_view.proofs.KeyLemmas.{IsUnseen, LevelsUnseen, any_key_alike, append_len, blind, both_len, element_cut}
-use Rattle.der_view.proofs.KeyLemmas.{element_there}
-use Rattle.der_view.proofs.KeyLemmas.{inside_at, key_alike, key_len, step_front, undrawn_same}
+use Rattle.der_view.proofs.KeyLemmas.{element_there, inside_at, key_alike, key_len, step_front, undrawn_same}
+use Rattle.der_view.proofs.KeyLemmas.{Unfollowed, cut_unfollowed, shut_after, shut_alike}
+use Rattle.std.proofs.Math.Seq.{take-append-add}
+use Rattle.der_view.specs.declared.grammar.TheConstants as elements
+use Rattle.der_view.specs.declared.grammar.forms.TheConstants as tables
+use Rattle.der_view.specs.declared.plan.Way.TheVariants as ways
 
 -- ---- whole inputs
 
@@ -73,7 +70,8 @@ root_next loose most p definite = by_opened (opened_of loose most 1 p) refl
         → next_mask p.rest (λ (rest : List ℕ). undrawn rest) (rest_after loose most 1 p) ≡ undrawn p.rest
     by_opened None is = rw is refl
     by_opened (Some s) is =
-        rw (is, definite) (inside (rest_of (inside_loose p.component.2 loose) most 1 false (components s) p.content))
+        rw (is, definite) (inside (rest_of (inside_loose p.component.2 loose) most 1 false (components s)
+        (inside_bytes p)))
 
 root_made : (loose small : Bool) (bytes : List ℕ) (p : Step) (root : Component) → root_step root bytes ≡ Some p
     → is_none p.header.content_len ≡ false
@@ -209,15 +207,18 @@ nearest_form : (bytes a b : List ℕ) → FormAlike tables.FIRST.0 a b → Forms
 unfolding nearest
 nearest_form bytes a b one alike = best_form bytes tables.FIRST tables.OTHERS a b one alike
 
-root_form : (bytes a b : List ℕ) → FormAlike elements.ELEMENT a b → FormAlike (nearest bytes).0 a b
-    → FormAlike (root_of (plan_of bytes).form) a b
+root_form : (bytes a b : List ℕ) → FormAlike elements.ELEMENT a b → FormAlike tables.FIRST.0 a b
+    → FormAlike (nearest bytes).0 a b → FormAlike (root_of (plan_of bytes).form) a b
 unfolding plan_of known_as
-root_form bytes a b none some =
+root_form bytes a b none first some =
     choose (whole_as false (nearest bytes).0 bytes || nat_le 2 (parts_as (nearest bytes).0 bytes))
+    (is_tree bytes && is_retagged bytes)
   where
-    choose : (test : Bool) → FormAlike (root_of (if test then Some (nearest bytes) else None)) a b
-    choose true = some
-    choose false = none
+    choose : (test retagged : Bool)
+        → FormAlike (root_of (form_by (if test then Some (nearest bytes) else None) retagged)) a b
+    choose true retagged = some
+    choose false true = first
+    choose false false = none
 
 drawn_alike : (plan : Plan) (a b : List ℕ) → FormAlike (root_of plan.form) a b → length a ≡ length b
     → picture_mask plan a ≡ picture_mask plan b
@@ -234,7 +235,7 @@ all_alike a b size none first others = record {
   first = first false false;
   others = strictly_alike tables.OTHERS a b others;
   elements = none false false;
-  drawn = drawn_alike (plan_of a) a b (root_form a a b none (nearest_form a a b first others)) size;
+  drawn = drawn_alike (plan_of a) a b (root_form a a b none first (nearest_form a a b first others)) size;
 }
 
 abbrev forms_hold : (Structure → Bool) → List Form → Bool
@@ -252,6 +253,29 @@ forms_alike holds (form ∷ forms) m a b rest is size are known =
       forms_alike holds forms m a b rest is size are parts.1,
     )
 
+-- bytes with contents that are masked alike in each structure which they may follow
+inside_forms : (holds : Structure → Bool) (m : ℕ) (a b rest : List ℕ) → IsContent m a rest → length a ≡ length b
+    → ((loose small : Bool) (most : ℕ) (s : Structure) → holds s ≡ true
+    → masked loose small most 1 false (components s) a ≡ masked loose small most 1 false (components s) b)
+    → ((loose small : Bool) (most : ℕ)
+    → masked loose small most 1 false any a ≡ masked loose small most 1 false any b)
+    → root_holds holds tables.FIRST.0 ≡ true → forms_hold holds tables.OTHERS ≡ true
+    → AreAlike (root_bytes m a rest) (root_bytes m b rest)
+inside_forms holds m a b rest is size some other first others =
+    let inside : (small : Bool) (most : ℕ) → AreInside small most 1 holds (der_header 0x30 m) a b =
+    λ small most. record {
+      definite = refl;
+      len = size;
+      inner = λ s loose known. some loose small most s known;
+      anything = λ loose made. other loose small most;
+      unseen = λ z len made. absurd (cc made);
+    } in
+    all_alike (root_bytes m a rest) (root_bytes m b rest)
+    (append_len (header 0x30 m) (a ++ rest) (b ++ rest) (both_len a b rest rest size refl))
+    (λ loose small. root_alike loose small holds elements.ELEMENT m a b rest is size (inside small) refl)
+    (λ loose small. root_alike loose small holds tables.FIRST.0 m a b rest is size (inside small) first)
+    (forms_alike holds tables.OTHERS m a b rest is size inside others)
+
 -- bytes with private elements that are hidden in each structure which they may follow
 key_forms : (levels : List Level) (before : List Part) (tag m n : ℕ) (x y rest : List ℕ)
     → AreLevels levels before tag n x → LevelsUnseen levels → IsUnseen tag n → DifferIn n x y
@@ -260,24 +284,12 @@ key_forms : (levels : List Level) (before : List Part) (tag m n : ℕ) (x y rest
     → forms_hold (λ s. blind levels before tag (components s)) tables.OTHERS ≡ true
     → AreAlike (root_bytes m (key_in levels before tag n x) rest) (root_bytes m (key_in levels before tag n y) rest)
 key_forms levels before tag m n x y rest are plain unseen differ is first others =
-    let holds : Structure → Bool = λ s. blind levels before tag (components s) in
-    let a : List ℕ = key_in levels before tag n x in
-    let b : List ℕ = key_in levels before tag n y in
-    let size : length a ≡ length b = key_len levels before tag n x y differ.len in
-    let inside : (small : Bool) (most : ℕ) → AreInside small most 1 holds (der_header 0x30 m) a b =
-    λ small most. record {
-      definite = refl;
-      len = size;
-      inner = λ s loose known.
-          key_alike levels loose small before tag n x y most 1 (components s) are plain unseen differ known;
-      anything = λ loose made. any_key_alike levels loose small before tag n x y most 1 are plain unseen differ;
-      unseen = λ z len made. absurd (cc made);
-    } in
-    all_alike (root_bytes m a rest) (root_bytes m b rest)
-    (append_len (header 0x30 m) (a ++ rest) (b ++ rest) (both_len a b rest rest size refl))
-    (λ loose small. root_alike loose small holds elements.ELEMENT m a b rest is size (inside small) refl)
-    (λ loose small. root_alike loose small holds tables.FIRST.0 m a b rest is size (inside small) first)
-    (forms_alike holds tables.OTHERS m a b rest is size inside others)
+    inside_forms (λ s. blind levels before tag (components s)) m (key_in levels before tag n x)
+    (key_in levels before tag n y) rest is (key_len levels before tag n x y differ.len)
+    (λ loose small most s known.
+    key_alike levels loose small before tag n x y most 1 (components s) are plain unseen differ known)
+    (λ loose small most. any_key_alike levels loose small before tag n x y most 1 are plain unseen differ)
+    first others
 
 octets_unseen : (n : ℕ) → IsUnseen 0x04 n
 unfolding is_small is_number has_type
@@ -427,3 +439,50 @@ contained_rsa_alike m n version algorithm after (a ∷ b ∷ c ∷ d ∷ e ∷ f
 contained_rsa_alike m n version algorithm after
     (a ∷ b ∷ c ∷ d ∷ e ∷ f ∷ g ∷ h ∷ i ∷ more) x y rest are some few long differ is =
     absurd (omega arith)
+
+-- a key in PKCS #8 of which the privateKey doesn't have all bytes
+tails_len : (front x y : List ℕ) → length (front ++ x) ≡ length (front ++ y) → length x ≡ length y
+tails_len front x y same =
+    let first : length (front ++ x) ≡ length front + length x = length-append front x in
+    let second : length (front ++ y) ≡ length front + length y = length-append front y in
+    omega (arith, same, first, second)
+
+cut_in : (n tag k : ℕ) (x : List ℕ) → IsCutIn n tag k x → Unfollowed (take n (header tag k ++ x))
+cut_in n tag k x is =
+    let front : List ℕ = header tag k in
+    let size : length front + (n - length front) ≡ n = omega (arith, is.begins) in
+    let taken : take n (front ++ x) ≡ front ++ take (n - length front) x =
+    ap (λ (j : ℕ). take j (front ++ x)) (sym size) ∙ take-append-add front x (n - length front) in
+    let few : length (take (n - length front) x) < k =
+    let len : length (take (n - length front) x) ≡ min (n - length front) (length x) =
+    length-take (n - length front) x in
+    omega (arith, len, is.ends) in
+    subst Unfollowed (sym taken) (cut_unfollowed tag k (take (n - length front) x) is.low is.few few)
+
+cut_again : (n tag k : ℕ) (x y : List ℕ) → length x ≡ length y → IsCutIn n tag k x → IsCutIn n tag k y
+cut_again n tag k x y size is = record {
+  low = is.low;
+  few = is.few;
+  begins = is.begins;
+  ends = omega (arith, is.ends, size);
+}
+
+pub contained_cut_alike : (m n tag k : ℕ) (version algorithm x y rest : List ℕ) → IsCutIn n tag k x
+    → AreParts (container_parts version algorithm) → DifferIn n (header tag k ++ x) (header tag k ++ y)
+    → IsContent m (key_in [] (container_parts version algorithm) 0x04 n (header tag k ++ x)) rest
+    → AreAlike (root_bytes m (key_in [] (container_parts version algorithm) 0x04 n (header tag k ++ x)) rest)
+    (root_bytes m (key_in [] (container_parts version algorithm) 0x04 n (header tag k ++ y)) rest)
+unfolding components container_components key_components public_components service_components signed_components
+contained_cut_alike m n tag k version algorithm x y rest cut are differ is =
+    let parts : List Part = container_parts version algorithm in
+    let a : List ℕ = header tag k ++ x in
+    let b : List ℕ = header tag k ++ y in
+    let first : Unfollowed (take n a) = cut_in n tag k x cut in
+    let second : Unfollowed (take n b) = cut_in n tag k y (cut_again n tag k x y
+    (tails_len (header tag k) x y differ.len) cut) in
+    inside_forms (λ s. shut_after parts 0x04 (components s)) m (key_in [] parts 0x04 n a) (key_in [] parts 0x04 n b)
+    rest is (key_len [] parts 0x04 n a b differ.len)
+    (λ loose small most s known.
+    shut_alike loose small parts 0x04 n a b most 1 (components s) are refl (octets_unseen n) differ first second known)
+    (λ loose small most. any_key_alike [] loose small parts 0x04 n a b most 1 (are, refl) tt (octets_unseen n) differ)
+    refl refl

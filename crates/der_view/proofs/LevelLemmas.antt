@@ -1,23 +1,25 @@
 -- The rows of a level are those of its mask, whatever as many bytes come after it.
-use Rattle.std.proofs.Common.{◌≡◌, ℕ, Bool, true, false, List, [], ◌++◌, length, take}
-use Rattle.std.proofs.Common.{refl, sym, ap, ◌∙◌, Option, Some, None, arith, subst, append-nil, length-append}
+use Rattle.std.proofs.Common.{◌≡◌, ◌&&◌, ◌≤◌, ◌+◌, ℕ, Bool, true, false, List, [], ◌++◌, length, take, drop}
+use Rattle.std.proofs.Common.{refl, sym, ap, ap₂, ◌∙◌, Option, Some, None, arith, subst, append-nil, length-append}
+use Rattle.std.proofs.Common.{take-append-drop}
+use Rattle.std.proofs.lemmas.List.{drop_at, length-take-le}
 use Rattle.std.specs.Option.{is_some}
 use Rattle.std.specs.Prelude.{if◌then◌else◌, is_none}
 use Rattle.der_view.specs.Contents.{is_shown, is_whole, shown_in, shown_len}
 use Rattle.der_view.specs.Grammar.{Component, components}
 use Rattle.der_view.specs.Masks.{content_mask, masked, masked_content, step_mask, zeros}
-use Rattle.der_view.specs.Rows.{Step, admits, after_inside}
-use Rattle.der_view.specs.Rows.{inside_loose, is_followed, is_open}
+use Rattle.der_view.specs.Rows.{Step, admits, after_inside, are_bits, front_len, has_bits}
+use Rattle.der_view.specs.Rows.{inside_bytes, inside_loose, is_followed, is_open}
 use Rattle.der_view.specs.Rows.{opened_in, opened_of, rest_after, rest_of}
 use Rattle.der_view.specs.declared.grammar.Content.{Content}
 use Rattle.der_view.specs.declared.grammar.Content.TheVariants as contents
 use Rattle.der_view.specs.declared.grammar.Structure.{Structure}
 use Rattle.der_view.specs.declared.header.Header.{Header}
 use Rattle.der_view.proofs.MaskLemmas.{IsMasked, IsRows, IsTaken, MasksRest, again, closed_content, content_shown}
-use Rattle.der_view.proofs.MaskLemmas.{kept_fits}
+use Rattle.der_view.proofs.MaskLemmas.{bits_same, front_open, front_within, kept_fits}
 use Rattle.der_view.proofs.MaskLemmas.{kept_misfits, left, none_shown, opened_rows, opened_same, rest_closed}
 use Rattle.der_view.proofs.MaskLemmas.{step_again}
-use Rattle.der_view.proofs.MaskLemmas.{tail_len, zeros_followed}
+use Rattle.der_view.proofs.MaskLemmas.{tail_len, zeros_bits, zeros_followed}
 use Rattle.der_view.proofs.StepLemmas.{Stays, step_like}
 
 -- ---- one element
@@ -54,6 +56,33 @@ whole_none whole loose header k x s e is =
     by_test true known = absurd (cc known)
     by_test false known = refl
 
+bits_none : (whole : Structure → List ℕ → Bool) (loose : Bool) (header : Header) (k : Content) (x : List ℕ)
+    (s : Structure) → k ≡ contents.Bits s → opened_in whole loose header k x ≡ None → are_bits whole s x ≡ false
+unfolding opened_in
+bits_none whole loose header k x s e is =
+    by_test (are_bits whole s x) (subst (λ (c : Content). opened_in whole loose header c x ≡ None) e is)
+  where
+    by_test : (test : Bool) → ◌≡◌ {A = Option Structure} (if test then Some s else None) None → test ≡ false
+    by_test true known = absurd (cc known)
+    by_test false known = refl
+
+bits_some : (whole : Structure → List ℕ → Bool) (loose : Bool) (header : Header) (k : Content) (x : List ℕ)
+    (s t : Structure) → k ≡ contents.Bits s → opened_in whole loose header k x ≡ Some t → s ≡ t
+unfolding opened_in
+bits_some whole loose header k x s t e is =
+    by_test (are_bits whole s x) (subst (λ (c : Content). opened_in whole loose header c x ≡ Some t) e is)
+  where
+    by_test : (test : Bool) → ◌≡◌ {A = Option Structure} (if test then Some s else None) (Some t) → s ≡ t
+    by_test true known = cc
+    by_test false known = absurd (cc known)
+
+bits_zeros : (small : Bool) (header : Header) (k : Content) (x : List ℕ) (s : Structure) → k ≡ contents.Bits s
+    → masked_content (shown_len small header k x) x ≡ zeros x
+unfolding shown_len shown_in is_shown
+bits_zeros small header k x s e =
+    subst (λ (c : Content). masked_content (shown_len small header c x) x ≡ zeros x) (sym e)
+    (ap (λ (n : ℕ). masked_content n x) (none_shown (is_whole header x)))
+
 whole_some : (whole : Structure → List ℕ → Bool) (loose : Bool) (header : Header) (k : Content) (x : List ℕ)
     (s t : Structure) → k ≡ contents.Whole s → opened_in whole loose header k x ≡ Some t → s ≡ t
 unfolding opened_in
@@ -87,7 +116,11 @@ none_masks loose small most depth step t taken none size =
     opened_same whole loose step.header k x m (λ s e.
     let not_whole : whole s x ≡ false = whole_none whole loose step.header k x s e none in
     ap (λ (y : List ℕ). whole s y) (whole_zeros small step.header k x s e)
-    ∙ (zeros_followed most depth s x not_whole ∙ sym not_whole)) ∙ none in
+    ∙ (zeros_followed most depth s x not_whole ∙ sym not_whole))
+    (λ s e.
+    let not_bits : are_bits whole s x ≡ false = bits_none whole loose step.header k x s e none in
+    ap (λ (y : List ℕ). are_bits whole s y) (bits_zeros small step.header k x s e)
+    ∙ (zeros_bits most depth s x ∙ sym not_bits)) ∙ none in
     record {
       like = refl;
       stays = record {
@@ -114,6 +147,23 @@ whole_definite : (step : Step) (u : Structure) → IsTaken step → step.compone
     → is_open step ≡ false
 whole_definite step u taken e =
     never_whole step.header u step.content
+    (subst (λ (c : Content). admits step.header c step.content ≡ true) e (taken_fits step taken))
+
+never_bits : (header : Header) (u : Structure) (x : List ℕ) → admits header (contents.Bits u) x ≡ true
+    → is_none header.content_len ≡ false
+unfolding opened_in
+never_bits header u x fits =
+    closed_content (λ (v : Structure) (y : List ℕ). false) true header (contents.Bits u) x
+    (none_open (has_bits x)) fits
+  where
+    none_open : (test : Bool) → ◌≡◌ {A = Option Structure} (if test && false then Some u else None) None
+    none_open true = refl
+    none_open false = refl
+
+bits_definite : (step : Step) (u : Structure) → IsTaken step → step.component.2 ≡ contents.Bits u
+    → is_open step ≡ false
+bits_definite step u taken e =
+    never_bits step.header u step.content
     (subst (λ (c : Content). admits step.header c step.content ≡ true) e (taken_fits step taken))
 
 -- a content that is rows
@@ -153,30 +203,66 @@ closed_left loose most depth some bytes = by_rest (rest_of loose most depth fals
     by_rest None is = refl
     by_rest (Some r) is = ap length (rest_closed loose most depth some bytes r is)
 
+-- the bits of a BIT STRING that are rows
+bits_kept : (most depth : ℕ) (loose : Bool) (s t : Structure) (x m r : List ℕ) → loose ≡ false → s ≡ t
+    → m ≡ take 1 x ++ r → length r ≡ length (drop 1 x) → drop 1 m ≡ r
+    → rest_of loose most depth false (components t) r
+    ≡ again [] (rest_of loose most depth false (components t) (drop 1 x))
+    → are_bits (λ u y. is_followed most depth u y) s m ≡ are_bits (λ u y. is_followed most depth u y) s x
+bits_kept most depth loose s t x m r strict same parts size back is =
+    let bits : has_bits m ≡ has_bits x = ap (λ (y : List ℕ). has_bits y) parts ∙ bits_same x r size in
+    let follow : is_followed most depth s (drop 1 m) ≡ is_followed most depth s (drop 1 x) =
+    ap (λ (y : List ℕ). is_followed most depth s y) back
+    ∙ whole_same most depth loose s t r (drop 1 x) strict same is in
+    ap₂ (λ (a b : Bool). a && b) bits follow
+
 closed_masks : (loose small : Bool) (most depth : ℕ) (step : Step) (t : List ℕ) (s : Structure) → IsTaken step
     → opened_of loose most depth step ≡ Some s → is_open step ≡ false
-    → MasksRest (inside_loose step.component.2 loose) small most depth false (components s) step.content
+    → MasksRest (inside_loose step.component.2 loose) small most depth false (components s) (inside_bytes step)
     → length t ≡ length step.rest
     → MasksStep loose small most depth step
-    (step_like step (masked (inside_loose step.component.2 loose) small most depth false (components s) step.content) t)
-    (masked (inside_loose step.component.2 loose) small most depth false (components s) step.content) t
+    (step_like step (take (front_len step.component.2) step.content
+    ++ masked (inside_loose step.component.2 loose) small most depth false (components s) (inside_bytes step)) t)
+    (take (front_len step.component.2) step.content
+    ++ masked (inside_loose step.component.2 loose) small most depth false (components s) (inside_bytes step)) t
 closed_masks loose small most depth step t s taken some definite inner size =
     let k : Content = step.component.2 in
+    let n : ℕ = front_len k in
     let x : List ℕ = step.content in
+    let y : List ℕ = drop n x in
     let inside' : Bool = inside_loose k loose in
-    let m : List ℕ = masked inside' small most depth false (components s) x in
-    let rest : Option (List ℕ) = rest_of inside' most depth false (components s) x in
-    let none : left rest ≡ 0 = closed_left inside' most depth (components s) x in
-    let len : length m ≡ length x = omega (arith, inner.len, none) in
-    let same : rest_of inside' most depth false (components s) m ≡ again [] rest =
-    ap (λ (y : List ℕ). rest_of inside' most depth false (components s) y) (sym (append-nil m))
+    let r : List ℕ = masked inside' small most depth false (components s) y in
+    let m : List ℕ = take n x ++ r in
+    let rest : Option (List ℕ) = rest_of inside' most depth false (components s) y in
+    let whole : Structure → List ℕ → Bool = λ u z. is_followed most depth u z in
+    let few : n ≤ length x = front_within whole loose step.header k x s some in
+    let none : left rest ≡ 0 = closed_left inside' most depth (components s) y in
+    let inner_len : length r ≡ length y = omega (arith, inner.len, none) in
+    let len : length m ≡ length x =
+    length-append (take n x) r ∙ (ap (λ (j : ℕ). length (take n x) + j) inner_len
+    ∙ (sym (length-append (take n x) y) ∙ ap length (take-append-drop n x))) in
+    let back : drop n m ≡ r = drop_at (take n x) r n (length-take-le n x few) in
+    let same_in : rest_of inside' most depth false (components s) r ≡ again [] rest =
+    ap (λ (z : List ℕ). rest_of inside' most depth false (components s) z) (sym (append-nil r))
     ∙ inner.same [] (sym none) in
+    let same : rest_of inside' most depth false (components s) (drop n m) ≡ again [] rest =
+    ap (λ (z : List ℕ). rest_of inside' most depth false (components s) z) back ∙ same_in in
     let next : Step = step_like step m t in
-    let whole : Structure → List ℕ → Bool = λ u y. is_followed most depth u y in
     let rows : IsRows step.header k = opened_rows whole loose step.header k x s some in
     let kept : opened_of loose most depth next ≡ Some s =
-    opened_same whole loose step.header k x m (λ u e.
-    whole_same most depth inside' u s m x (strict k u e) (whole_some whole loose step.header k x u s e some) same)
+    opened_same whole loose step.header k x m
+    (λ u e.
+    let zero : n ≡ 0 = ap (λ (c : Content). front_len c) e in
+    whole_same most depth inside' u s m x (strict k u e) (whole_some whole loose step.header k x u s e some)
+    (subst (λ (j : ℕ). rest_of inside' most depth false (components s) (drop j m)
+    ≡ again [] (rest_of inside' most depth false (components s) (drop j x))) zero same))
+    (λ u e.
+    let one : n ≡ 1 = ap (λ (c : Content). front_len c) e in
+    bits_kept most depth inside' u s x m r (strict_bits k u e) (bits_some whole loose step.header k x u s e some)
+    (ap (λ (j : ℕ). take j x ++ r) one) (subst (λ (j : ℕ). length r ≡ length (drop j x)) one inner_len)
+    (subst (λ (j : ℕ). drop j m ≡ r) one back)
+    (subst (λ (j : ℕ). rest_of inside' most depth false (components s) r
+    ≡ again [] (rest_of inside' most depth false (components s) (drop j x))) one same_in))
     ∙ some in
     record {
       like = refl;
@@ -190,6 +276,9 @@ closed_masks loose small most depth step t s taken some definite inner size =
   where
     strict : (k : Content) (u : Structure) → k ≡ contents.Whole u → inside_loose k loose ≡ false
     strict k u e = ap (λ (c : Content). inside_loose c loose) e
+
+    strict_bits : (k : Content) (u : Structure) → k ≡ contents.Bits u → inside_loose k loose ≡ false
+    strict_bits k u e = ap (λ (c : Content). inside_loose c loose) e
 
     after_same : (o : Option (List ℕ)) → after_inside false t (again [] o) ≡ again t (after_inside false step.rest o)
     after_same None = refl
@@ -205,6 +294,7 @@ open_masks : (loose small : Bool) (most depth : ℕ) (step : Step) (t : List ℕ
     (masked (inside_loose step.component.2 loose) small most depth true (components s) step.content) t
 open_masks loose small most depth step t s taken some indefinite inner size =
     let k : Content = step.component.2 in
+    let zero : front_len k ≡ 0 = front_open step.header k step.content (taken_fits step taken) indefinite in
     let x : List ℕ = step.content in
     let inside' : Bool = inside_loose k loose in
     let m : List ℕ = masked inside' small most depth true (components s) x in
@@ -216,13 +306,14 @@ open_masks loose small most depth step t s taken some indefinite inner size =
     let rows : IsRows step.header k = opened_rows whole loose step.header k x s some in
     let kept : opened_of loose most depth next ≡ Some s =
     opened_same whole loose step.header k x (m ++ t)
-    (λ u e. absurd (cc (sym indefinite ∙ whole_definite step u taken e))) ∙ some in
+    (λ u e. absurd (cc (sym indefinite ∙ whole_definite step u taken e)))
+    (λ u e. absurd (cc (sym indefinite ∙ bits_definite step u taken e))) ∙ some in
     record {
       like = refl;
       stays = rows_stay step (m ++ t) taken rows len;
       rest_len = sym (ap length (taken.last (no_len step.header.content_len indefinite)));
       opened = kept ∙ sym some;
-      after = rw (kept, some, indefinite, same) (after_same rest);
+      after = rw (kept, some, indefinite, zero, same) (after_same rest);
       parts = sym (append-nil (m ++ t));
       shown = rows_shown small step.header k x (m ++ t) rows;
     }
@@ -248,11 +339,11 @@ opened_masks loose small most depth step t taken inner size =
     inside' = inside_loose step.component.2 loose
 
     rest_at : Bool → Structure → Option (List ℕ)
-    rest_at marked s = rest_of inside' most depth marked (components s) step.content
+    rest_at marked s = rest_of inside' most depth marked (components s) (inside_bytes step)
 
     mask_at : Bool → Option Structure → List ℕ
     mask_at marked o =
-        content_mask small (λ s. masked inside' small most depth marked (components s) step.content) o step
+        content_mask small (λ s. masked inside' small most depth marked (components s) (inside_bytes step)) o step
 
     closed_tail : (o : Option (List ℕ)) → tail_len step (after_inside false step.rest o) ≡ length step.rest
     closed_tail None = refl
@@ -283,12 +374,19 @@ opened_masks loose small most depth step t taken inner size =
         let len : length t ≡ length step.rest =
         size ∙ (ap (λ (o : Option (List ℕ)). tail_len step o) after' ∙ closed_tail (rest_at false s)) in
         closed_masks loose small most depth step t s taken some definite
-        (inner inside' false depth (components s) step.content) len
+        (inner inside' false depth (components s) (inside_bytes step)) len
     by_opened (Some s) true some indefinite =
         let last : step.rest ≡ [] = taken.last (no_len step.header.content_len indefinite) in
         let after' : rest_after loose most depth step ≡ after_inside true step.rest (rest_at true s) =
         rw (some, indefinite) refl in
         let len : length t ≡ left (rest_at true s) =
         size ∙ (ap (λ (o : Option (List ℕ)). tail_len step o) after' ∙ open_tail (rest_at true s) last) in
-        open_masks loose small most depth step t s taken some indefinite
-        (inner inside' true depth (components s) step.content) len
+        let zero : front_len step.component.2 ≡ 0 =
+        front_open step.header step.component.2 step.content (taken_fits step taken) indefinite in
+        subst (λ (n : ℕ). MasksStep loose small most depth step (step_again true step (take n step.content
+        ++ masked inside' small most depth true (components s) (drop n step.content)) t) (take n step.content
+        ++ masked inside' small most depth true (components s) (drop n step.content)) t) (sym zero)
+        (open_masks loose small most depth step t s taken some indefinite
+        (inner inside' true depth (components s) step.content)
+        (subst (λ (n : ℕ). length t ≡ left (rest_of inside' most depth true (components s) (drop n step.content)))
+        zero len))

@@ -10,7 +10,7 @@ use Rattle.der_view.specs.Contents.{has_type, is_minimal, is_number, is_shown, i
 use Rattle.der_view.specs.Contents.{is_primitive, is_valid, is_whole, is_wide_text, point_len, shown_in, shown_len}
 use Rattle.der_view.specs.Grammar.{Component, components, identifiers}
 use Rattle.der_view.specs.Masks.{masked, masked_content, undrawn, zeros}
-use Rattle.der_view.specs.Rows.{Step, admits, end_at}
+use Rattle.der_view.specs.Rows.{Step, admits, are_bits, end_at, front_len, has_bits}
 use Rattle.der_view.specs.Rows.{is_followed, is_of, may_end}
 use Rattle.der_view.specs.Rows.{opened_in, rest_by, rest_next, rest_of}
 use Rattle.der_view.specs.Rows.{step_at, step_by}
@@ -91,6 +91,7 @@ zeros_shown small tag (contents.Of family) a x is = is
 zeros_shown small tag contents.Point a x is = refl
 zeros_shown small tag (contents.Inside s) a x is = refl
 zeros_shown small tag (contents.Whole s) a x is = refl
+zeros_shown small tag (contents.Bits s) a x is = refl
 zeros_shown true tag contents.Free a x is = zeros_small tag a x is
 zeros_shown false tag contents.Free a x is = refl
 
@@ -158,6 +159,7 @@ in_shown small tag contents.Version x = plain_shown small tag contents.Version x
 in_shown small tag (contents.Of family) x = plain_shown small tag (contents.Of family) x 0 (λ y. refl)
 in_shown small tag (contents.Inside s) x = plain_shown small tag (contents.Inside s) x 0 (λ y. refl)
 in_shown small tag (contents.Whole s) x = plain_shown small tag (contents.Whole s) x 0 (λ y. refl)
+in_shown small tag (contents.Bits s) x = plain_shown small tag (contents.Bits s) x 0 (λ y. refl)
 in_shown small tag contents.Free x = plain_shown small tag contents.Free x 0 (λ y. refl)
 
 pub content_shown : (small : Bool) (header : Header) (k : Content) (x : List ℕ)
@@ -232,6 +234,7 @@ plain_admits header is (contents.Of family) x y = rw is refl
 plain_admits header is contents.Point x y = refl
 plain_admits header is (contents.Inside s) x y = refl
 plain_admits header is (contents.Whole s) x y = refl
+plain_admits header is (contents.Bits s) x y = refl
 plain_admits header is contents.Free x y = refl
 
 -- of a content that is rows nothing is shown, and it is taken for what it is whatever its bytes
@@ -281,21 +284,28 @@ opened_rows whole loose header (contents.Whole t) x s is = record {
   alike = λ y z. refl;
   free = λ e. absurd (cc e);
 }
+opened_rows whole loose header (contents.Bits t) x s is = record {
+  shown = λ small y. none_shown (is_whole header y);
+  alike = λ y z. refl;
+  free = λ e. absurd (cc e);
+}
 opened_rows whole loose header contents.Free x s is = elements_rows header contents.Free true s is
 
 pub opened_same : (whole : Structure → List ℕ → Bool) (loose : Bool) (header : Header) (k : Content) (x m : List ℕ)
     → ((s : Structure) → k ≡ contents.Whole s → whole s m ≡ whole s x)
+    → ((s : Structure) → k ≡ contents.Bits s → are_bits whole s m ≡ are_bits whole s x)
     → opened_in whole loose header k m ≡ opened_in whole loose header k x
 unfolding opened_in
-opened_same whole loose header contents.Hidden x m same = refl
-opened_same whole loose header (contents.Shown most) x m same = refl
-opened_same whole loose header (contents.Short most) x m same = refl
-opened_same whole loose header contents.Version x m same = refl
-opened_same whole loose header (contents.Of family) x m same = refl
-opened_same whole loose header contents.Point x m same = refl
-opened_same whole loose header (contents.Inside t) x m same = refl
-opened_same whole loose header (contents.Whole t) x m same = rw (same t refl) refl
-opened_same whole loose header contents.Free x m same = refl
+opened_same whole loose header contents.Hidden x m same bits = refl
+opened_same whole loose header (contents.Shown most) x m same bits = refl
+opened_same whole loose header (contents.Short most) x m same bits = refl
+opened_same whole loose header contents.Version x m same bits = refl
+opened_same whole loose header (contents.Of family) x m same bits = refl
+opened_same whole loose header contents.Point x m same bits = refl
+opened_same whole loose header (contents.Inside t) x m same bits = refl
+opened_same whole loose header (contents.Whole t) x m same bits = rw (same t refl) refl
+opened_same whole loose header (contents.Bits t) x m same bits = rw (bits t refl) refl
+opened_same whole loose header contents.Free x m same bits = refl
 
 definite : (o : Option ℕ) (test : Bool)
     → ◌≡◌ {A = Option Structure} (if is_none o || test then Some structures.Any else None) None → is_none o ≡ false
@@ -319,6 +329,8 @@ closed_content whole loose header (contents.Of family) x is fits = definite head
 closed_content whole loose header contents.Point x is fits = definite header.content_len _ is
 closed_content whole loose header (contents.Inside t) x is fits = absurd (cc is)
 closed_content whole loose header (contents.Whole t) x is fits = primitive header.tag.constructed header.content_len
+    fits
+closed_content whole loose header (contents.Bits t) x is fits = primitive header.tag.constructed header.content_len
     fits
 closed_content whole loose header contents.Free x is fits = definite header.content_len _ is
 
@@ -380,6 +392,7 @@ kept_fits small header (contents.Of family) x is =
 kept_fits small header contents.Point x is = is
 kept_fits small header (contents.Inside s) x is = refl
 kept_fits small header (contents.Whole s) x is = is
+kept_fits small header (contents.Bits s) x is = is
 kept_fits small header contents.Free x is = refl
 
 -- of an element without a component all or nothing is shown
@@ -408,6 +421,7 @@ zeros_misfit header (contents.Of family) x is =
 zeros_misfit header contents.Point x is = is
 zeros_misfit header (contents.Inside s) x is = is
 zeros_misfit header (contents.Whole s) x is = is
+zeros_misfit header (contents.Bits s) x is = is
 zeros_misfit header contents.Free x is = is
 
 pub kept_misfits : (small : Bool) (header : Header) (k : Content) (x : List ℕ) → admits header k x ≡ false
@@ -480,10 +494,70 @@ undrawn_at loose depth some x =
     no_choice (nat_lt depth 64) (step_by loose loose some (undrawn x)) (undrawn_no_step loose loose some x)
 
 -- zeros don't follow where other bytes don't
-pub zeros_followed : (most depth : ℕ) (s : Structure) (x : List ℕ) → is_followed most depth s x ≡ false
-    → is_followed most depth s (zeros x) ≡ false
-zeros_followed zero depth s x is = refl
-zeros_followed (suc most) depth s [] is = is
-zeros_followed (suc most) depth s (a ∷ x) is =
+zeros_never : (most depth : ℕ) (s : Structure) (a : ℕ) (x : List ℕ)
+    → is_followed most depth s (zeros (a ∷ x)) ≡ false
+zeros_never zero depth s a x = refl
+zeros_never (suc most) depth s a x =
     ap (λ (o : Option (List ℕ)). is_some o) (rest_stop false (suc most) depth false (components s)
     (zeros (a ∷ x)) (zeros_end (components s) a x) (zeros_at depth (components s) (a ∷ x)))
+
+pub zeros_followed : (most depth : ℕ) (s : Structure) (x : List ℕ) → is_followed most depth s x ≡ false
+    → is_followed most depth s (zeros x) ≡ false
+zeros_followed most depth s [] is = is
+zeros_followed most depth s (a ∷ x) is = zeros_never most depth s a x
+
+pub zeros_bits : (most depth : ℕ) (s : Structure) (x : List ℕ)
+    → are_bits (λ u y. is_followed most depth u y) s (zeros x) ≡ false
+zeros_bits most depth s [] = refl
+zeros_bits most depth s (a ∷ []) = refl
+zeros_bits most depth s (a ∷ b ∷ x) = zeros_never most depth s b x
+
+-- ---- bytes before the elements of a content
+
+front_bits : (whole : Structure → List ℕ → Bool) (s t : Structure) (x : List ℕ)
+    → (if are_bits whole s x then Some s else None) ≡ Some t → 1 ≤ length x
+front_bits whole s t [] is = absurd (cc is)
+front_bits whole s t (a ∷ x) is = omega arith
+
+-- they are there
+pub front_within : (whole : Structure → List ℕ → Bool) (loose : Bool) (header : Header) (k : Content) (x : List ℕ)
+    (s : Structure) → opened_in whole loose header k x ≡ Some s → front_len k ≤ length x
+unfolding opened_in
+front_within whole loose header contents.Hidden x s is = omega arith
+front_within whole loose header (contents.Shown most) x s is = omega arith
+front_within whole loose header (contents.Short most) x s is = omega arith
+front_within whole loose header contents.Version x s is = omega arith
+front_within whole loose header (contents.Of family) x s is = omega arith
+front_within whole loose header contents.Point x s is = omega arith
+front_within whole loose header (contents.Inside t) x s is = omega arith
+front_within whole loose header (contents.Whole t) x s is = omega arith
+front_within whole loose header (contents.Bits t) x s is = front_bits whole t s x is
+front_within whole loose header contents.Free x s is = omega arith
+
+-- an indefinite content has none
+pub front_open : (header : Header) (k : Content) (x : List ℕ) → admits header k x ≡ true
+    → is_none header.content_len ≡ true → front_len k ≡ 0
+unfolding admits
+front_open header contents.Hidden x fits is = refl
+front_open header (contents.Shown most) x fits is = refl
+front_open header (contents.Short most) x fits is = refl
+front_open header contents.Version x fits is = refl
+front_open header (contents.Of family) x fits is = refl
+front_open header contents.Point x fits is = refl
+front_open header (contents.Inside t) x fits is = refl
+front_open header (contents.Whole t) x fits is = refl
+front_open header (contents.Bits t) x fits is =
+    absurd (cc (sym is ∙ primitive header.tag.constructed header.content_len fits))
+front_open header contents.Free x fits is = refl
+
+bits_by : (a : ℕ) (r y : List ℕ) → length r ≡ length y → has_bits (a ∷ r) ≡ has_bits (a ∷ y)
+bits_by a [] [] size = refl
+bits_by a [] (c ∷ y) size = absurd (cc size)
+bits_by a (b ∷ r) [] size = absurd (cc size)
+bits_by a (b ∷ r) (c ∷ y) size = refl
+
+-- a number of unused bits before others
+pub bits_same : (x r : List ℕ) → length r ≡ length (drop 1 x) → has_bits (take 1 x ++ r) ≡ has_bits x
+bits_same [] [] size = refl
+bits_same [] (b ∷ r) size = absurd (cc size)
+bits_same (a ∷ x) r size = bits_by a r x size

@@ -2,22 +2,24 @@
 use Rattle.std.proofs.Common.{◌≡◌, ◌&&◌, ◌||◌, ℕ, ◌+◌, ◌-◌, Bool, true, false, List, [], ◌∷◌, ◌++◌, length, refl, sym}
 use Rattle.std.proofs.Common.{ap}
 use Rattle.std.proofs.Common.{ap₂, ◌∙◌, Option, Some, None, arith, nat_le, length-append, not}
-use Rattle.std.specs.Prelude.{if◌then◌else◌, nat_lt}
+use Rattle.std.specs.Prelude.{if◌then◌else◌}
 use Rattle.der_view.specs.Grammar.{Component, Form}
 use Rattle.der_view.specs.Masks.{AreAlike, AreAlikeAs, mask_as, mask_by_way, next_mask, step_mask}
 use Rattle.der_view.specs.Masks.{undrawn}
 use Rattle.der_view.specs.Pictures.{best, better, capped, complete_by, cut_by, ended_by, first_place, is_complete}
-use Rattle.der_view.specs.Pictures.{is_cut, is_tree}
+use Rattle.der_view.specs.Pictures.{is_cut, is_retagged, is_tree}
 use Rattle.der_view.specs.Pictures.{is_loose, is_nearer, is_public, known_as, left_as, left_in, nearest, parts_as}
 use Rattle.der_view.specs.Pictures.{parts_in, picture, plan_as, plan_of}
 use Rattle.der_view.specs.Pictures.{rest_rows, root_of, root_step, rows_as, rows_by, rows_by_way, rows_from, rules_by}
 use Rattle.der_view.specs.Pictures.{whole_as, whole_by}
+use Rattle.der_view.specs.Retagged.{is_last, with_rows}
 use Rattle.der_view.specs.Rows.{How, NotDrawn, Row, Step, given_part, is_open, next_rows, rest_after, step_rows}
 use Rattle.der_view.specs.declared.grammar.TheConstants as elements
 use Rattle.der_view.specs.declared.grammar.forms.TheConstants as tables
 use Rattle.der_view.specs.declared.plan.Plan.{Plan}
 use Rattle.der_view.specs.declared.plan.Way.{Way}
 use Rattle.der_view.specs.declared.plan.Way.TheVariants as ways
+use Rattle.der_view.specs.declared.retagged.Progress.TheVariants as steps
 use Rattle.der_view.specs.declared.walk.Place.{Place}
 use Rattle.der_view.proofs.MaskLemmas.{again, step_again, tail_len}
 use Rattle.der_view.proofs.RestLemmas.{BeginsMasked, begins_masked, masks_rest}
@@ -289,6 +291,12 @@ cut_alike : (a b : List ℕ) → AreAlike a b → is_cut a ≡ is_cut b
 cut_alike a b same =
     sym (cut_of_mask a) ∙ (ap (λ (x : List ℕ). is_cut x) same.elements ∙ cut_of_mask b)
 
+retagged_alike : (a b : List ℕ) → AreAlike a b → is_retagged a ≡ is_retagged b
+unfolding is_retagged
+retagged_alike a b same =
+    ap (λ (rows : List Row). is_last (with_rows steps.Nothing rows))
+    (rows_alike false false false elements.ELEMENT a b same.elements)
+
 plan_as_alike : (form : Form) (a b : List ℕ) → AreAlike a b
     → mask_as false false form.0 a ≡ mask_as false false form.0 b → plan_as form a ≡ plan_as form b
 plan_as_alike form a b same one =
@@ -296,6 +304,7 @@ plan_as_alike form a b same one =
       known_alike form a b one,
       whole_alike form.0 a b one,
       tree_alike a b same,
+      retagged_alike a b same,
       cut_alike a b same,
       len_alike a b
           same,

@@ -5,8 +5,10 @@ use Rattle.std.proofs.Common.{Some, None, drop, subst}
 use Rattle.std.proofs.lemmas.Bool.Decides.{nat_tests}
 use Rattle.std.specs.Prelude.{nat_lt}
 use Rattle.der_view.specs.Grammar.{Component, components}
-use Rattle.der_view.specs.Rows.{Element, How, NotDrawn, Step, after, end_at, end_rows, given_part, inside, inside_rules}
-use Rattle.der_view.specs.Rows.{is_open, next_rows, opened_of, rest_after, rest_next, rest_of, rows_of, step_at}
+use Rattle.der_view.specs.Rows.{Element, How, NotDrawn, Step, after, end_at, end_rows, given_part, inside}
+use Rattle.der_view.specs.Rows.{inside_rules}
+use Rattle.der_view.specs.Rows.{inside_bytes, is_open, next_rows, opened_of, rest_after, rest_next, rest_of, rows_of}
+use Rattle.der_view.specs.Rows.{step_at}
 use Rattle.der_view.specs.Rows.{step_by}
 use Rattle.der_view.specs.Rows.{step_rows, view}
 use Rattle.der_view.specs.declared.grammar.Structure.{Structure}
@@ -70,7 +72,7 @@ pub opened_rows : (how : How) (most : ℕ) (place : Place) (some : List Componen
     → step_rows how most place some step
     ≡ Element place (view how place some true step)
     ∷ rows_of (inside_rules how step.component.2) most (is_open step) (inside place step) (components structure)
-    step.content
+    (inside_bytes step)
 opened_rows how most place some step structure opened = rw opened refl
 
 pub rows_end : (how : How) (most : ℕ) (marked : Bool) (place : Place) (some : List Component) (bytes : List ℕ) (n : ℕ)

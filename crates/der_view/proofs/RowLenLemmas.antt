@@ -10,7 +10,7 @@ use Rattle.der_view.specs.Pictures.{rows_by}
 use Rattle.der_view.specs.Pictures.{rows_by_way, rows_from, rules_by}
 use Rattle.der_view.specs.RowLaws.{AreAt, row_len, rows_len}
 use Rattle.der_view.specs.Rows.{Element, admits, after_inside, is_followed, EndOfContents, How, NotDrawn, Row, Step}
-use Rattle.der_view.specs.Rows.{after, around, end_at, end_rows}
+use Rattle.der_view.specs.Rows.{after, around, end_at, end_rows, front_len, inside_bytes}
 use Rattle.der_view.specs.Rows.{inside, inside_loose, inside_rules, is_open, may_end, next_rows, opened_of, rest_after}
 use Rattle.der_view.specs.Rows.{rest_next}
 use Rattle.der_view.specs.Rows.{rest_of, rows_of, step_at, step_rows, view}
@@ -20,7 +20,7 @@ use Rattle.der_view.specs.declared.plan.Way.{Way}
 use Rattle.der_view.specs.declared.plan.Way.TheVariants as ways
 use Rattle.der_view.specs.declared.walk.Place.{Place}
 use Rattle.der_view.proofs.LevelLemmas.{taken_fits}
-use Rattle.der_view.proofs.MaskLemmas.{closed_content, rest_closed}
+use Rattle.der_view.proofs.MaskLemmas.{closed_content, front_within, rest_closed}
 use Rattle.der_view.proofs.RestLemmas.{next_found, taken}
 use Rattle.der_view.proofs.StepLemmas.{step_found}
 
@@ -129,11 +129,11 @@ opened_len how most place some len step size last admitted fits inner =
   where
     within : Bool → Structure → List Row
     within b s =
-        rows_of (inside_rules how step.component.2) most b (inside place step) (components s) step.content
+        rows_of (inside_rules how step.component.2) most b (inside place step) (components s) (inside_bytes step)
 
     rest_at : Bool → Structure → Option (List ℕ)
     rest_at b s =
-        rest_of (inside_loose step.component.2 how.loose) most (place.depth + 1) b (components s) step.content
+        rest_of (inside_loose step.component.2 how.loose) most (place.depth + 1) b (components s) (inside_bytes step)
 
     own : (b : Bool) → Row
     own opened = Element place (view how place some opened step)
@@ -143,41 +143,44 @@ opened_len how most place some len step size last admitted fits inner =
     no_len (Some n) is = absurd (cc is)
 
     join : (s : Structure) (b : Bool) (o : Option (List ℕ)) → is_open step ≡ b → rest_at b s ≡ o
-        → HasRows (inside_rules how step.component.2) most b (inside place step) (components s) step.content
+        → front_len step.component.2 ≤ length step.content
+        → HasRows (inside_rules how step.component.2) most b (inside place step) (components s) (inside_bytes step)
         → (IsLeft len (after_inside b step.rest o))
         × AreRowsOf place.offset place.end len (after_inside b step.rest o) (own true ∷ within b s)
-    join s b None marks is h =
-        let known : rows_len (within b s) ≡ place.end - (place.offset + step.header.len) =
-        h.rows.size ∙ ap (λ (r : Option (List ℕ)). rows_size (place.offset + step.header.len) place.end
-        (length step.content) r) is in (
+    join s b None marks is front h =
+        let known : rows_len (within b s) ≡ place.end - (inside place step).offset =
+        h.rows.size ∙ ap (λ (r : Option (List ℕ)). rows_size (inside place step).offset place.end
+        (length (inside_bytes step)) r) is in (
           tt,
           record {
-            size = omega (arith, known, fits, size);
+            size = omega (arith, known, fits, size, front);
             order = (refl, subst (λ (n : ℕ). AreAt n (within b s)) (omega arith) h.rows.order);
           },
         )
-    join s true (Some r) marks is h =
+    join s true (Some r) marks is front h =
+        let len' = length-drop (front_len step.component.2) step.content in
         let none : length step.rest ≡ 0 = ap length (last (no_len step.header.content_len marks)) in
-        let few : length r ≤ length step.content =
-        subst (λ (o : Option (List ℕ)). IsLeft (length step.content) o) is h.left in
-        let known : rows_len (within true s) ≡ length step.content - length r =
-        h.rows.size ∙ ap (λ (o : Option (List ℕ)). rows_size (place.offset + step.header.len) place.end
-        (length step.content) o) is in (
-          omega (arith, few, size),
+        let few : length r ≤ length (inside_bytes step) =
+        subst (λ (o : Option (List ℕ)). IsLeft (length (inside_bytes step)) o) is h.left in
+        let known : rows_len (within true s) ≡ length (inside_bytes step) - length r =
+        h.rows.size ∙ ap (λ (o : Option (List ℕ)). rows_size (inside place step).offset place.end
+        (length (inside_bytes step)) o) is in (
+          omega (arith, few, size, front, len'),
           record {
-            size = omega (arith, known, few, size, none);
+            size = omega (arith, known, few, size, none, front, len');
             order = (refl, subst (λ (n : ℕ). AreAt n (within true s)) (omega arith) h.rows.order);
           },
         )
-    join s false (Some r) marks is h =
+    join s false (Some r) marks is front h =
+        let len' = length-drop (front_len step.component.2) step.content in
         let none : r ≡ [] = rest_closed (inside_loose step.component.2 how.loose) most (place.depth + 1) (components s)
-        step.content r is in
-        let known : rows_len (within false s) ≡ length step.content - length r =
-        h.rows.size ∙ ap (λ (o : Option (List ℕ)). rows_size (place.offset + step.header.len) place.end
-        (length step.content) o) is in (
+        (inside_bytes step) r is in
+        let known : rows_len (within false s) ≡ length (inside_bytes step) - length r =
+        h.rows.size ∙ ap (λ (o : Option (List ℕ)). rows_size (inside place step).offset place.end
+        (length (inside_bytes step)) o) is in (
           omega (arith, size),
           record {
-            size = omega (arith, known, ap length none, size);
+            size = omega (arith, known, ap length none, size, front, len');
             order = (refl, subst (λ (n : ℕ). AreAt n (within false s)) (omega arith) h.rows.order);
           },
         )
@@ -192,9 +195,13 @@ opened_len how most place some len step size last admitted fits inner =
       rows = rw (none, marks) (record { size = omega (arith, size); order = (refl, tt) });
     }
     by_opened (Some s) b some' marks =
-        let h = inner (inside_rules how step.component.2) b (inside place step) (components s) step.content
-        (omega (arith, fits, size)) in
-        let both = join s b (rest_at b s) marks refl h in
+        let front : front_len step.component.2 ≤ length step.content =
+        front_within (λ u y. is_followed most (place.depth + 1) u y) how.loose step.header step.component.2 step.content
+        s some' in
+        let len' = length-drop (front_len step.component.2) step.content in
+        let h = inner (inside_rules how step.component.2) b (inside place step) (components s) (inside_bytes step)
+        (omega (arith, fits, size, front, len')) in
+        let both = join s b (rest_at b s) marks refl front h in
         record {
           left = rw some' (subst (λ (c : Bool). IsLeft len (after_inside c step.rest (rest_at c s))) (sym marks)
               both.0);

@@ -1,19 +1,23 @@
 -- The rows of bytes are those of their mask.
 use Rattle.std.proofs.Common.{◌≡◌, ℕ, zero, suc, ◌+◌, ◌-◌, Bool, true, false, List, [], ◌∷◌, ◌++◌, length, take}
 use Rattle.std.proofs.Common.{refl, sym, ap, ap₂, ◌∙◌, Option, Some, None, arith, append-nil, length-append}
+use Rattle.std.proofs.Common.{append_assoc, drop, ◌≤◌}
+use Rattle.std.proofs.lemmas.List.{drop_at, length-take-le}
 use Rattle.std.specs.Prelude.{is_none}
 use Rattle.der_view.specs.Contents.{shown_len}
 use Rattle.der_view.specs.Grammar.{Component, components}
 use Rattle.der_view.specs.Masks.{masked, step_mask, undrawn}
-use Rattle.der_view.specs.Rows.{Element, How, Row, Step, after, after_inside, end_at, inside, inside_loose}
-use Rattle.der_view.specs.Rows.{inside_rules, is_open, next_rows, opened_of, rest_after, rest_of, rows_of, step_at}
+use Rattle.der_view.specs.Rows.{Element, How, Row, Step, after, after_inside, end_at, front_len, inside}
+use Rattle.der_view.specs.Rows.{inside_bytes, inside_loose, inside_rules, is_followed, is_open, next_rows, opened_of}
+use Rattle.der_view.specs.Rows.{rest_after, rest_of, rows_of, step_at}
 use Rattle.der_view.specs.Rows.{step_rows, view}
 use Rattle.der_view.specs.declared.grammar.Structure.{Structure}
 use Rattle.der_view.specs.declared.walk.Place.{Place}
 use Rattle.der_view.proofs.LevelLemmas.{MasksStep, closed_left}
-use Rattle.der_view.proofs.MaskLemmas.{again, left, step_again, tail_len, undrawn_at}
+use Rattle.der_view.proofs.MaskLemmas.{again, front_within, left, step_again, tail_len, undrawn_at}
 use Rattle.der_view.proofs.RestLemmas.{end_again, joined_again, mask_end, mask_step, mask_stop}
-use Rattle.der_view.proofs.RestLemmas.{masks_rest, next_again, next_found, next_masked, next_rest, step_rest, tail_next}
+use Rattle.der_view.proofs.RestLemmas.{masks_rest, next_again, next_found, next_masked, next_rest, step_rest}
+use Rattle.der_view.proofs.RestLemmas.{tail_next}
 use Rattle.der_view.proofs.RestLemmas.{undrawn_end}
 use Rattle.der_view.proofs.RowLemmas.{rows_end, rows_stop}
 use Rattle.der_view.proofs.StepLemmas.{no_bytes, step_like}
@@ -52,9 +56,9 @@ pub element_same : (loose small : Bool) (most : ℕ) (place : Place) (some : Lis
     (m t : List ℕ) → MasksStep loose small most (place.depth + 1) step next m t
     → ((s : Structure) → opened_of loose most (place.depth + 1) step ≡ Some s
     → rows_of (hidden (inside_loose step.component.2 loose) small) most (is_open step) (inside place step)
-    (components s) next.content
+    (components s) (inside_bytes next)
     ≡ rows_of (hidden (inside_loose step.component.2 loose) small) most (is_open step) (inside place step)
-    (components s) step.content)
+    (components s) (inside_bytes step))
     → step_rows (hidden loose small) most place some next ≡ step_rows (hidden loose small) most place some step
 element_same loose small most place some step next m t masks inner =
     by_opened (opened_of loose most (place.depth + 1) step) refl
@@ -63,17 +67,18 @@ element_same loose small most place some step next m t masks inner =
     how = hidden loose small
 
     rows : Step → Structure → List Row
-    rows x s = rows_of (inside_rules how x.component.2) most (is_open x) (inside place x) (components s) x.content
+    rows x s =
+        rows_of (inside_rules how x.component.2) most (is_open x) (inside place x) (components s) (inside_bytes x)
 
     seen : (b : Bool) → view how place some b next ≡ view how place some b step
     seen b = view_same loose small place some b step next masks.like masks.stays.len masks.shown
 
     like_rows : (s : Structure) → rows next s
         ≡ rows_of (hidden (inside_loose step.component.2 loose) small) most (is_open step) (inside place step)
-        (components s) next.content
+        (components s) (inside_bytes next)
     like_rows s =
         ap (λ (x : Step). rows_of (hidden (inside_loose x.component.2 loose) small) most (is_open x) (inside place x)
-        (components s) next.content) masks.like
+        (components s) (inside_bytes next)) masks.like
 
     by_opened : (o : Option Structure) → opened_of loose most (place.depth + 1) step ≡ o
         → step_rows how most place some next ≡ step_rows how most place some step
@@ -91,9 +96,9 @@ pub inside_same : (loose small : Bool) (most : ℕ) (place : Place) (step : Step
     → (step.header.content_len ≡ None → step.rest ≡ [])
     → rows_of (hidden (inside_loose step.component.2 loose) small) most (is_open step) (inside place step)
     (components s)
-    (step_again (is_open step) step (step_mask loose small most (place.depth + 1) step) t).content
+    (inside_bytes (step_again (is_open step) step (step_mask loose small most (place.depth + 1) step) t))
     ≡ rows_of (hidden (inside_loose step.component.2 loose) small) most (is_open step) (inside place step)
-    (components s) step.content
+    (components s) (inside_bytes step)
 inside_same loose small most place step t s inner is size last = by_open (is_open step) refl
   where
     depth : ℕ
@@ -103,12 +108,23 @@ inside_same loose small most place step t s inner is size last = by_open (is_ope
     inside' = inside_loose step.component.2 loose
 
     rest_at : Bool → Option (List ℕ)
-    rest_at marked = rest_of inside' most depth marked (components s) step.content
+    rest_at marked = rest_of inside' most depth marked (components s) (inside_bytes step)
 
     mask_at : Bool → List ℕ
-    mask_at marked = masked inside' small most depth marked (components s) step.content
+    mask_at marked = masked inside' small most depth marked (components s) (inside_bytes step)
 
-    mask_is : (b : Bool) → is_open step ≡ b → step_mask loose small most depth step ≡ mask_at b
+    front : List ℕ
+    front = take (front_len step.component.2) step.content
+
+    few : front_len step.component.2 ≤ length step.content
+    few =
+        front_within (λ u y. is_followed most depth u y) loose step.header step.component.2 step.content s is
+
+    back : (x : List ℕ) → drop (front_len step.component.2) (front ++ x) ≡ x
+    back x =
+        drop_at front x (front_len step.component.2) (length-take-le (front_len step.component.2) step.content few)
+
+    mask_is : (b : Bool) → is_open step ≡ b → step_mask loose small most depth step ≡ front ++ mask_at b
     mask_is b e = rw (is, e) refl
 
     no_len : (o : Option ℕ) → is_none o ≡ true → o ≡ None
@@ -121,21 +137,24 @@ inside_same loose small most place step t s inner is size last = by_open (is_ope
 
     by_open : (b : Bool) → is_open step ≡ b
         → rows_of (hidden inside' small) most b (inside place step) (components s)
-        (step_again b step (step_mask loose small most depth step) t).content
-        ≡ rows_of (hidden inside' small) most b (inside place step) (components s) step.content
+        (inside_bytes (step_again b step (step_mask loose small most depth step) t))
+        ≡ rows_of (hidden inside' small) most b (inside place step) (components s) (inside_bytes step)
     by_open false e =
         ap (λ (x : List ℕ). rows_of (hidden inside' small) most false (inside place step) (components s) x)
-        (mask_is false e ∙ sym (append-nil (mask_at false)))
-        ∙ inner inside' false (inside place step) (components s) step.content []
-        (sym (closed_left inside' most depth (components s) step.content))
+        (ap (λ (x : List ℕ). drop (front_len step.component.2) x) (mask_is false e)
+        ∙ (back (mask_at false) ∙ sym (append-nil (mask_at false))))
+        ∙ inner inside' false (inside place step) (components s) (inside_bytes step) []
+        (sym (closed_left inside' most depth (components s) (inside_bytes step)))
     by_open true e =
         let after' : rest_after loose most depth step ≡ after_inside true step.rest (rest_at true) = rw (is, e) refl in
         let len : length t ≡ left (rest_at true) =
         size ∙ (ap (λ (o : Option (List ℕ)). tail_len step o) after'
         ∙ open_tail (rest_at true) (last (no_len step.header.content_len e))) in
-        ap (λ (x : List ℕ). rows_of (hidden inside' small) most true (inside place step) (components s) (x ++ t))
-        (mask_is true e)
-        ∙ inner inside' true (inside place step) (components s) step.content t len
+        ap (λ (x : List ℕ). rows_of (hidden inside' small) most true (inside place step) (components s) x)
+        (ap (λ (x : List ℕ). drop (front_len step.component.2) (x ++ t)) (mask_is true e)
+        ∙ (ap (λ (x : List ℕ). drop (front_len step.component.2) x) (append_assoc front (mask_at true) t)
+        ∙ back (mask_at true ++ t)))
+        ∙ inner inside' true (inside place step) (components s) (inside_bytes step) t len
 
 -- ---- levels
 

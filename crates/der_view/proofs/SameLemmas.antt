@@ -1,12 +1,12 @@
 -- Masks of elements with contents that differ.
 use Rattle.std.proofs.Common.{◌≡◌, ◌&&◌, ◌||◌, ℕ, suc, ◌+◌, Bool, true, false, List, [], ◌++◌, length}
-use Rattle.std.proofs.Common.{take, refl, sym, ap, ap₂, ◌∙◌, Option, Some, None, append-nil, subst}
+use Rattle.std.proofs.Common.{take, drop, refl, sym, ap, ap₂, ◌∙◌, Option, Some, None, append-nil, subst}
 use Rattle.std.specs.Option.{is_some}
 use Rattle.std.specs.Prelude.{if◌then◌else◌, is_none, nat_lt}
 use Rattle.der_view.specs.Contents.{is_small, is_shown, is_whole, shown_in, shown_len}
 use Rattle.der_view.specs.Grammar.{Component, components}
 use Rattle.der_view.specs.Masks.{masked, step_mask}
-use Rattle.der_view.specs.Rows.{Step, admits, after_inside, end_at, inside_loose}
+use Rattle.der_view.specs.Rows.{Step, admits, after_inside, end_at, front_len, inside_bytes, inside_loose}
 use Rattle.der_view.specs.Rows.{is_followed, opened_in, opened_of, rest_after, rest_of, step_at, step_by}
 use Rattle.der_view.specs.Rows.{step_with}
 use Rattle.der_view.specs.declared.grammar.Content.{Content}
@@ -80,21 +80,22 @@ after_some rest (Some r) = refl
 -- both are rows, or neither is
 rows_alike : (loose small : Bool) (most depth : ℕ) (header : Header) (head : List ℕ) (c : Component)
     (others : List Component) (follows : Bool) (a b s t : List ℕ) (u : Structure) → is_none header.content_len ≡ false
+    → front_len c.2 ≡ 0
     → opened_of loose most depth (step_as header head c others follows a s) ≡ Some u
     → opened_of loose most depth (step_as header head c others follows b t) ≡ Some u
     → masked (inside_loose c.2 loose) small most depth false (components u) a
     ≡ masked (inside_loose c.2 loose) small most depth false (components u) b
     → StepsAlike loose small most depth (step_as header head c others follows a s)
     (step_as header head c others follows b t)
-rows_alike loose small most depth header head c others follows a b s t u definite one two same = record {
-  mask = rw (one, two, definite) same;
-  goes = rw (one, two, definite)
+rows_alike loose small most depth header head c others follows a b s t u definite front one two same = record {
+  mask = rw (one, two, definite, front) same;
+  goes = rw (one, two, definite, front)
       (after_some s (rest_of (inside_loose c.2 loose) most depth false (components u) a)
       ∙ (goes_alike (inside_loose c.2 loose) small most depth (components u) a b same
       ∙ sym (after_some t (rest_of (inside_loose c.2 loose) most depth false (components u) b))));
 }
 
-closed_alike : (loose small : Bool) (most depth : ℕ) (header : Header) (head : List ℕ) (c : Component)
+pub closed_alike : (loose small : Bool) (most depth : ℕ) (header : Header) (head : List ℕ) (c : Component)
     (others : List Component) (follows : Bool) (a b s t : List ℕ)
     → opened_of loose most depth (step_as header head c others follows a s) ≡ None
     → opened_of loose most depth (step_as header head c others follows b t) ≡ None
@@ -143,7 +144,7 @@ hidden_len : (small : Bool) (header : Header) (x : List ℕ) → shown_len small
 unfolding shown_len shown_in is_shown
 hidden_len small header x = none_shown (is_whole header x)
 
-whole_len : (small : Bool) (header : Header) (u : Structure) (x : List ℕ)
+pub whole_len : (small : Bool) (header : Header) (u : Structure) (x : List ℕ)
     → shown_len small header (contents.Whole u) x ≡ 0
 unfolding shown_len shown_in is_shown
 whole_len small header u x = none_shown (is_whole header x)
@@ -154,11 +155,11 @@ elements_alike : (loose small : Bool) (most depth : ℕ) (header : Header) (c : 
     ≡ (if is_none header.content_len || (header.tag.constructed && free) then Some structures.Any else None))
     → ((constructed : Bool) → header.tag.constructed ≡ constructed → (constructed && free) ≡ false
     → (x : List ℕ) → length x ≡ length a → shown_len small header c.2 x ≡ 0)
-    → inside_loose c.2 loose ≡ loose
+    → inside_loose c.2 loose ≡ loose → front_len c.2 ≡ 0
     → (head : List ℕ) (others : List Component) (follows : Bool) (s t : List ℕ)
     → StepsAlike loose small most depth (step_as header head c others follows a s)
     (step_as header head c others follows b t)
-elements_alike loose small most depth header c a b holds free are is shut same head others follows s t =
+elements_alike loose small most depth header c a b holds free are is shut same front head others follows s t =
     by_test header.tag.constructed free refl refl
   where
     whole : Structure → List ℕ → Bool
@@ -173,7 +174,7 @@ elements_alike loose small most depth header c a b holds free are is shut same h
         (step_as header head c others follows b t)
     by_test true true made e =
         rows_alike loose small most depth header head c others follows a b s t structures.Any are.definite
-        (opened true true made e a) (opened true true made e b)
+        front (opened true true made e a) (opened true true made e b)
         (subst (λ (l : Bool). masked l small most depth false any a ≡ masked l small most depth false any b) (sym same)
         (are.anything loose made))
     by_test true false made e =
@@ -192,13 +193,13 @@ unfolding opened_in admits
 content_alike loose small most depth header (g, p, contents.Hidden, n) a b holds are is = record {
   admitted = refl;
   alike = elements_alike loose small most depth header (g, p, contents.Hidden, n) a b holds loose are
-      (λ whole y. refl) (λ constructed made test x size. hidden_len small header x) refl;
+      (λ whole y. refl) (λ constructed made test x size. hidden_len small header x) refl refl;
 }
 content_alike loose small most depth header (g, p, contents.Free, n) a b holds are is = record {
   admitted = refl;
   alike = elements_alike loose small most depth header (g, p, contents.Free, n) a b holds true are
       (λ whole y. refl)
-      (λ constructed made test x size. are.unseen x size (made ∙ plain constructed test)) refl;
+      (λ constructed made test x size. are.unseen x size (made ∙ plain constructed test)) refl refl;
 }
   where
     plain : (constructed : Bool) → (constructed && true) ≡ false → constructed ≡ false
@@ -208,7 +209,7 @@ content_alike loose small most depth header (g, p, contents.Inside u, n) a b hol
   admitted = refl;
   alike = λ head others follows s t.
       rows_alike loose small most depth header head (g, p, contents.Inside u, n) others follows a b s t u are.definite
-      refl refl (are.inner u loose is);
+      refl refl refl (are.inner u loose is);
 }
 content_alike loose small most depth header (g, p, contents.Whole u, n) a b holds are is = record {
   admitted = refl;
@@ -225,7 +226,7 @@ content_alike loose small most depth header (g, p, contents.Whole u, n) a b hold
     by_test head others follows s t true two =
         let one : is_followed most depth u a ≡ true = same ∙ two in
         rows_alike loose small most depth header head (g, p, contents.Whole u, n) others follows a b s t u are.definite
-        (rw one refl) (rw two refl) (are.inner u false is)
+        refl (rw one refl) (rw two refl) (are.inner u false is)
     by_test head others follows s t false two =
         let one : is_followed most depth u a ≡ false = same ∙ two in
         closed_alike loose small most depth header head (g, p, contents.Whole u, n) others follows a b s t
@@ -235,6 +236,7 @@ content_alike loose small most depth header (g, p, contents.Short m, n) a b hold
 content_alike loose small most depth header (g, p, contents.Version, n) a b holds are is = absurd (cc is)
 content_alike loose small most depth header (g, p, contents.Of family, n) a b holds are is = absurd (cc is)
 content_alike loose small most depth header (g, p, contents.Point, n) a b holds are is = absurd (cc is)
+content_alike loose small most depth header (g, p, contents.Bits u, n) a b holds are is = absurd (cc is)
 
 -- one content alone
 pub same_content : (loose small : Bool) (most depth : ℕ) (header : Header) (c : Component) (a : List ℕ)
@@ -261,8 +263,9 @@ same_content loose small most depth header c a definite = record {
     goes head others follows s t None is = rw is refl
     goes head others follows s t (Some u) is =
         rw (is, definite)
-        (after_some s (rest_of (inside_loose c.2 loose) most depth false (components u) a)
-        ∙ sym (after_some t (rest_of (inside_loose c.2 loose) most depth false (components u) a)))
+        (after_some s (rest_of (inside_loose c.2 loose) most depth false (components u) (drop (front_len c.2) a))
+        ∙ sym (after_some t (rest_of (inside_loose c.2 loose) most depth false (components u)
+        (drop (front_len c.2) a))))
 
 -- ---- bytes that begin with an element
 
@@ -312,7 +315,8 @@ next_is loose small most depth p q one two goes size same =
         let same' : ◌≡◌ {A = Option (List ℕ)} (Some x.rest) (Some r) = sym (rw is refl) ∙ known in
         cc
     rest_is x (Some u) r e is known =
-        inner (rest_of (inside_loose x.component.2 loose) most (depth + 1) false (components u) x.content)
+        inner (rest_of (inside_loose x.component.2 loose) most (depth + 1) false (components u)
+        (inside_bytes x))
         (sym (rw (is, e) refl) ∙ known)
       where
         inner : (o : Option (List ℕ)) → after_inside false x.rest o ≡ Some r → x.rest ≡ r

@@ -5,7 +5,7 @@ use Rattle.der_view.specs.Grammar.{Component, Form}
 use Rattle.der_view.specs.Headers.{is_type}
 use Rattle.der_view.specs.Marks.{content_fault, length_fault, string_fault, tag_fault}
 use Rattle.der_view.specs.Marks.{unused_number_fault}
-use Rattle.der_view.specs.Rows.{ElementView, Row, Element, EndOfContents, NotDrawn}
+use Rattle.der_view.specs.Rows.{ElementView, Row, Element, EndOfContents, NotDrawn, own_len}
 use Rattle.der_view.specs.declared.facts.Kind.{Kind}
 use Rattle.der_view.specs.declared.facts.Kind.TheVariants as kinds
 use Rattle.der_view.specs.declared.facts.Point.{Point}
@@ -36,6 +36,7 @@ pub record RowView : Type 0 where
   pub announced : Option ℕ
   pub len : ℕ
   pub opened : Bool
+  pub own_len : ℕ
   pub name : Name
   pub secret : Bool
   pub shown : Shown
@@ -53,6 +54,7 @@ row_view row = record {
   announced = row.announced;
   len = row.len;
   opened = row.opened;
+  own_len = row.own_len;
   name = row.name;
   secret = row.is_secret;
   shown = row.shown;
@@ -200,6 +202,7 @@ element_row plan all place element = record {
   announced = element.header.content_len;
   len = element.len;
   opened = element.opened;
+  own_len = own_len element;
   name = shown_name plan element.component.3;
   secret = not all && is_private_name (shown_name plan element.component.3)
       && is_count (shown_by element);
@@ -218,6 +221,7 @@ end_row place = record {
   announced = Some 0;
   len = 0;
   opened = false;
+  own_len = 0;
   name = names.Nothing;
   secret = false;
   shown = shows.Nothing;
@@ -235,6 +239,7 @@ not_drawn_row plan place expected len content = record {
   announced = Some len;
   len = len;
   opened = false;
+  own_len = len;
   name = names.Nothing;
   secret = false;
   shown = shows.Nothing;

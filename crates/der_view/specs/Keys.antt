@@ -1,6 +1,6 @@
 -- Private keys that differ in their private bytes.
-use Rattle.std.specs.Prelude.{◌≡◌, ◌≤◌, ◌⊎◌, ◌==◌, ◌&&◌, ◌||◌, not, nat_lt, ℕ, ◌%◌, Bool, true}
-use Rattle.std.specs.Prelude.{List, [], ◌∷◌, ◌++◌, length, drop}
+use Rattle.std.specs.Prelude.{◌≡◌, ◌<◌, ◌≤◌, ◌⊎◌, ◌==◌, ◌&&◌, ◌||◌, not, nat_lt, ℕ, ◌-◌, ◌%◌}
+use Rattle.std.specs.Prelude.{Bool, true, List, [], ◌∷◌, ◌++◌, length, drop, min}
 use Rattle.sec1_der.specs.Elements.{element, header}
 use Rattle.der_view.specs.Headers.{max_content_len}
 
@@ -67,13 +67,25 @@ abbrev pub integers : List (List ℕ) → List Part
 integers [] = []
 integers (number ∷ numbers) = (0x02, number) ∷ integers numbers
 
--- RFC 5958 section 2: a privateKey after a version and an algorithm
+-- RFC 5958 section 2: the version and the algorithm before a privateKey
+abbrev pub container_parts : List ℕ → List ℕ → List Part
+container_parts version algorithm = (0x02, version) ∷ (0x30, algorithm) ∷ []
+
+-- a privateKey after them
 abbrev pub container : List ℕ → List ℕ → List ℕ → Level
 container version algorithm after = record {
-  before = (0x02, version) ∷ (0x30, algorithm) ∷ [];
+  before = container_parts version algorithm;
   tag = 0x04;
   after = after;
 }
+
+-- A content has the first n bytes, or all if they are fewer, of the header of an element of k bytes
+-- and of these after it: all of the header, but not all of the element.
+pub record IsCutIn (n tag k : ℕ) (x : List ℕ) : Type 0 where
+  pub low : is_low tag ≡ true
+  pub few : k ≤ max_content_len
+  pub begins : length (header tag k) ≤ n
+  pub ends : min (n - length (header tag k)) (length x) < k
 
 -- a SEQUENCE alone
 abbrev pub sequence : Level

@@ -5,7 +5,8 @@ use Rattle.std.specs.Prelude.{take, drop, replicate, Option, Some, None}
 use Rattle.der_view.specs.Contents.{shown_len}
 use Rattle.der_view.specs.Grammar.{Component, Form, components}
 use Rattle.der_view.specs.Pictures.{plan_of, root_of, root_step}
-use Rattle.der_view.specs.Rows.{Step, end_at, inside_loose, is_open, opened_of, rest_after, step_at}
+use Rattle.der_view.specs.Rows.{Step, end_at, front_len, inside_bytes, inside_loose, is_open}
+use Rattle.der_view.specs.Rows.{opened_of, rest_after, step_at}
 use Rattle.der_view.specs.declared.grammar.TheConstants as elements
 use Rattle.der_view.specs.declared.grammar.Structure.{Structure}
 use Rattle.der_view.specs.declared.grammar.forms.TheConstants as tables
@@ -28,7 +29,8 @@ masked_content shown bytes = take shown bytes ++ zeros (drop shown bytes)
 abbrev pub content_mask : Bool → (Structure → List ℕ) → Option Structure → Step → List ℕ
 content_mask small inside None step =
     masked_content (shown_len small step.header step.component.2 step.content) step.content
-content_mask small inside (Some structure) step = inside structure
+content_mask small inside (Some structure) step =
+    take (front_len step.component.2) step.content ++ inside structure
 
 abbrev pub next_mask : List ℕ → (List ℕ → List ℕ) → Option (List ℕ) → List ℕ
 next_mask bytes next None = undrawn bytes
@@ -49,7 +51,7 @@ masked loose small (suc most) depth marked some bytes =
     masked_by bytes
     (λ step. content_mask small
     (λ structure. masked (inside_loose step.component.2 loose) small most (depth + 1)
-    (is_open step) (components structure) step.content)
+    (is_open step) (components structure) (inside_bytes step))
     (opened_of loose most (depth + 1) step) step)
     (λ step. rest_after loose most (depth + 1) step)
     (λ others rest. masked loose small most depth marked others rest)
@@ -60,7 +62,7 @@ abbrev pub step_mask : Bool → Bool → ℕ → ℕ → Step → List ℕ
 step_mask loose small most depth step =
     content_mask small
     (λ structure. masked (inside_loose step.component.2 loose) small most depth
-    (is_open step) (components structure) step.content)
+    (is_open step) (components structure) (inside_bytes step))
     (opened_of loose most depth step) step
 
 abbrev pub mask_with : Bool → Bool → List ℕ → Option Step → List ℕ

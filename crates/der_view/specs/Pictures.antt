@@ -3,6 +3,7 @@ use Rattle.std.specs.Prelude.{ℕ, ◌+◌, ◌-◌, ◌^◌, ◌==◌, ◌&&◌
 use Rattle.std.specs.Prelude.{if◌then◌else◌, Bool, true, false, List, [], ◌∷◌, ◌++◌, length}
 use Rattle.std.specs.Prelude.{Option, Some, None}
 use Rattle.der_view.specs.Grammar.{Component, Form}
+use Rattle.der_view.specs.Retagged.{is_last, with_rows}
 use Rattle.der_view.specs.Rows.{Element, EndOfContents, How, NotDrawn, Row, Step, given_part}
 use Rattle.der_view.specs.Rows.{next_rows, rest_after, step_by, step_rows}
 use Rattle.der_view.specs.declared.grammar.TheConstants as elements
@@ -12,6 +13,7 @@ use Rattle.der_view.specs.declared.grammar.forms.TheConstants as tables
 use Rattle.der_view.specs.declared.plan.Plan.{Plan}
 use Rattle.der_view.specs.declared.plan.Way.{Way}
 use Rattle.der_view.specs.declared.plan.Way.TheVariants as ways
+use Rattle.der_view.specs.declared.retagged.Progress.TheVariants as steps
 use Rattle.der_view.specs.declared.walk.Place.{Place}
 
 -- ---- the rows of a root
@@ -146,10 +148,23 @@ way_of None whole rooted = if rooted then ways.Loose else ways.Nothing
 way_of (Some form) whole rooted =
     if is_strict form.1 whole rooted then ways.Strict else ways.Loose
 
+-- whether bytes are an ECPrivateKey but for the tag of its privateKey
+unfoldable pub is_retagged : List ℕ → Bool
+is_retagged bytes =
+    is_last (with_rows steps.Nothing (rows_as strictly elements.ELEMENT false bytes))
+
+-- the form of bytes, known or that of such a key
+abbrev pub form_by : Option Form → Bool → Option Form
+form_by None retagged = if retagged then Some tables.FIRST else None
+form_by (Some form) retagged = Some form
+
+abbrev pub form_as : Form → List ℕ → Option Form
+form_as form bytes = form_by (known_as form bytes) (is_tree bytes && is_retagged bytes)
+
 abbrev pub plan_as : Form → List ℕ → Plan
 plan_as form bytes = record {
-  form = known_as form bytes;
-  way = way_of (known_as form bytes) (whole_as false form.0 bytes) (is_tree bytes);
+  form = form_as form bytes;
+  way = way_of (form_as form bytes) (whole_as false form.0 bytes) (is_tree bytes);
   is_whole = whole_as false form.0 bytes;
   is_tree = is_tree bytes;
   is_cut = is_cut bytes;

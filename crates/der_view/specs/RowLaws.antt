@@ -1,11 +1,10 @@
 -- The bytes that rows are of.
-use Rattle.std.specs.Prelude.{◌≡◌, ℕ, ◌+◌, List, [], ◌∷◌, if◌then◌else◌, true}
-use Rattle.der_view.specs.Rows.{Element, EndOfContents, NotDrawn, Row}
+use Rattle.std.specs.Prelude.{◌≡◌, ℕ, ◌+◌, List, [], ◌∷◌, true}
+use Rattle.der_view.specs.Rows.{Element, EndOfContents, NotDrawn, Row, own_len}
 
--- the number of bytes that a row is of: a header, and a content unless that is rows
+-- the number of bytes that a row is of: a header, and what has no other row of a content
 abbrev pub row_len : Row → ℕ
-row_len (Element place element) =
-    element.header.len + (if element.opened then 0 else element.len)
+row_len (Element place element) = element.header.len + own_len element
 row_len (EndOfContents place) = 2
 row_len (NotDrawn place expected len content) = len
 

@@ -136,6 +136,7 @@ admits header contents.Version bytes = is_whole header bytes && length bytes == 
 admits header (contents.Of family) bytes = is_whole header bytes && is_of (identifiers family) bytes
 admits header contents.Point bytes = is_primitive header
 admits header (contents.Whole structure) bytes = is_primitive header
+admits header (contents.Bits structure) bytes = is_primitive header
 admits header _ bytes = true
 
 abbrev pub component_by : Header → List ℕ → Option (Component × List Component)
@@ -222,12 +223,23 @@ abbrev pub is_elements : Bool → Content → Bool
 is_elements loose contents.Free = true
 is_elements loose _ = loose
 
+-- X.690 section 8.6.2: bits of which none is unused
+abbrev pub has_bits : List ℕ → Bool
+has_bits (unused ∷ bits ∷ bytes) = unused == 0x00
+has_bits _ = false
+
+-- whether the bits of a BIT STRING are a structure
+abbrev pub are_bits : (Structure → List ℕ → Bool) → Structure → List ℕ → Bool
+are_bits whole structure bytes = has_bits bytes && whole structure (drop 1 bytes)
+
 -- the structure that a content is drawn as
 unfoldable pub opened_in : (Structure → List ℕ → Bool) → Bool → Header → Content → List ℕ
     → Option Structure
 opened_in whole loose header (contents.Inside structure) bytes = Some structure
 opened_in whole loose header (contents.Whole structure) bytes =
     if whole structure bytes then Some structure else None
+opened_in whole loose header (contents.Bits structure) bytes =
+    if are_bits whole structure bytes then Some structure else None
 opened_in whole loose header content bytes =
     if is_none header.content_len || (header.tag.constructed && is_elements loose content)
     then Some structures.Any else None
@@ -238,7 +250,17 @@ opened_by whole loose step = opened_in whole loose step.header step.component.2 
 -- a content that follows its structure to the end is drawn so
 abbrev pub inside_loose : Content → Bool → Bool
 inside_loose (contents.Whole structure) loose = false
+inside_loose (contents.Bits structure) loose = false
 inside_loose _ loose = loose
+
+-- the number of bytes of a content before its elements: of a BIT STRING that of its unused bits
+abbrev pub front_len : Content → ℕ
+front_len (contents.Bits structure) = 1
+front_len _ = 0
+
+-- the elements of a content
+abbrev pub inside_bytes : Step → List ℕ
+inside_bytes step = drop (front_len step.component.2) step.content
 
 abbrev pub after_inside : Bool → List ℕ → Option (List ℕ) → Option (List ℕ)
 after_inside marked rest None = None
@@ -269,7 +291,7 @@ rest_of loose (suc most) depth marked some bytes =
     rest_by bytes
     (λ step. rest_with
     (λ structure. rest_of (inside_loose step.component.2 loose) most (depth + 1) (is_open step)
-    (components structure) step.content)
+    (components structure) (inside_bytes step))
     (opened_by (λ structure content. is_some
     (rest_of false most (depth + 1) false (components structure) content)) loose step)
     step)
@@ -291,7 +313,7 @@ abbrev pub rest_after : Bool → ℕ → ℕ → Step → Option (List ℕ)
 rest_after loose most depth step =
     rest_with
     (λ structure. rest_of (inside_loose step.component.2 loose) most depth (is_open step)
-    (components structure) step.content)
+    (components structure) (inside_bytes step))
     (opened_of loose most depth step) step
 
 -- ---- rows
@@ -314,7 +336,10 @@ inside_rules how content = record how { loose = inside_loose content how.loose }
 
 abbrev pub inside : Place → Step → Place
 inside place step =
-    record place { offset = place.offset + step.header.len; depth = place.depth + 1 }
+    record place {
+      offset = place.offset + step.header.len + front_len step.component.2;
+      depth = place.depth + 1;
+    }
 
 -- the place where so many bytes are left of those at a place
 abbrev pub after : Place → List ℕ → List ℕ → Place
@@ -334,6 +359,10 @@ view how place some opened step = record {
       else given_part how.given (place.offset + step.header.len) (length step.content);
   opened = opened;
 }
+
+-- the number of bytes of a content that have no other row
+abbrev pub own_len : ElementView → ℕ
+own_len element = if element.opened then front_len element.component.2 else element.len
 
 abbrev pub inside_rows : (Structure → List Row) → Option Structure → List Row
 inside_rows rows None = []
@@ -367,7 +396,7 @@ rows_of how (suc most) marked place some bytes =
     rows_with how place some
     (λ step. element_rows how place some
     (λ structure. rows_of (inside_rules how step.component.2) most (is_open step)
-    (inside place step) (components structure) step.content)
+    (inside place step) (components structure) (inside_bytes step))
     (opened_of how.loose most (place.depth + 1) step) step)
     (λ step. rest_after how.loose most (place.depth + 1) step)
     (λ others rest. rows_of how most marked (after place bytes rest) others rest)
@@ -378,5 +407,5 @@ abbrev pub step_rows : How → ℕ → Place → List Component → Step → Lis
 step_rows how most place some step =
     element_rows how place some
     (λ structure. rows_of (inside_rules how step.component.2) most (is_open step)
-    (inside place step) (components structure) step.content)
+    (inside place step) (components structure) (inside_bytes step))
     (opened_of how.loose most (place.depth + 1) step) step

@@ -39,6 +39,7 @@ fn is_shown(shows_small: bool, tag: Tag, content: Content, bytes: &[u8]) -> bool
         Content::Hidden => false,
         Content::Inside(_) => false,
         Content::Whole(_) => false,
+        Content::Bits(_) => false,
         Content::Point => false,
         Content::Version => true,
         Content::Of(_) => true,

@@ -75,6 +75,8 @@ pub struct RowFacts<'a> {
     pub len: usize,
     /// Whether its content is drawn as rows.
     pub opened: bool,
+    /// The number of bytes of the content that have no other row.
+    pub own_len: usize,
     /// Its name, or none if it isn't printed.
     pub name: Name,
     /// Whether it is a private one whose content isn't shown.
@@ -105,6 +107,7 @@ impl<'a> RowFacts<'a> {
             announced: element.header.content_len,
             len: element.len,
             opened: element.opened,
+            own_len: element.own_len(),
             name,
             is_secret: !all && is_private_name(name) && is_count(shown),
             shown,
@@ -126,6 +129,7 @@ impl<'a> RowFacts<'a> {
             announced: Some(0),
             len: 0,
             opened: false,
+            own_len: 0,
             name: Name::Nothing,
             is_secret: false,
             shown: Shown::Nothing,
@@ -154,6 +158,7 @@ impl<'a> RowFacts<'a> {
             announced: Some(len),
             len,
             opened: false,
+            own_len: len,
             name: Name::Nothing,
             is_secret: false,
             shown: Shown::Nothing,

@@ -52,6 +52,9 @@ pub enum Content {
     Inside(Structure),
     /// The same, if it follows this structure to its end, and its length otherwise.
     Whole(Structure),
+    /// The same of the bits of a BIT STRING, if none is unused. Their number (X.690 section 8.6.2)
+    /// is a byte before them, in the element's own row.
+    Bits(Structure),
     /// Any elements if the element is constructed, and its length otherwise. It has no component.
     Free,
 }

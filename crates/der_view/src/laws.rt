@@ -1,13 +1,15 @@
 //! Laws of pictures, for callers to cite. Each law is the contract of a function, which does
 //! nothing else.
-ghost use Rattle.std.specs.Prelude.{◌≡◌, ◌<◌, ◌≤◌, ◌∷◌, [], ℕ, Bool, false, true, List, length};
-ghost use Rattle.std.specs.Prelude.{IsSomeAnd};
+ghost use Rattle.std.specs.Prelude.{◌≡◌, ◌<◌, ◌≤◌, ◌∷◌, ◌++◌, [], ℕ, Bool, false, true, List};
+ghost use Rattle.std.specs.Prelude.{IsSomeAnd, length};
 ghost use Rattle.sec1.specs.Keys.{IsKeyOf, Key};
+ghost use Rattle.sec1_der.specs.Elements.{header};
 ghost use Rattle.der_view.specs.Drawings.{has_key, is_key_of, picture_text};
 ghost use Rattle.der_view.specs.Grammar.{Component, Form};
 ghost use Rattle.der_view.specs.Headers.{max_content_len};
-ghost use Rattle.der_view.specs.Keys.{AreLevels, AreParts, DifferIn, IsContent, container};
-ghost use Rattle.der_view.specs.Keys.{integers, key_bytes, key_in, sequence};
+ghost use Rattle.der_view.specs.Keys.{AreLevels, AreParts, DifferIn, IsContent, IsCutIn};
+ghost use Rattle.der_view.specs.Keys.{container, container_parts, integers, key_bytes, key_in};
+ghost use Rattle.der_view.specs.Keys.{sequence};
 ghost use Rattle.der_view.specs.Masks.{AreAlike, mask_as, masked};
 ghost use Rattle.der_view.specs.Pictures.{picture, plan_of, rows_as, whole_as};
 ghost use Rattle.der_view.specs.RowLaws.{AllFollow, AreAt, rows_len};
@@ -39,9 +41,10 @@ pub fn pictures_are_of_masks()
 {}
 
 /// Private keys that differ in one private number or string alone have the same masks, however the
-/// bytes go on, and wherever they end; those in PKCS #8 if the privateKey around them is whole. A
-/// key with several private numbers, as of RSA, differs in one after the other. A number has more
-/// than 8 bytes: one of fewer is shown in a whole tree that isn't the key.
+/// bytes go on, and wherever they end. So have keys in PKCS #8 that differ in any bytes after the
+/// first header in the privateKey, if the element with this header isn't whole there. A key with
+/// several private numbers, as of RSA, differs in one after the other. A number has more than 8
+/// bytes: one of fewer is shown in a whole tree that isn't the key.
 pub fn keys_are_unseen()
     // RFC 5915 section 3: ECPrivateKey
     ensures ec { (m n : ℕ) (version x y rest : List ℕ) → length version ≤ max_content_len
@@ -88,6 +91,15 @@ pub fn keys_are_unseen()
         → IsContent m (key_in (container version algorithm after ∷ []) [] 0x04 n x) rest
         → AreAlike (key_bytes m (container version algorithm after ∷ []) [] 0x04 n x rest)
         (key_bytes m (container version algorithm after ∷ []) [] 0x04 n y rest) }
+    // any key in PKCS #8 that is cut inside the privateKey
+    ensures contained_cut { (m n tag k : ℕ) (version algorithm x y rest : List ℕ)
+        → IsCutIn n tag k x → AreParts (container_parts version algorithm)
+        → DifferIn n (header tag k ++ x) (header tag k ++ y)
+        → IsContent m (key_in [] (container_parts version algorithm) 0x04 n (header tag k ++ x))
+        rest
+        → AreAlike
+        (key_bytes m [] (container_parts version algorithm) 0x04 n (header tag k ++ x) rest)
+        (key_bytes m [] (container_parts version algorithm) 0x04 n (header tag k ++ y) rest) }
 {}
 
 /// Keys with the same curve and public key, and private keys as long, have the same masks.

@@ -22,6 +22,7 @@ mod output;
 mod part;
 mod plan;
 mod printer;
+mod retagged;
 mod root;
 mod row_line;
 mod said;

@@ -1,11 +1,13 @@
 //! What bytes are, and how they are drawn.
-ghost use Rattle.std.specs.Prelude.{◌≡◌, ◌+◌, ◌<◌, ◌^◌, ◌||◌, false, nat_le};
+ghost use Rattle.std.specs.Prelude.{◌≡◌, ◌+◌, ◌<◌, ◌^◌, ◌&&◌, ◌||◌, false, nat_le};
 ghost use Rattle.std.specs.Prelude.{None, Some, if◌then◌else◌};
 ghost use Rattle.der_view.specs.CountLaws.{capped_left, capped_none, capped_parts};
-ghost use Rattle.der_view.specs.Pictures.{best, capped, is_nearer, is_strict, left_as};
-ghost use Rattle.der_view.specs.Pictures.{left_in, parts_as, parts_in, plan_of, way_of, whole_as};
+ghost use Rattle.der_view.specs.Pictures.{best, capped, form_by, is_nearer, is_strict, left_as};
+ghost use Rattle.der_view.specs.Pictures.{is_retagged, left_in, parts_as, parts_in, plan_of};
+ghost use Rattle.der_view.specs.Pictures.{way_of, whole_as};
 
 use crate::grammar::{Component, ELEMENT, FIRST, Form, OTHERS, Secrecy};
+use crate::retagged::is_retagged;
 use crate::root::{draw_as, is_cut};
 use crate::walk::{Element, Place, Rows, Rules};
 
@@ -25,7 +27,8 @@ pub enum Way {
 pub struct Plan {
     /// The form that the fewest of the bytes don't follow, if they follow it to the end, or for two
     /// components of its root. Of several it is the first that they follow to the end, or else the
-    /// first.
+    /// first. Or that of an ECPrivateKey, if they are one element that is a key but for the tag of
+    /// its privateKey.
     pub form: Option<Form>,
     /// How they are drawn.
     pub way: Way,
@@ -45,9 +48,10 @@ pub fn plan_of(bytes: &[u8]) -> Plan
     ensures { result ≡ plan_of bytes.now }
 {
     let (nearest, shape) = best(bytes, FIRST, shape_as(FIRST.0, bytes), &OTHERS);
-    let form = known_as(nearest, shape.is_whole, shape.parts);
+    let known = known_as(nearest, shape.is_whole, shape.parts);
     let is_whole = shape.is_whole;
     let is_tree = shape_as(ELEMENT, bytes).is_whole;
+    let form = form_by(known, is_tree, bytes);
     Plan {
         form,
         way: way_of(form, is_whole, is_tree),
@@ -64,6 +68,20 @@ fn known_as(form: Form, is_whole: bool, parts: usize) -> Option<Form>
 {
     if is_whole || parts >= 2 {
         Some(form)
+    } else {
+        None
+    }
+}
+
+/// Returns the form of bytes: the one that they are known by, or that of a key with another tag.
+fn form_by(known: Option<Form>, is_tree: bool, bytes: &[u8]) -> Option<Form>
+    ensures { result ≡ form_by known (is_tree && is_retagged bytes.now) }
+{
+    let None = known else {
+        return known;
+    };
+    if is_tree && is_retagged(bytes) {
+        Some(FIRST)
     } else {
         None
     }

@@ -200,6 +200,7 @@ fn admits(header: &Header, content: Content, bytes: &[u8]) -> bool
         Content::Of(family) => is_whole(header, bytes) && is_of(family.identifiers(), bytes),
         Content::Point => is_primitive(header),
         Content::Whole(_) => is_primitive(header),
+        Content::Bits(_) => is_primitive(header),
         Content::Hidden => true,
         Content::Shown(_) => true,
         Content::Inside(_) => true,

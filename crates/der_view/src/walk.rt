@@ -1,10 +1,10 @@
 //! The rows of bytes.
 ghost use Rattle.std.specs.Prelude.{◌≡◌, ◌+◌, ◌<◌, ◌≤◌, ◌^◌, ◌++◌, ◌∷◌, [], List, length};
-ghost use Rattle.std.specs.Prelude.{IfSome, false, if◌then◌else◌, nat_lt, not, option_map};
-ghost use Rattle.std.specs.Prelude.{◌&&◌};
-ghost use Rattle.der_view.specs.Rows.{Row, end_rows, given_part, inside_rules, is_elements};
-ghost use Rattle.der_view.specs.Rows.{opened_of, rest_after, rest_of, rows_of, rules_of, step_of};
-ghost use Rattle.der_view.specs.Rows.{step_rows, view, view_of};
+ghost use Rattle.std.specs.Prelude.{◌&&◌, IfSome, false, if◌then◌else◌, nat_lt, not, option_map};
+ghost use Rattle.der_view.specs.Rows.{Row, end_rows, front_len, given_part, has_bits};
+ghost use Rattle.der_view.specs.Rows.{inside_bytes, inside_rules, is_elements, opened_of, own_len};
+ghost use Rattle.der_view.specs.Rows.{rest_after, rest_of, rows_of, rules_of, step_of, step_rows};
+ghost use Rattle.der_view.specs.Rows.{view, view_of};
 ghost use Rattle.der_view.specs.Rows.Row.{Element as Drawn, EndOfContents, NotDrawn};
 
 use crate::content::shown_len;
@@ -56,6 +56,20 @@ pub struct Element<'a> {
     pub content: &'a [u8],
     /// Whether its content is rows.
     pub opened: bool,
+}
+
+impl Element<'_> {
+    /// Returns the number of bytes of its content that have no other row: all, or none if they are
+    /// rows, but for the number of unused bits before them (X.690 section 8.6.2).
+    pub fn own_len(&self) -> usize
+        ensures { result ≡ own_len (view_of self.now) }
+    {
+        if self.opened {
+            front_len(self.component.2)
+        } else {
+            self.len
+        }
+    }
 }
 
 /// Who is told of rows: a printer, a counter, lines in memory.
@@ -204,15 +218,16 @@ pub(crate) fn draw_step<'a, R: Rows>(
         return Some(step.rest);
     };
     let is_open = step.header.content_len.is_none();
+    let front = front_len(step.component.2);
     let level = Level {
         place: Place {
-            offset: place.offset + step.header.len,
+            offset: place.offset + step.header.len + front,
             depth: place.depth + 1,
             ..place
         },
         is_open,
         components: structure.components(),
-        bytes: step.content,
+        bytes: elements_of(step),
     };
     let inside = inside_rules(rules, step.component.2);
     let after = walk(rows, &inside, most, &level)?;
@@ -280,11 +295,41 @@ fn inside_rules<'a>(rules: &Rules<'a>, content: Content) -> Rules<'a>
     ensures { rules_of result ≡ inside_rules (rules_of rules.now) content }
 {
     match content {
-        Content::Whole(_) => Rules {
+        Content::Whole(_) | Content::Bits(_) => Rules {
             is_loose: false,
             ..*rules
         },
         _ => *rules,
+    }
+}
+
+/// Returns the number of bytes of a content before its elements: of a BIT STRING that of its unused
+/// bits (X.690 section 8.6.2).
+fn front_len(content: Content) -> usize
+    ensures { result ≡ front_len content }
+{
+    match content {
+        Content::Bits(_) => 1,
+        _ => 0,
+    }
+}
+
+/// Borrows the elements of an element's content.
+fn elements_of<'a>(step: &Step<'_, 'a>) -> &'a [u8]
+    requires { front_len step.now.component.2 ≤ length step.now.content.now }
+    ensures { result.now ≡ inside_bytes (step_of step.now) }
+{
+    &step.content[front_len(step.component.2)..]
+}
+
+/// Returns `true` if a content of a BIT STRING has bits, of which none is unused (X.690 section
+/// 8.6.2).
+fn has_bits(content: &[u8]) -> bool
+    ensures { result ≡ has_bits content.now }
+{
+    match content {
+        [0x00, _, ..] => true,
+        _ => false,
     }
 }
 
@@ -294,12 +339,27 @@ fn inside_rules<'a>(rules: &Rules<'a>, content: Content) -> Rules<'a>
 #[cycle(follows)]
 #[tactic(auto, unfolding(crate::specs::Rows::opened_in))]
 fn opened_of(is_loose: bool, most: usize, depth: usize, step: &Step) -> Option<Structure>
-    ensures { result ≡ opened_of is_loose most depth (step_of step.now) }
+    ensures exact { result ≡ opened_of is_loose most depth (step_of step.now) }
+    ensures front { IfSome result
+        (λ _. front_len step.now.component.2 ≤ length step.now.content.now) }
 {
     match step.component.2 {
         Content::Inside(structure) => Some(structure),
         Content::Whole(structure) => {
             rest_of(most, depth, false, structure.components(), step.content)?;
+            Some(structure)
+        }
+        Content::Bits(structure) => {
+            if !has_bits(step.content) {
+                return None;
+            }
+            rest_of(
+                most,
+                depth,
+                false,
+                structure.components(),
+                &step.content[1..],
+            )?;
             Some(structure)
         }
         content => {
@@ -365,12 +425,12 @@ fn rest_after<'a>(most: usize, depth: usize, step: Step<'_, 'a>) -> Option<&'a [
         (λ rest. length rest.now ≤ length step.entry.content.now + length step.entry.rest.now) }
 {
     let rest = step.rest;
-    let content = step.content;
     let is_open = step.header.content_len.is_none();
     let Some(structure) = opened_of(false, most, depth, &step) else {
         return Some(rest);
     };
-    let after = rest_of(most, depth, is_open, structure.components(), content)?;
+    let elements = elements_of(&step);
+    let after = rest_of(most, depth, is_open, structure.components(), elements)?;
     if is_open {
         return Some(after);
     }

@@ -46,7 +46,7 @@ static SHORT_KEY: [u8; 25] = [
 ];
 
 /// For each damage to that key the index of the byte, its value, where the fault lies, and the
-/// number of its kind, in the order of `KINDS`, as `tests/places` prints them.
+/// number of its kind, in the order of `KINDS`, as `tests/test_places.py` says them.
 static SHORT_DAMAGES: [u8; 780] = [
     0, 0, 0, 2, 0, 128, 0, 2, 0, 129, 0, 2, 0, 161, 0, 2, 0, 255, 0, 2, 0, 49, 0, 2, 0, 47, 0, 2,
     0, 181, 0, 2, 1, 0, 2, 1, 1, 128, 1, 3, 1, 129, 1, 3, 1, 161, 1, 3, 1, 255, 1, 3, 1, 24, 1, 1,

@@ -12,7 +12,7 @@ use super::keys::KeyStructure::{
 };
 use super::public::PublicStructure::{
     DhParameter, DomainParameters, DsaParameters, EcParameters, EcPublicKeyInfo, PublicKeyInfo,
-    RsaPublicKey, Signature,
+    RsaPublicKey, RsaPublicKeyInfo, Signature,
 };
 use super::services::ServiceStructure::{OcspRequest, OcspResponse, TimeStampReq, TimeStampResp};
 use super::{Component, Name};
@@ -38,7 +38,7 @@ pub(crate) const FIRST: Form = (
 );
 
 /// The others. Of two that as many bytes follow the earlier is meant.
-pub(crate) const OTHERS: [Form; 34] = [
+pub(crate) const OTHERS: [Form; 35] = [
     (
         (0x30, Needed, Inside(Key(EcKeyInfo)), Name::PrivateKeyInfo),
         Secrecy::Private,
@@ -121,6 +121,15 @@ pub(crate) const OTHERS: [Form; 34] = [
             0x30,
             Needed,
             Inside(Public(EcPublicKeyInfo)),
+            Name::PublicKeyInfo,
+        ),
+        Secrecy::Public,
+    ),
+    (
+        (
+            0x30,
+            Needed,
+            Inside(Public(RsaPublicKeyInfo)),
             Name::PublicKeyInfo,
         ),
         Secrecy::Public,

@@ -2,12 +2,13 @@
 ghost use Rattle.std.specs.Prelude.{◌≡◌};
 ghost use Rattle.der_view.specs.Grammar.{public_components};
 
-use super::Content::{Hidden, Inside, Of, Point, Short, Shown, Version};
+use super::Content::{Bits, Hidden, Inside, Of, Point, Short, Shown, Version};
 use super::Presence::{Needed, Optional};
 use super::Structure::Public;
 use super::{Component, Family, Name};
 use PublicStructure::{
     Algorithm, Curve, DhParameter, DomainParameters, DsaParameters, EcAlgorithm, FieldId,
+    RsaAlgorithm, RsaBits, RsaPublicKey,
 };
 
 /// A structure of algorithms, public keys, parameters or signatures.
@@ -31,6 +32,10 @@ pub enum PublicStructure {
     PublicKeyInfo,
     /// SubjectPublicKeyInfo of an EC key (RFC 5480 section 2).
     EcPublicKeyInfo,
+    /// SubjectPublicKeyInfo of an RSA key (RFC 3279 section 2.3.1).
+    RsaPublicKeyInfo,
+    /// The bits of an RSA key's subjectPublicKey (RFC 3279 section 2.3.1).
+    RsaBits,
     /// Ecdsa-Sig-Value (RFC 3279 section 2.2.3).
     Signature,
     /// RSAPublicKey (RFC 8017 appendix A.1.1).
@@ -106,6 +111,18 @@ const EC_PUBLIC_KEY_INFO: [Component; 2] = [
     (0x03, Needed, Point, Name::SubjectPublicKey),
 ];
 
+const RSA_PUBLIC_KEY_INFO: [Component; 2] = [
+    (0x30, Needed, Inside(Public(RsaAlgorithm)), Name::Algorithm),
+    (0x03, Needed, Bits(Public(RsaBits)), Name::SubjectPublicKey),
+];
+
+const RSA_BITS: [Component; 1] = [(
+    0x30,
+    Needed,
+    Inside(Public(RsaPublicKey)),
+    Name::RsaPublicKey,
+)];
+
 const RSA_PUBLIC_KEY: [Component; 2] = [
     (0x02, Needed, Hidden, Name::Modulus),
     (0x02, Needed, Short(8), Name::PublicExponent),
@@ -172,6 +189,8 @@ impl PublicStructure {
             PublicStructure::EdwardsAlgorithm => &EDWARDS_ALGORITHM,
             PublicStructure::PublicKeyInfo => &PUBLIC_KEY_INFO,
             PublicStructure::EcPublicKeyInfo => &EC_PUBLIC_KEY_INFO,
+            PublicStructure::RsaPublicKeyInfo => &RSA_PUBLIC_KEY_INFO,
+            PublicStructure::RsaBits => &RSA_BITS,
             PublicStructure::Signature => &SIGNATURE,
             PublicStructure::RsaPublicKey => &RSA_PUBLIC_KEY,
             PublicStructure::DhParameter => &DH_PARAMETER,

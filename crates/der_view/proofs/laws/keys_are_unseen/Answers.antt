@@ -1,5 +1,5 @@
-use Rattle.der_view.proofs.KeyMaskLemmas.{contained_ec_alike, contained_number_alike, contained_octets_alike}
-use Rattle.der_view.proofs.KeyMaskLemmas.{contained_rsa_alike, ec_alike, number_alike}
+use Rattle.der_view.proofs.KeyMaskLemmas.{contained_cut_alike, contained_ec_alike, contained_number_alike}
+use Rattle.der_view.proofs.KeyMaskLemmas.{contained_octets_alike, contained_rsa_alike, ec_alike, number_alike}
 use Rattle.der_view.specs.Keys.{key_bytes}
 use Rattle.der_view.proofs.laws.keys_are_unseen.Goals as goal
 
@@ -26,3 +26,7 @@ returns-clause-contained_number c = contained_number_alike
 pub returns-clause-contained_octets : goal.returns-clause-contained_octets
 unfolding key_bytes
 returns-clause-contained_octets c = contained_octets_alike
+
+pub returns-clause-contained_cut : goal.returns-clause-contained_cut
+unfolding key_bytes
+returns-clause-contained_cut c = contained_cut_alike

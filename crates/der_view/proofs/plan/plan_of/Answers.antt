@@ -9,4 +9,13 @@ returns c =
     let best : c.best.result.0 ≡ nearest c.args.bytes.now = c.best.ensures.form in
     let whole : c.best.result.1.is_whole ≡ whole_as false c.best.result.0.0 c.args.bytes.now = c.best.ensures.whole in
     let parts : c.best.result.1.parts ≡ parts_as c.best.result.0.0 c.args.bytes.now = c.best.ensures.parts in
-    rw (c.way_of.ensures, c.known_as-form.ensures, c.is_cut.ensures, tree, whole, parts, best) refl
+    rw (
+      c.way_of.ensures,
+      c.form_by-form.ensures,
+      c.known_as-known.ensures,
+      c.is_cut.ensures,
+      tree,
+      whole,
+      parts,
+      best,
+    ) refl

@@ -1,7 +1,7 @@
 use Rattle.std.proofs.Common.{rules, ◌≡◌, ◌+◌, ◌-◌, ◌≤◌, ◌<◌, ◌∷◌, ◌∙◌, [], List, ℕ, Bool, length, true, Some, None}
 use Rattle.std.proofs.Common.{sym, arith, refl, append-nil, subst}
 use Rattle.der_view.specs.Grammar.{Component, components}
-use Rattle.der_view.specs.Rows.{How, Row, Step, end_at, inside, inside_rules, is_open}
+use Rattle.der_view.specs.Rows.{How, Row, Step, end_at, inside, inside_bytes, inside_rules, is_open}
 use Rattle.der_view.specs.Rows.{Element, NotDrawn, given_part, opened_of, rest_after, rest_of, rows_of, rules_of}
 use Rattle.der_view.specs.Rows.{step_by, step_of}
 use Rattle.der_view.specs.Rows.{step_rows, view}
@@ -26,8 +26,15 @@ draw_step-returns-in_err-after-clause-rows g t c =
     let marked : is_open step ≡ c.is_none-is_open.result = search rules in
     let within : g.R.Rows.tells c.draw_element.new.rows c.walk.new.rows
     (rows_of (inside_rules how step.component.2) c.args.most (is_open step) (inside c.args.place step)
-    (components c.in-Some.structure) step.content) =
-    rw (← c.inside_rules-inside.ensures, ← c.components.ensures, marked) c.walk.ensures.rows in
+    (components c.in-Some.structure) (inside_bytes step)) =
+    rw (
+      ← c.elements_of.ensures,
+      ← c.inside_rules-inside.ensures,
+      ← c.components.ensures,
+      marked,
+      ← c.front_len-front.ensures,
+    )
+    c.walk.ensures.rows in
     rw (opened_rows how c.args.most c.args.place some step c.in-Some.structure opened)
     (g.met.R.Rows.joined c.args.rows.now c.draw_element.new.rows c.walk.new.rows _ _ own within)
 
@@ -46,8 +53,15 @@ draw_step-returns-then-is_open-clause-rows g t c =
     let marked : is_open step ≡ c.is_none-is_open.result = search rules in
     let within : g.R.Rows.tells c.draw_element.new.rows c.walk.new.rows
     (rows_of (inside_rules how step.component.2) c.args.most (is_open step) (inside c.args.place step)
-    (components c.in-Some.structure) step.content) =
-    rw (← c.inside_rules-inside.ensures, ← c.components.ensures, marked) c.walk.ensures.rows in
+    (components c.in-Some.structure) (inside_bytes step)) =
+    rw (
+      ← c.elements_of.ensures,
+      ← c.inside_rules-inside.ensures,
+      ← c.components.ensures,
+      marked,
+      ← c.front_len-front.ensures,
+    )
+    c.walk.ensures.rows in
     rw (opened_rows how c.args.most c.args.place some step c.in-Some.structure opened)
     (g.met.R.Rows.joined c.args.rows.now c.draw_element.new.rows c.walk.new.rows _ _ own within)
 
@@ -66,8 +80,15 @@ draw_step-returns-clause-rows g t c =
     let marked : is_open step ≡ c.is_none-is_open.result = search rules in
     let within : g.R.Rows.tells c.draw_element.new.rows c.walk.new.rows
     (rows_of (inside_rules how step.component.2) c.args.most (is_open step) (inside c.args.place step)
-    (components c.in-Some.structure) step.content) =
-    rw (← c.inside_rules-inside.ensures, ← c.components.ensures, marked) c.walk.ensures.rows in
+    (components c.in-Some.structure) (inside_bytes step)) =
+    rw (
+      ← c.elements_of.ensures,
+      ← c.inside_rules-inside.ensures,
+      ← c.components.ensures,
+      marked,
+      ← c.front_len-front.ensures,
+    )
+    c.walk.ensures.rows in
     rw (opened_rows how c.args.most c.args.place some step c.in-Some.structure opened)
     (g.met.R.Rows.joined c.args.rows.now c.draw_element.new.rows c.walk.new.rows _ _ own within)
 
