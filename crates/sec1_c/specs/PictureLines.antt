@@ -37,19 +37,15 @@ line_of kind = record {
 abbrev pub line_if : Bool → ℕ → List PictureLine
 line_if is_there kind = if is_there then line_of kind ∷ [] else []
 
--- the number of bytes of a row's content that have no other row
-abbrev pub own_len : RowView → ℕ
-own_len row = if row.opened then 0 else row.len
-
 -- the line of a row, hidden unless all of its content is shown, or known to be public
 abbrev pub row_line : RowView → PictureLine
 row_line row = record {
   kind = 1;
   offset = row.place.offset;
   header_len = length row.head;
-  content_len = own_len row;
+  content_len = row.own_len;
   depth = row.place.depth;
-  hidden = if not row.place.is_public && nat_lt (length row.value) (own_len row) then 1 else 0;
+  hidden = if not row.place.is_public && nat_lt (length row.value) row.own_len then 1 else 0;
 }
 
 abbrev pub mark_lines : List (Option Mark) → List PictureLine

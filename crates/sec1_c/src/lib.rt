@@ -11,6 +11,7 @@
 
 mod algorithm;
 mod buffer;
+mod callers;
 mod certificate;
 mod container;
 mod curve;

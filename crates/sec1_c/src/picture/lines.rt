@@ -252,14 +252,13 @@ impl Rows for Lines<'_> {
 fn line_of_row(row: &RowFacts) -> PictureLine
     ensures { result ≡ row_line (row_view row.now) }
 {
-    let own_len = if row.opened { 0 } else { row.len };
     PictureLine {
         kind: ROW,
         offset: row.place.offset,
         header_len: row.head.len(),
-        content_len: own_len,
+        content_len: row.own_len,
         depth: row.place.depth,
-        hidden: usize::from(row.place.hides(own_len, row.value)),
+        hidden: usize::from(row.place.hides(row.own_len, row.value)),
     }
 }
 
