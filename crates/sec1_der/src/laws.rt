@@ -1,5 +1,8 @@
-//! Laws for callers to cite: of trees, of the kinds by which elements are refused, and that a value
-//! is determined by its bytes. Each law is the contract of a function, which does nothing else.
+//! Laws for callers to cite: of trees, of the kinds by which elements are refused, of arcs, and
+//! that a value is determined by its bytes. Each law is the contract of a function, which does
+//! nothing else.
+ghost use Rattle.std.specs.Iterator.{YieldsFirst};
+ghost use Rattle.std.specs.Iterator.Runs.{EveryRun, ItemsMapTo};
 ghost use Rattle.std.specs.Option.{option_or};
 ghost use Rattle.std.specs.Prelude.{◌≡◌, ◌≢◌, ◌↔◌, ◌≤◌, ◌++◌, [], ℕ, Bool, List, length, Some};
 ghost use Rattle.std.specs.Prelude.{◌<◌, ◌∷◌, None};
@@ -156,4 +159,11 @@ pub fn one_bit_string()
         → ⟦<BitStringRef<'static> as ValueContent>⟧.content a ≡ Some bytes
         → ⟦<BitStringRef<'static> as ValueContent>⟧.content b ≡ Some bytes
         → (unused_bits_of a ≡ unused_bits_of b) × (bit_bytes_of a ≡ bit_bytes_of b) }
+{}
+
+/// Calls of `next` on the arcs of an identifier give those that were left, in order, as `eq` and
+/// `collect` need.
+pub fn arcs_in_order()
+    ensures { EveryRun (YieldsFirst (λ (left : List ℕ). left))
+        (λ run. ItemsMapTo run (λ arc. arc) run.from) }
 {}
