@@ -1,7 +1,7 @@
 //! Elements of DER read and written, by the contracts of `sec1` alone and the definitions that it
 //! re-exports.
 ghost use Rattle.std.specs.Prelude.{◌≡◌, ◌≢◌, ◌↔◌, ◌≤◌, ◌++◌, ℕ, List, length, Some, IsOk};
-ghost use Rattle.std.specs.Prelude.{IfOk, IfErr, IsOkAnd, slice_get};
+ghost use Rattle.std.specs.Prelude.{IfOk, IfErr, IsOkAnd, IsTrue, slice_get};
 ghost use Rattle.sec1.specs.Der.{max_length, element, octets_of, tag_of, value_of};
 ghost use Rattle.sec1.specs.Der.{element_of, header_fault, IsHeader, IsHeaderFault, header};
 ghost use Rattle.sec1.specs.Der.{IsProperPrefix, Refuses};
@@ -10,6 +10,7 @@ ghost use Rattle.sec1_der.specs.Identifiers.{identifier_content};
 use sec1::der::{
     self, AnyRef, ErrorKind, IdentifierRef, ObjectIdentifier, OctetStringRef, SliceReader, Tag,
 };
+use std::alloc::{AllocError, Global};
 
 /// Writes an octet string at the beginning of a buffer and returns its bytes.
 pub fn octet_string_in<'b>(octets: &OctetStringRef, buffer: &'b mut [u8]) -> der::Result<&'b [u8]>
@@ -67,6 +68,33 @@ pub fn count_arcs(identifier: &IdentifierRef) -> usize
     ensures some { 2 ≤ result }
 {
     identifier.arcs().count()
+}
+
+/// Returns `true` if the arcs of two identifiers are the same, one by one.
+pub fn same_arcs(a: &ObjectIdentifier, b: &ObjectIdentifier) -> bool
+    ensures { IsTrue result ↔ (a.now ≡ b.now) }
+{
+    der::laws::arcs_in_order();
+    a.arcs().eq(b.arcs())
+}
+
+/// Returns `true`: two identifiers are equal if and only if their arcs are.
+pub fn equal_by_arcs(a: &ObjectIdentifier, b: &ObjectIdentifier) -> bool
+    ensures { IsTrue result }
+{
+    (a == b) == same_arcs(a, b)
+}
+
+/// Returns the arcs of an identifier.
+///
+/// # Errors
+///
+/// Out of memory.
+pub fn all_arcs(alloc: Global, identifier: &ObjectIdentifier) -> Result<Vec<u32>, AllocError>
+    ensures { IfOk result (λ arcs. arcs.items ≡ identifier.now) }
+{
+    der::laws::arcs_in_order();
+    identifier.arcs().collect(alloc)
 }
 
 /// Reads an identifier, and returns the number of its arcs.

@@ -1,9 +1,11 @@
 //! Private keys in DER that differ in one private number or string: they differ in bytes alone that
 //! no picture by `der_view` shows, so that the pictures are the same.
-ghost use Rattle.std.specs.Prelude.{◌≡◌, ◌<◌, ◌≤◌, ◌∷◌, [], List, ℕ, false, length};
+ghost use Rattle.std.specs.Prelude.{◌≡◌, ◌<◌, ◌≤◌, ◌∷◌, ◌++◌, [], List, ℕ, false, length};
+ghost use Rattle.sec1_der.specs.Elements.{header};
 ghost use Rattle.der_view.specs.Headers.{max_content_len};
-ghost use Rattle.der_view.specs.Keys.{AreLevels, AreParts, DifferIn, IsContent, container};
-ghost use Rattle.der_view.specs.Keys.{integers, key_bytes, key_in, sequence};
+ghost use Rattle.der_view.specs.Keys.{AreLevels, AreParts, DifferIn, IsContent, IsCutIn};
+ghost use Rattle.der_view.specs.Keys.{container, container_parts, integers, key_bytes, key_in};
+ghost use Rattle.der_view.specs.Keys.{sequence};
 ghost use Rattle.der_view.specs.Masks.{AreAlike};
 ghost use Rattle.der_view.specs.Pictures.{picture, plan_of};
 
@@ -95,6 +97,19 @@ pub fn unseen_in_contained_ec_keys()
         → IsContent m (key_in around ((0x02, inner) ∷ []) 0x04 n x) rest
         → AreAlike (key_bytes m around ((0x02, inner) ∷ []) 0x04 n x rest)
         (key_bytes m around ((0x02, inner) ∷ []) 0x04 n y rest) }
+{
+    laws::keys_are_unseen();
+}
+
+/// So do two keys in PKCS #8 that are cut inside the privateKey, in all that is there after the
+/// first header in it.
+pub fn unseen_in_cut_containers()
+    ensures { (m n tag k : ℕ) (version algorithm x y rest : List ℕ)
+        → let before = container_parts version algorithm in
+        IsCutIn n tag k x → AreParts before → DifferIn n (header tag k ++ x) (header tag k ++ y)
+        → IsContent m (key_in [] before 0x04 n (header tag k ++ x)) rest
+        → AreAlike (key_bytes m [] before 0x04 n (header tag k ++ x) rest)
+        (key_bytes m [] before 0x04 n (header tag k ++ y) rest) }
 {
     laws::keys_are_unseen();
 }
