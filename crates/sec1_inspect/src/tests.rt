@@ -1,5 +1,5 @@
-//! Runs over readers and writers that fail. `tests/reports` has the reports on known inputs, and
-//! `tests/program.sh` the program as a user runs it, also with each request for memory refused.
+//! Runs over readers and writers that fail. `tests/test_reports.py` has the reports on known
+//! inputs, and `tests/test_program.py` the program as a user runs it, with each request refused.
 mod taken;
 
 use crate::{Fault, Form, inspect, run, run_der};
