@@ -40,6 +40,9 @@ LEVELS = {
     # it has no part of its own
     "der_view::line::Line::push_code": 0,
 }
+# A level is walked, or looked into from one above it: together they are as many.
+WALKS = {"der_view::walk::walk", "der_view::walk::draw_step"}
+LOOKS = {"der_view::walk::opened_of", "der_view::walk::rest_of"}
 # Instructions on the one global, which is the stack pointer, and on locals.
 GET, SET, POINTER, CONSTANT, TEE = 0x23, 0x24, (0,), 0x42, 0x22
 
@@ -84,15 +87,33 @@ class Stack:
         """Returns how many bytes a call of a function uses at most: of those that call each other
         each stands on the stack as often as it can."""
         if index not in self.known:
-            cycle = {it for it in self.reached[index] if index in self.reached[it]}
-            own = sum(self.levels(it) * self.frames[it] for it in cycle) or self.frames[index]
+            cycle, own = self.own(index)
             outside = set().union(*(self.calls[it] for it in cycle or {index})) - cycle
-            self.known[index] = own + max(map(self.used, outside), default=0)
+            walks = self.name(index) in WALKS
+            below = (self.left(it, own) if walks else self.used(it) for it in outside)
+            self.known[index] = own + max(below, default=0)
         return self.known[index]
+
+    def own(self, index):
+        """Returns the functions that call each other with one, and what these use at most."""
+        cycle = {it for it in self.reached[index] if index in self.reached[it]}
+        return cycle, sum(self.levels(it) * self.frames[it] for it in cycle) or self.frames[index]
+
+    def left(self, index, walked):
+        """Returns what a call of a function by one that walks uses at most beside what that does.
+        One that looks uses a level at the last one that is walked, or more levels before it."""
+        if self.name(index) not in LOOKS:
+            return self.used(index)
+        _, own = self.own(index)
+        return self.used(index) - own + own // LEVELS[self.name(index)] + max(0, own - walked)
+
+    def name(self, index):
+        """Returns a function's name, without the types that it is for."""
+        return re.sub("::<#.*", "", self.names[index])
 
     def levels(self, index):
         """Returns how often a function that calls itself can stand on the stack."""
-        name = re.sub("::<#.*", "", self.names[index])
+        name = self.name(index)
         if name not in LEVELS:
             sys.exit(f"{name} calls itself")
         if self.frames[index] and not LEVELS[name]:

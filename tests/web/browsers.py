@@ -6,10 +6,12 @@ import base64
 import json
 import os
 import pathlib
+import select
 import shutil
 import socket
 import socketserver
 import subprocess
+import tempfile
 import threading
 import time
 import urllib.parse
@@ -22,10 +24,58 @@ TEXT = "document.querySelector('textarea')"
 OWN = ("mozilla.org", "mozilla.com", "mozilla.net", "firefox.com", "google.com", "gvt1.com",
        "googleapis.com", "google-analytics.com", "digicert.com", "mozgcp.net")
 PATIENCE = 600
+# With a number in it, what isn't there is waited for until the browser was found idle so many times,
+# one behind the other, or has used so many seconds of processor time; so a busy machine changes
+# nothing. A timer of the page is awaited by that too.
+IDLE, MOST = None, 60
+# Each how many seconds a browser is looked at.
+LOOK = 0.1
 
 
 class Failed(Exception):
     """What a browser was asked for hasn't come."""
+
+
+class Looks:
+    """Looks at the processes of a browser, while something of it is waited for."""
+
+    def __init__(self, browser):
+        self.session, self.idle, self.last = browser.process.pid, 0, time.monotonic()
+        self.begin = None
+
+    def processes(self):
+        """Returns the folders of the browser's processes, with what each has used of processor
+        time."""
+        found = []
+        for it in pathlib.Path("/proc").glob("[0-9]*"):
+            try:
+                words = (it / "stat").read_text().rpartition(")")[2].split()
+            except OSError:
+                continue
+            if int(words[3]) == self.session:
+                found.append((it, sum(map(int, words[11:13])) / os.sysconf("SC_CLK_TCK")))
+        return found
+
+    def are_enough(self):
+        """Returns whether what isn't there won't come: no thread has run or waited for a processor
+        or a disk in several looks, or the browser has run for long."""
+        if not IDLE or time.monotonic() - self.last < LOOK:
+            return False
+        self.last, now = time.monotonic(), self.processes()
+        used = sum(it for _, it in now)
+        self.begin = used if self.begin is None else self.begin
+        is_idle = not any(state_of(it) in "RD" for folder, _ in now
+                          for it in (folder / "task").glob("*/stat"))
+        self.idle = self.idle + 1 if is_idle else 0
+        return self.idle >= IDLE or used - self.begin > MOST
+
+
+def state_of(file):
+    """Returns the letter of a thread's state, or of one that has ended."""
+    try:
+        return file.read_text().rpartition(")")[2].split()[0]
+    except (OSError, IndexError):
+        return "X"
 
 
 class Proxy(socketserver.ThreadingTCPServer):
@@ -53,17 +103,19 @@ class Proxy(socketserver.ThreadingTCPServer):
 class Browser:
     """What both have: pages by number, of which the first is the one that is tested."""
 
+    # Whether it answers no more.
+    is_stuck = False
+
     def __init__(self, room):
-        self.room = pathlib.Path(room) / self.name
-        self.room.mkdir()
+        self.room = pathlib.Path(tempfile.mkdtemp(prefix=self.name, dir=room))
         self.proxy = Proxy()
         self.start()
 
     def wait(self, expression, what=None):
         """Waits until this is true in the page."""
-        end = time.monotonic() + PATIENCE
+        end, looks = time.monotonic() + PATIENCE, Looks(self)
         while not self.run(expression):
-            if time.monotonic() > end:
+            if time.monotonic() > end or looks.are_enough():
                 raise Failed(what or expression)
             time.sleep(0.02)
 
@@ -149,7 +201,7 @@ class Chromium(Browser):
         if self.page and not method.startswith(("Target.", "Browser.")):
             said["sessionId"] = self.page
         os.write(self.asks, json.dumps(said).encode() + b"\0")
-        end = time.monotonic() + PATIENCE
+        end, looks = time.monotonic() + PATIENCE, Looks(self)
         while time.monotonic() < end:
             while b"\0" in self.left:
                 line, self.left = self.left.split(b"\0", 1)
@@ -159,10 +211,15 @@ class Chromium(Browser):
                         raise Failed(f"{method}: {told['error']['message']}")
                     return told["result"]
                 self.events.append(told)
-            more = os.read(self.answers, 1 << 20)
-            if not more:
-                raise Failed("chromium has ended")
-            self.left += more
+            if select.select([self.answers], [], [], LOOK)[0]:
+                more = os.read(self.answers, 1 << 20)
+                if not more:
+                    self.is_stuck = True
+                    raise Failed("chromium has ended")
+                self.left += more
+            elif looks.are_enough():
+                break
+        self.is_stuck = True
         raise Failed(method)
 
     def turn_to(self, page):

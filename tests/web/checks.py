@@ -7,15 +7,50 @@ import json
 import re
 import time
 
-import faults
+import browsers
 import inputs
+import made
 from expected import HEADING, MARK, ROW, columns_of, drawn, view
-from page import FOCUSED, SAID, SELECTED, Wrong, private_in, want, wanted_rows
+from page import FOCUSED, SAID, SELECTED, Page, Wrong, private_in, want, wanted_rows
 
 # What the page is told to copy, where the clipboard itself isn't looked at.
 KEEPS = """navigator.clipboard.writeText = async (text) => {
   document.documentElement.dataset.copied = text; };"""
 LARGE = list(inputs.large())
+
+
+def tries(check, browser, room, file=None):
+    """Makes a check of this file, or of a page that is made. Returns how many cases have passed, or
+    why one didn't."""
+    before = made.BEFORE.get(check.__name__, "")
+    if before or not file:
+        file = room / "made.html"
+        file.write_text(made.page(before), encoding="utf-8")
+    try:
+        browser.proxy.asked.clear()
+        count = check(Page(browser, file), room)
+        complaints = [] if check is needs else browser.complaints()
+        if complaints:
+            raise Wrong("; ".join(complaints))
+        return count, ""
+    except (Wrong, browsers.Failed) as reason:
+        return 0, str(reason) or "it failed"
+    finally:
+        if not browser.is_stuck:
+            forget(browser)
+
+
+def forget(browser):
+    """Clears what a check or a fault has kept, so that it isn't found again. A page that is being
+    left can't run anything, so it is tried again."""
+    for left in reversed(range(10)):
+        try:
+            return browser.run("(localStorage.clear(), sessionStorage.clear(), window.name = '', "
+                               "indexedDB.deleteDatabase('last'), 0)")
+        except browsers.Failed:
+            if not left:
+                raise
+            time.sleep(1)
 
 
 def stored_examples(page, room):
@@ -1047,7 +1082,7 @@ def needs(page, room):
          "It needs JavaScript, workers and WebAssembly 2.0.")]
     for before, removed, words in cases:
         file = room / "needs.html"
-        text = faults.page(before=before)
+        text = made.page(before=before)
         file.write_text(text.replace(removed, "", 1) if removed else text, encoding="utf-8")
         page.browser.open(file.as_uri())
         page.browser.wait("document.querySelector('#said p') !== null && "
