@@ -93,8 +93,9 @@ class Walk:
         if fields is not None or head.length is None or self.is_loose and head.constructed:
             row.opened, is_loose = True, self.is_loose
             # what is whole is drawn so
-            self.is_loose = is_loose and not (field and field.whole)
-            after = self.draw_inside(head.start, stop, depth + 1, fields, head.length is None)
+            self.is_loose = is_loose and not (field and (field.whole or field.bits))
+            start = head.start + bool(field and field.bits)
+            after = self.draw_inside(start, stop, depth + 1, fields, head.length is None)
             self.is_loose = is_loose
             return after
         row.shown = self.shown(row)
@@ -106,6 +107,10 @@ class Walk:
             return STRUCTURES[field.inside]
         if field and field.whole and follows(self.data[head.start:stop], field.whole):
             return STRUCTURES[field.whole]
+        # X.690 section 8.6.2: the number of unused bits, and bits
+        content = self.data[head.start:stop]
+        if field and field.bits and content[:1] == b"\0" and follows(content[1:], field.bits):
+            return STRUCTURES[field.bits]
         return None
 
     def draw_inside(self, at, stop, depth, fields, is_open):
@@ -190,12 +195,26 @@ def form_of(data):
     return (form, walk.is_whole) if walk.is_whole or kids >= 2 else (None, False)
 
 
+def is_retagged(data):
+    """Returns whether a whole tree is an ECPrivateKey (RFC 5915 section 3) whose privateKey has the tag of
+    another primitive type, and the length of one on P-224, P-256, P-384 or P-521, if no field follows."""
+    parts = [(row.head.first, row.stop - row.start) for row in Walk(data, None, True).rows
+             if row.head and row.depth == 1]
+    if data[0] != 0x30 or len(parts) < 2 or parts[0] != (2, 1):
+        return False
+    (tag, length), others = parts[1], bytes(first for first, _ in parts[2:])
+    is_field = others in (b"\xA0", b"\xA1", b"\xA0\xA1") or not others and length in (28, 32, 48, 66)
+    return tag & 0xE0 == 0 and tag != 4 and is_field
+
+
 class Plan:
     """What bytes are, and how they are drawn."""
 
     def __init__(self, data):
         self.is_tree = is_tree(data)
         self.form, self.is_whole = form_of(data)
+        if self.form is None and self.is_tree and is_retagged(data):
+            self.form = ALL[0]
         self.is_cut = bool(self.form) and Walk(data, self.form, False).is_cut
         secrecy = self.form.secrecy if self.form else None
         if secrecy == PRIVATE and self.is_whole or secrecy in (PRIVATE, CLOSED) and not self.is_tree:

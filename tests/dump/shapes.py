@@ -79,6 +79,8 @@ def example(structure, fewest=False, turn=0):
             content = arcs_of("1.2.840.10045.3.1.7")
         elif field.inside or field.whole:
             content = example(field.inside or field.whole, fewest, turn)
+        elif field.bits:
+            content = b"\0" + example(field.bits, fewest, turn)
         elif field.tag & 32:
             content = element(2, b"\7" * 3)
         tag = field.tag or (0x13, 6, 5, 4, 0x30)[turn % 5]
@@ -198,6 +200,45 @@ def forms():
         yield f"PKCS #8 of {inside.hex()}, cut", element(0x30, container + bytes(9))[:-9]
 
 
+def bits():
+    """RSA public keys whose bits are a whole key or not."""
+    algorithms = [element(0x30, element(6, arcs_of(dotted)) + after) for dotted, after in (
+        ("1.2.840.113549.1.1.1", b"\5\0"), ("1.2.840.113549.1.1.10", element(0x30, b"")),
+        ("1.2.840.113549.1.1.1", b""), ("1.2.840.113549.1.2", b"\5\0"))]
+    number, power = element(2, b"\0\xC3" + b"\5" * 30), element(2, b"\1\0\1")
+    key = element(0x30, number + power)
+    for at, algorithm in enumerate(algorithms):
+        for inside in (b"\0" + key, b"\1" + key, b"\x30" + key, key, b"\0", b"", b"\1", b"\0\0", b"\0" + key + b"\0",
+                       b"\0" + key[:-1], b"\0" + element(0x30, number), b"\0" + element(0x30, key),
+                       b"\0\x30\x80" + number + power + b"\0\0", b"\0" + element(0x30, number * 2),
+                       b"\0" + element(0x31, number + power), b"\0" + element(0x30, number + power + power)):
+            for tag in (3, 0x23, 4):
+                data = algorithm + element(tag, inside)
+                yield f"bits {at}, {tag}, {inside.hex()}", element(0x30, data)
+                yield f"bits {at}, {tag}, {inside.hex()}, and a NULL", element(0x30, data + b"\5\0")
+                yield f"bits {at}, {tag}, {inside.hex()}, cut", element(0x30, data + b"\5")[:-1]
+                yield f"bits {at}, {tag}, {inside.hex()}, cut inside", element(0x30, data)[:-3]
+
+
+def retagged():
+    """Keys whose private key has another tag, or another element is changed too."""
+    curve, point = KEY[39:51], KEY[51:]
+    for tag in (1, 2, 3, 4, 5, 6, 12, 0x14, 0x1F, 0x24, 0x44, 0x84):
+        for count in (0, 1, 27, 28, 32, 33, 48, 66):
+            data = element(tag, b"\x21" * count)
+            for after in (b"", curve, point, curve + point, point + curve, curve + curve, b"\5\0", b"\xA2\0"):
+                if count in (0, 32) or not after:
+                    yield f"a key with {tag:02X}, {count}, {after.hex()[:4]}", element(0x30, KEY[2:5] + data + after)
+    for version in (b"", element(2, b""), element(2, b"\0\1"), element(1, b"\1"), KEY[2:5] * 2):
+        for tag in (4, 6):
+            for root in (0x30, 0x31, 0xA0):
+                yield f"a version {version.hex()} and {tag}", element(root, version + element(tag, b"\x21" * 32))
+                yield f"a root {root:02X} and {tag}, {version.hex()}", element(root, KEY[2:5] + element(tag, b"\x21" * 32) + version)
+    yield "of indefinite length, with another tag", b"\x30\x80" + KEY[2:5] + b"\6" + KEY[6:] + b"\0\0"
+    yield "with another tag, and a byte", KEY[:5] + b"\6" + KEY[6:] + b"\0"
+    yield "with another tag, cut", KEY[:5] + b"\6" + KEY[6:-1]
+
+
 def repaired():
     """Keys on curves with lengths that fit these or not, and keys that a command makes DER of."""
     for dotted, count in (("1.3.132.0.9", 20), ("1.3.132.0.9", 21), ("1.3.132.0.35", 65), ("1.3.132.0.35", 66)):
@@ -285,7 +326,7 @@ def binaries():
 
 def every():
     """The name and the bytes of each."""
-    for make in (shapes, contents, forms, examples, named, repaired, binaries):
+    for make in (shapes, contents, forms, bits, retagged, examples, named, repaired, binaries):
         yield from make()
     for name, text in texts():
         yield name, text.encode()

@@ -4,7 +4,8 @@ name.
 
 A content is hidden, or shown up to so many bytes; it has at most so many (short), or one (version);
 it is an identifier that begins so (of:arcs), or a point; or its fields are those of a structure, or
-are drawn if they are that to its end (=structure). Tag 17 is a time, and 00 any element.
+are drawn if they are that to its end (=structure), or of a BIT STRING if its bits are, and none is
+unused (bits:structure). Tag 17 is a time, and 00 any element.
 """
 import re
 
@@ -73,6 +74,8 @@ revoked | RFC 5280 section 5.1 | 30* revoked1 revokedCertificate
 revoked1 | RFC 5280 section 5.1 |
   02 shown20 userCertificate, 17 shown19 revocationDate, 30? extensions crlEntryExtensions
 ecPublic | RFC 5480 section 2 | 30 ecAlgorithm algorithm, 03 point subjectPublicKey
+rsaPublic | RFC 3279 section 2.3.1 | 30 rsaAlgorithm algorithm, 03 bits:rsaBits subjectPublicKey
+rsaBits | RFC 3279 section 2.3.1 | 30 RSAPublicKey RSAPublicKey
 SubjectPublicKeyInfo | RFC 5280 section 4.1.2.7 | 30 algorithm algorithm, 03 hidden subjectPublicKey
 algorithm | RFC 5280 section 4.1.1.2 | 06 shown12 algorithm, 00? shown12 parameters
 ecAlgorithm | RFC 5480 section 2.1.1 | 06 of:1.2.840.10045.2.1 algorithm, 06? shown12 namedCurve
@@ -143,6 +146,7 @@ FORMS = [
     ("CertificationRequest", "CertificationRequest", PUBLIC, "a certification request (RFC 2986)"),
     ("CertificateList", "CertificateList", PUBLIC, "a list of revoked certificates (RFC 5280)"),
     ("ecPublic", "SubjectPublicKeyInfo", PUBLIC, "a public key (RFC 5280)"),
+    ("rsaPublic", "SubjectPublicKeyInfo", PUBLIC, "a public key (RFC 5280)"),
     ("SubjectPublicKeyInfo", "SubjectPublicKeyInfo", PUBLIC, "a public key (RFC 5280)"),
     ("DHParameter", "DHParameter", CLOSED, "Diffie-Hellman parameters (PKCS #3)"),
     ("RSAPublicKey", "RSAPublicKey", CLOSED, "an RSA public key (RFC 8017)"),
@@ -174,6 +178,7 @@ class Field:
         self.most = int(content[5:]) if self.kind in ("shown", "short") else None
         self.arcs = arcs_of(content[3:]) if content.startswith("of:") else None
         self.whole = content[1:] if content.startswith("=") else None
+        self.bits = content[5:] if content.startswith("bits:") else None
         self.inside = content if content in NAMES else None
 
     @property

@@ -1,19 +1,12 @@
-#!/usr/bin/env python3
-"""Runs the built sec1_inspect over keys of every form, and compares each line, standard error and
-the status with docs/FORMATS.md.
+"""What docs/FORMATS.md has sec1_inspect print for keys of every form.
 
 The keys have a point of each form at each size, points that are none, private keys from 0 bytes to
 1 MB, and each combination of the optional fields; each is given as text on standard input and as
-DER in a file. BY_HAND has texts with the lines that are printed of each. The last line is
-'N passed, M failed'.
+DER in a file. BY_HAND has texts with the lines that are printed of each.
 """
-import pathlib
-import subprocess
-import sys
-import tempfile
 
-TOP = pathlib.Path(__file__).resolve().parent.parent
-PROGRAM = pathlib.Path(sys.argv[1]) if len(sys.argv) > 1 else TOP / "crates/sec1_inspect/out/sec1_inspect"
+import subprocess
+
 SIZES = (28, 32, 48, 66)
 LENGTHS = (0, 1, 28, 32, 48, 66, 117, 118, 122, 123, 127, 128, 255, 256, 300, 4095, 4096, 5000)
 LENGTHS += (10000, 65535, 65536, 100000, 500000, 1000000)
@@ -43,8 +36,10 @@ BY_HAND = [
     ("a private key of one byte", "3006 020101 040107", NO_FIELDS.format(1)),
     ("blanks between any two digits, letters of both cases",
      " 3\t0 0\r\n9 020101 04 04 aB\nCd 0 1 2 3\n", NO_FIELDS.format(4)),
-    ("a public key that is present and empty", "300A 020101 0400 A103 030100", NO_CURVE.format("empty", "none")),
-    ("a public key of one byte", "300B 020101 0400 A104 03020000", NO_CURVE.format("00", "identity")),
+    ("a public key that is present and empty", "300A 020101 0400 A103 030100",
+     NO_CURVE.format("empty", "none")),
+    ("a public key of one byte", "300B 020101 0400 A104 03020000",
+     NO_CURVE.format("00", "identity")),
     ("a second arc above 39", "300B 020101 0400 A004 06028837",
      "private_key: 0 bytes\nparameters: 2.999\npublic_key: none\npoint: none\n"),
     ("a compressed point of 48 bytes", "303B 020101 0400 A134 0332 0003" + "11" * 48,
@@ -62,12 +57,13 @@ BY_HAND = [
     ("a form feed, which is no blank", "30\x0C05020101 0400", NO_DIGITS),
     ("no bytes", "", NO_KEY.format("no")),
     ("a length in the long form below 128", "30 81 05 02 01 01 04 00", NO_KEY.format("no")),
-    ("a curve that occurs twice", "3011 020101 0400 A004 06022A03 A004 06022A03", NO_KEY.format("7 elements")),
+    ("a curve that occurs twice", "3011 020101 0400 A004 06022A03 A004 06022A03",
+     NO_KEY.format("7 elements")),
 ]
 
 
 def element(tag, content):
-    """An element in DER: the length in the fewest bytes (X.690 section 10.1)."""
+    """Returns an element in DER: the length in the fewest bytes (X.690 section 10.1)."""
     count = len(content)
     if count < 128:
         return bytes([tag, count]) + content
@@ -76,7 +72,7 @@ def element(tag, content):
 
 
 def key(private_key, curve=None, public_key=None):
-    """The key with these parts in DER (RFC 5915 section 3)."""
+    """Returns the key with these parts in DER (RFC 5915 section 3)."""
     content = element(2, b"\1") + element(4, private_key)
     if curve is not None:
         content += element(0xA0, element(6, bytes.fromhex(curve)))
@@ -86,6 +82,7 @@ def key(private_key, curve=None, public_key=None):
 
 
 def report(private_len, curve=None, public_key=None, point="none"):
+    """Returns the lines of the report on a key."""
     if public_key is None:
         digits = "none"
     else:
@@ -96,7 +93,7 @@ def report(private_len, curve=None, public_key=None, point="none"):
 
 
 def points():
-    """Public keys, and the words for the point that each is."""
+    """Returns public keys, and the words for the point that each is."""
     yield b"\0", "identity"
     for size in SIZES:
         x, even, odd = bytes(range(1, size + 1)), bytes([0x22]) * size, bytes([0xFF]) * size
@@ -124,10 +121,10 @@ def points():
 
 
 def cases():
-    """Each input in DER, what is printed of it, and the status."""
+    """Returns each input in DER, what is printed of it, and the status."""
     for public_key, point in points():
-        yield key(b"\1" * 32, None, public_key), report(32, None, public_key, point), 0
-        yield key(b"\1" * 32, "2b81040022", public_key), report(32, "2b81040022", public_key, point), 0
+        for curve in (None, "2b81040022"):
+            yield key(b"\1" * 32, curve, public_key), report(32, curve, public_key, point), 0
     for curve in CURVES:
         yield key(b"", curve), report(0, curve), 0
     uncompressed = b"\4" + bytes(range(64))
@@ -142,8 +139,9 @@ def cases():
         yield whole[:count], refused + "no\n", 1
     yield whole + b"\0", refused + "no\n", 1
     yield element(0x30, b""), refused + "1 elements\n", 1
-    yield element(0x30, element(2, b"\2") + element(4, b"")), refused + "3 elements\n", 1
-    yield element(0x30, element(2, b"\1") + element(4, b"") + element(5, b"")), refused + "4 elements\n", 1
+    octets = element(4, b"")
+    yield element(0x30, element(2, b"\2") + octets), refused + "3 elements\n", 1
+    yield element(0x30, element(2, b"\1") + octets + element(5, b"")), refused + "4 elements\n", 1
     inner = element(4, b"")
     for depth in range(2, 67):
         inner = element(0x30, inner)
@@ -153,39 +151,25 @@ def cases():
     yield key(bytes(LIMIT - 12)), TOO_LONG, 1
 
 
-def runs(path):
-    """Each run: its name, how it ended, and how it has to end."""
+def runs():
+    """Returns each run: its name, whether the input is a file, the input, and how it has to end."""
     for der, lines, status in cases():
-        path.write_bytes(der)
         name = f"{der[:60].hex()}.. of {len(der)} bytes"
-        yield f"a path, {name}", run([str(path)], b""), (status, lines)
-        for way, text in ("text", der.hex()), ("text in capitals, with blanks", der.hex(" ").upper()):
-            wanted = (status, lines) if len(text) <= LIMIT else (1, TOO_LONG)
-            yield f"{way}, {name}", run([], text.encode()), wanted
+        yield f"a path, {name}", True, der, (status, lines.encode(), b"")
+        ways = {"text": der.hex(), "text in capitals, with blanks": der.hex(" ").upper()}
+        for way, text in ways.items():
+            wanted = (status, lines.encode()) if len(text) <= LIMIT else (1, TOO_LONG.encode())
+            yield f"{way}, {name}", False, text.encode(), (*wanted, b"")
     for name, text, lines in BY_HAND:
-        yield name, run([], text.encode()), (int(lines.startswith("refused")), lines)
+        status = int(lines.startswith("refused"))
+        yield name, False, text.encode(), (status, lines.encode(), b"")
 
 
-def run(words, given):
-    ended = subprocess.run([str(PROGRAM), *words], input=given, capture_output=True, timeout=3600, check=False)
+def run(program, is_file, given, file):
+    """Runs the program over this file, once it has these bytes, or over standard input. Returns its
+    status, standard output and standard error."""
+    if is_file:
+        file.write_bytes(given)
+    ended = subprocess.run([program, *[file] * is_file], input=b"" if is_file else given,
+                           capture_output=True, timeout=3600, check=False)
     return ended.returncode, ended.stdout, ended.stderr
-
-
-def main():
-    if not PROGRAM.exists():
-        print(f"FAILED: there is no program {PROGRAM}: run rt ci first\n0 passed, 1 failed")
-        return 1
-    passed = failed = 0
-    with tempfile.TemporaryDirectory() as room:
-        for name, found, (status, lines) in runs(pathlib.Path(room, "key")):
-            if found == (status, lines.encode(), b""):
-                passed += 1
-            else:
-                failed += 1
-                print(f"FAILED: {name}: {found[0]}, {found[1][:200]}, {found[2][:100]}")
-    print(f"{passed} passed, {failed} failed")
-    return failed != 0
-
-
-if __name__ == "__main__":
-    sys.exit(main())

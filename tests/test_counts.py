@@ -1,0 +1,63 @@
+"""That what fails is counted as failed: by pytest as conftest.py has it, by tests/count.sh, and by
+tests/part."""
+
+import shutil
+import subprocess
+
+import pytest
+from conftest import TOP
+
+# What a module holds, the last line, and whether the run ends well.
+MODULES = {
+    "none": ("def test_it(): pass", "1 passed, 0 failed", True),
+    "an assertion": ("def test_it(): assert 1 == 2", "0 passed, 1 failed", False),
+    "a case": (
+        "def test_it(tell):\n tell('one', True)\n tell('other', False)\n tell('third', True)",
+        "2 passed, 1 failed",
+        False,
+    ),
+    "an assertion after cases": (
+        "def test_it(tell):\n tell('one', True)\n assert 1 == 2",
+        "0 passed, 1 failed",
+        False,
+    ),
+    "what a test asks for": ("def test_it(nothing): pass", "0 passed, 1 failed", False),
+    "too few cases": ("def test_it(tell):\n tell('one', True)", "1 passed, 1 failed", False),
+    "a module that can't be read": ("import nothing", "0 passed, 1 failed", False),
+    "a test that is skipped": (
+        "from conftest import needs\n@needs('nothing')\ndef test_it(): pass\ndef test_other(): pass",
+        "1 passed, 0 failed, 1 skipped",
+        True,
+    ),
+}
+
+
+@pytest.mark.parametrize("workers", [0, 2])
+@pytest.mark.parametrize("what", MODULES)
+def test_what_fails_is_counted(what, workers, tmp_path):
+    text, last, is_well = MODULES[what]
+    tests = tmp_path / "tests"
+    tests.mkdir()
+    for name in ("conftest.py", "pytest.ini"):
+        shutil.copy(TOP / "tests" / name, tests)
+    (tests / "least").write_text("2 test_few.py\n1 test_one.py\n")
+    (tests / f"test_{'few' if what == 'too few cases' else 'one'}.py").write_text(text)
+    command = ["pytest-3", "-q", "-n", str(workers), "tests"]
+    ran = subprocess.run(command, cwd=tmp_path, capture_output=True, text=True)
+    assert (ran.stdout.splitlines()[-1], ran.returncode == 0) == (last, is_well), ran.stdout
+
+
+@pytest.mark.parametrize(
+    "command, last",
+    [
+        (". tests/count.sh; tell one yes; tell other no; finish", "1 passed, 1 failed"),
+        ("echo 3 passed, 0 failed; exit 1", "3 passed, 1 failed"),
+        ("echo 3 passed, 0 failed; echo more", "0 passed, 1 failed"),
+        ("exit 0", "0 passed, 1 failed"),
+    ],
+)
+def test_a_part_that_fails_is_counted(command, last, tmp_path):
+    words = ["tests/part", tmp_path / "part", "bash", "-c", command]
+    ran = subprocess.run(words, cwd=TOP, capture_output=True, text=True)
+    assert ran.returncode == 1
+    assert (tmp_path / "part").read_text().splitlines()[-1] == last

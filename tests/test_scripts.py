@@ -1,0 +1,74 @@
+"""The scripts, which count their own cases, and print them in a last line 'N passed, M failed'.
+
+    pytest-3 -n 4 tests              all of them, side by side
+    pytest-3 tests -k "dump and not pairs"
+    pytest-3 tests --lf              those that failed
+"""
+
+import re
+import subprocess
+
+import pytest
+from conftest import TOP, lacking
+
+BUILT, CORE, SLOW = pytest.mark.built, pytest.mark.core, pytest.mark.slow
+# Those that take long stand between others, since a worker of xdist takes two at a time.
+SCRIPTS = {
+    "tests/web/run": [SLOW],
+    "tests/documents": [],
+    "tests/plant rust": [SLOW],
+    "tests/doors": [],
+    "tests/plant web": [SLOW],
+    "tests/dist/run aarch64": [SLOW],
+    "tests/plant python": [SLOW],
+    "tests/dist/run secrets": [SLOW],
+    "tests/plant js": [SLOW],
+    "tests/dist/run portable": [SLOW],
+    "bindings/test.sh": [],
+    "tests/dist/run emulated": [SLOW],
+    "tests/dist/run alone": [SLOW],
+    "tests/plant readers": [BUILT, SLOW],
+    "tests/calls/run": [BUILT],
+    "tests/dump/pairs.py": [BUILT, SLOW],
+    "bash crates/sec1_c/test.sh": [BUILT],
+    "tests/dist/run fuzz": [BUILT, SLOW],
+    "tests/plant dist": [BUILT, SLOW],
+    "tests/dist/run same": [BUILT, SLOW],
+}
+# The optional tools of scripts that skip cases without them. Cases that are skipped though each of
+# these is there don't count.
+OPTIONAL = {
+    "bindings/test.sh": "node npm tsc mypy esbuild rollup webpack jsc x86_64-w64-mingw32-gcc "
+    "/usr/lib/wine/wine64 /usr/share/cargo/registry/serde-1* qemu-aarch64 firefox-esr chromium",
+    "tests/plant js": "node",
+    "tests/dist/run alone": "node cmake pkg-config clang musl-gcc dh lintian",
+    "tests/dist/run aarch64": "qemu-aarch64 aarch64-linux-gnu-gcc",
+    "tests/dist/run portable": "clang musl-gcc",
+    "tests/dist/run emulated": "/usr/lib/wine/wine64 qemu-riscv64 qemu-s390x",
+    "tests/dist/run secrets": "valgrind clang",
+    "tests/dist/run fuzz": "clang /usr/lib/clang/*/lib/linux/libclang_rt.fuzzer-x86_64.a",
+    "tests/doors": "node npm",
+    "tests/plant web": "chromium firefox-esr xvfb-run /usr/lib/python3/dist-packages/gi",
+    "tests/web/run": "chromium firefox-esr xvfb-run /usr/lib/python3/dist-packages/gi",
+}
+COUNT = re.compile(r"^(\d+) passed, (\d+) failed(?:, (\d+) skipped)?$")
+
+
+@pytest.mark.parametrize("script", [pytest.param(it, marks=SCRIPTS[it], id=it) for it in SCRIPTS])
+def test_script(script, tell):
+    ran = subprocess.run(
+        ["setpriv", "--pdeathsig", "TERM", *script.split()],
+        cwd=TOP, stdin=subprocess.DEVNULL, stdout=subprocess.PIPE, stderr=subprocess.STDOUT,
+        text=True, errors="replace", check=False,
+    )  # fmt: skip
+    lines = ran.stdout.splitlines()
+    counted = COUNT.match(lines[-1] if lines else "")
+    assert counted, "\n".join([f"it ended with status {ran.returncode}, uncounted", *lines[-40:]])
+    tell.passed, tell.failed, skipped = (int(it or 0) for it in counted.groups())
+    tell.lines += [it for it in lines if it.startswith("FAILED:")]
+    if lacking(*OPTIONAL.get(script, "").split()):
+        tell.skipped = skipped
+    elif skipped:
+        tell(f"{skipped} cases were skipped, though all tools are there", False)
+    if ran.returncode and not tell.failed:
+        tell(f"it ended with status {ran.returncode}", False)
