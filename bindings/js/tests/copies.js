@@ -166,7 +166,10 @@ export async function counted() {
       fs.writeFileSync(path.join(folder, String(at)), make(secrets[at]));
     }
     const stdio = ['pipe', 'pipe', 'inherit'];
-    const child = spawn(process.execPath, ['--expose-gc', here, 'run', folder], { stdio });
+    // Else V8 gives back memory where little was asked for in a millisecond, as on a busy machine,
+    // and old copies with it.
+    const flags = ['--expose-gc', '--predictable'];
+    const child = spawn(process.execPath, [...flags, here, 'run', folder], { stdio });
     const answer = {};
     let at = 0;
     for await (const _ of child.stdout) {
