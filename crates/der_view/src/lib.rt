@@ -58,8 +58,3 @@ pub use text::{
 };
 pub use values::{Arcs, ShortText, Value, value_of};
 pub use walk::{Element, Place, Rows};
-
-#[cfg(test)]
-mod said_tests;
-#[cfg(test)]
-mod tests;

@@ -27,11 +27,15 @@ mod keys;
 #[cfg(test)]
 pub mod picture_equality;
 #[cfg(test)]
+mod pictures;
+#[cfg(test)]
 mod printing;
 #[cfg(test)]
 mod round_trips;
 #[cfg(test)]
 mod rows;
+#[cfg(test)]
+mod said;
 #[cfg(test)]
 mod sets;
 #[cfg(test)]

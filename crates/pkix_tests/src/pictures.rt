@@ -1,6 +1,6 @@
 //! Pictures of keys and other bytes, counted.
 
-use crate::{Component, Element, Form, Name, Place, Plan, Rows, Way, draw_rows, plan_of};
+use der_view::{Component, Element, Form, Name, Place, Plan, Rows, Way, draw_rows, plan_of};
 
 /// What was told of a picture.
 #[derive(Drop)]

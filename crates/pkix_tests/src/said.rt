@@ -1,5 +1,5 @@
 //! What is said of an input, and of texts that are almost PEM.
-use crate::{Output, draw};
+use der_view::{Output, draw};
 use std::convert::Infallible;
 
 /// What is written, as far as there is room.
