@@ -48,6 +48,13 @@ calls() { # PACKAGE
     check "its column in bindings/README.md is that of its code" python3 -B "$here/calls.py" "$1"
 }
 
+# Packs both crates. One by one, since cargo 1.85 looks for the one below in the registry otherwise.
+pack() {
+    local below="patch.crates-io.bridgeacacia-sec1-sys.path=\"$work/rust/sec1-sys\""
+    cargo package --locked --allow-dirty -p bridgeacacia-sec1-sys &&
+        cargo package --allow-dirty -p bridgeacacia-sec1 --config "$below"
+}
+
 rust() {
     local crate=$work/crates
     calls rust
@@ -57,8 +64,7 @@ rust() {
     cp -RL "$here/rust/sec1" "$here/rust/sec1-sys" "$work/rust"
     cd "$work/rust" || return
     export CARGO_NET_OFFLINE=true CARGO_TARGET_DIR="$work/target"
-    check "the crates are packed, and build from what is listed" \
-        cargo package --locked --workspace --allow-dirty
+    check "the crates are packed, and build from what is listed" pack
     mkdir -p "$crate"
     for file in "$work"/target/package/*.crate; do tar xzf "$file" -C "$crate"; done
     local version
