@@ -1,4 +1,5 @@
 """Pictures of the page as two browsers draw it, to be looked at, and the one of the documents."""
+import hashlib
 import pathlib
 import struct
 import tempfile
@@ -73,7 +74,7 @@ def draw(target, file):
             shoot(browser, target, file, "key", SIZE)
         finally:
             browser.close()
-    target.write_bytes(indexed(target.read_bytes()))
+    target.write_bytes(indexed(target.read_bytes(), file))
 
 
 def chunk(kind, data):
@@ -104,7 +105,12 @@ def unfiltered(data, width):
         above = line
 
 
-def indexed(image):
+def source(file):
+    """Returns the chunk that says of which page a picture is."""
+    return b"Source\0SHA-256 " + hashlib.sha256(file.read_bytes()).hexdigest().encode()
+
+
+def indexed(image, file):
     """Returns a PNG with few colours, which has fewer bytes."""
     data = zlib.decompress(b"".join(it for kind, it in chunks(image) if kind == b"IDAT"))
     colors, lines = {}, b""
@@ -115,12 +121,14 @@ def indexed(image):
         lines += b"\0" + bytes(colors.setdefault(it, len(colors)) for it in pixels)
     head = struct.pack(">IIBBBBB", *SIZE, 8, 3, 0, 0, 0)
     return (SIGNATURE + chunk(b"IHDR", head) + chunk(b"PLTE", b"".join(colors))
-            + chunk(b"IDAT", zlib.compress(lines, 9)) + chunk(b"IEND", b""))
+            + chunk(b"tEXt", source(file)) + chunk(b"IDAT", zlib.compress(lines, 9))
+            + chunk(b"IEND", b""))
 
 
-def is_drawn(target):
-    """Returns whether there is a PNG of the size that it has to have, with few bytes."""
+def is_drawn(target, file):
+    """Returns whether there is a PNG of this page, of the size that it has to have, with few bytes."""
     image = target.read_bytes()
     found = dict(chunks(image)) if image.startswith(SIGNATURE) else {}
     return (found.get(b"IHDR", b"")[:8] == struct.pack(">II", *SIZE) and len(image) < MOST
+            and found.get(b"tEXt") == source(file)
             and len(zlib.decompress(found[b"IDAT"])) == (SIZE[0] + 1) * SIZE[1])
