@@ -1,7 +1,8 @@
 """The numbers and the names of the library for C, in sec1.h and in the packages, beside the source.
 
-Compared are each number of an enum, with its name and no other beside it, the names and the order
-of the parameters of each function, the limits, and the version, with the CHANGELOG. The texts of
+Compared are each number of an enum, with its name and no other beside it, the names, the order and
+the types of the parameters of each function, the members of each struct, the limits, and the
+version, with the CHANGELOG. The texts of
 errors are those of sec1_der, in the header, in FORMATS.md and in the tests of the packages, which
 ask the library for them.
 """
@@ -12,11 +13,26 @@ import re
 import pytest
 from conftest import TOP
 
-# Parameters that the header calls by another name than the source.
-OTHER_NAMES = {
-    "sec1_tree_check": {"input": "bytes", "input_len": "bytes_len"},
-    "sec1_document_len": {"input": "bytes", "input_len": "bytes_len"},
-    "sec1_element_read": {"input": "bytes", "input_len": "bytes_len"},
+# Functions whose `input` the header calls `bytes`.
+OF_BYTES = "sec1_tree_check", "sec1_document_len", "sec1_element_read"
+# The types of the source, in C.
+TYPES = {
+    "u8": "uint8_t",
+    "u32": "uint32_t",
+    "i32": "int32_t",
+    "usize": "size_t",
+    "Span": "struct sec1_part",
+    "KeyParts": "struct sec1_key_parts",
+    "PointParts": "struct sec1_point_parts",
+    "PublicKeyParts": "struct sec1_public_key_parts",
+    "SignatureParts": "struct sec1_signature_parts",
+    "PrivateKeyInfoParts": "struct sec1_private_key_info_parts",
+    "PictureLine": "struct sec1_picture_line",
+}
+# What the header alone has: a struct whose members are given to a call by inline functions.
+UNPROVED = {
+    *("sec1_key_len_of", "sec1_key_write_of", "sec1_picture_show"),
+    *("struct sec1_key", "struct sec1_picture_options"),
 }
 
 
@@ -85,29 +101,46 @@ def source_lines():
     return {"SEC1_LINE_" + name: int(number) for name, number in found}
 
 
-def source_parameters():
-    """Returns the parameters of each exported function: a slice crosses as a pointer and
-    `NAME_len`."""
-    found = {}
+def source_items():
+    """Returns the types in C of each exported function, beginning with that of its result, and the
+    members of each struct of C; and the names of the parameters of each function."""
+    types, names = {}, {}
     for path in sorted((TOP / "crates/sec1_c/src").rglob("*.rt")):
         text = path.read_text(encoding="utf-8")
-        for name, parameters in re.findall(r'pub extern "C" fn (\w+)\((.*?)\) ->', text, re.S):
-            names = []
-            for parameter in filter(None, (p.strip() for p in parameters.split(","))):
-                word, kind = parameter.split(": ", 1)
-                names += [word, word + "_len"] if kind.endswith("]") else [word]
-            found[name] = [OTHER_NAMES.get(name, {}).get(word, word) for word in names]
-    return found
+        function = r'pub extern "C" fn (\w+)\((.*?)\) -> (\w+)'
+        for name, parameters, result in re.findall(function, text, re.S):
+            types[name], names[name] = [TYPES[result]], []
+            for word, kind in re.findall(r"(\w+): ([^,]*[^,\s])", parameters):
+                word = "bytes" if word == "input" and name in OF_BYTES else word
+                types[name] += c_types(kind)
+                names[name] += [word, word + "_len"][: len(c_types(kind))]
+        struct = r"#\[repr\(C\)\].*?pub struct (\w+) \{(.*?)\n\}"
+        for name, body in re.findall(struct, text, re.S):
+            members = re.findall(r"pub (\w+): (\w+),", body)
+            types[TYPES[name]] = [f"{TYPES[kind]} {word}" for word, kind in members]
+    return types, names
 
 
-def header_parameters():
-    """Returns the parameters of each function of the header."""
-    found = {}
-    declared = r"\b(sec1_\w+)\(((?:[^();]|\n)*)\)\s*(?:SEC1_\w+(?:\([^)]*\))?\s*)*;"
-    for name, parameters in re.findall(declared, CODE):
-        words = [p.strip() for p in parameters.split(",") if p.strip() != "void"]
-        found[name] = [re.search(r"(\w+)$", word).group(1) for word in words]
-    return found
+def c_types(kind):
+    """Returns the types in C of a parameter: a slice crosses as a pointer and a length."""
+    reference, slice, word = re.fullmatch(r"(&|&mut )?(\[)?(\w+)\]?", kind).groups()
+    pointer = ("const " if reference == "&" else "") + TYPES[word] + ("*" if reference else "")
+    return [pointer, "size_t"] if slice else [pointer]
+
+
+def header_items():
+    """Returns the same of the header. A text crosses as bytes."""
+    types, names = {}, {}
+    function = r"^(\w+) (sec1_\w+)\(([^();]*)\)\s*(?:SEC1_\w+(?:\([^)]*\))?\s*)*;"
+    for result, name, parameters in re.findall(function, CODE, re.M):
+        pairs = re.findall(r"\s*([^,]*?)\s*(\w+)(?:,|$)", parameters)
+        kinds = [re.sub(r"\bchar\b", "uint8_t", " ".join(it.split())) for it, _ in pairs]
+        types[name] = [result, *(it.replace(" *", "*") for it in kinds)]
+        names[name] = [word for _, word in pairs]
+    for name, body in re.findall(r"^(struct \w+) \{(.*?)\n\};", CODE, re.S | re.M):
+        members = re.findall(r"((?:struct )?\w+) ([\w, ]+);", body)
+        types[name] = [f"{kind} {it.strip()}" for kind, every in members for it in every.split(",")]
+    return types, names
 
 
 # ---- the enums
@@ -182,9 +215,11 @@ def test_numbers_of_packages(same, enums):
 
 
 def test_parameters(same):
-    wanted, found = source_parameters(), header_parameters()
-    for name in sorted(wanted):
-        same(f"the parameters of {name}", wanted[name], found.get(name))
+    (wanted, words), (found, other_words) = source_items(), header_items()
+    for name in sorted(words):
+        same(f"the parameters of {name}", words[name], other_words.get(name))
+    for name in sorted((wanted.keys() | found.keys()) - UNPROVED):
+        same(f"the types of {name}", wanted.get(name), found.get(name))
 
 
 def constant(name, path, content=0):

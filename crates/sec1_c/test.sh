@@ -144,12 +144,7 @@ else
     fail "the headers of OpenSSL are missing (Debian: libssl-dev)"
 fi
 
-# ---- the examples, and the header beside the source
+# ---- the examples
 
 add "tests/examples.sh" "$dist/tests/examples.sh" "$installed"
-if command -v python3 > "$work/null"; then
-    add "tests/header.py" python3 -B tests/header.py
-else
-    fail "python3 is missing"
-fi
 finish
