@@ -7,6 +7,8 @@ cases. tests/least has the least number of cases of each module, and of each scr
 
 import functools
 import glob
+import os
+import re
 import shutil
 import subprocess
 from collections import Counter
@@ -19,6 +21,8 @@ OUTCOMES = ["passed", "failed", "skipped"]
 LEAST = dict(reversed(it.split(" ", 1)) for it in (TOP / "tests/least").read_text().splitlines())
 # How many failed cases of a test are shown.
 SHOWN = 40
+# The last line of a script that counts its cases.
+COUNT = re.compile(r"^(\d+) passed, (\d+) failed(?:, (\d+) skipped)?$")
 
 
 def pytest_addoption(parser):
@@ -38,11 +42,63 @@ class Tell:
         self.failed += not is_right
         self.lines += [] if is_right else [f"FAILED: {what[:600]}"]
 
+    def lacks(self, count, *tools):
+        """Counts so many cases as skipped where a tool is missing, and returns whether one is."""
+        self.skipped += count if lacking(*tools) else 0
+        return bool(lacking(*tools))
+
 
 @pytest.fixture
 def tell():
     """Counts the cases of a test, which fails where one of them did."""
     return Tell()
+
+
+def call(command, **how):
+    """Runs a command, or a text of a shell, and returns how it ended."""
+    words = ["bash", "-euo", "pipefail", "-c", command] if isinstance(command, str) else command
+    how |= {"stdin": subprocess.DEVNULL, "capture_output": True, "text": True, "errors": "replace"}
+    # it ends where the test is ended by force
+    return subprocess.run(["setpriv", "--pdeathsig", "TERM", *words], check=False, **how)
+
+
+@pytest.fixture
+def check(tell, tmp_path):
+    """Runs a command in a folder, and counts a case: it has to end well, and to print a text if one
+    is given, or to fail, and say what is `refused`. Variables are of its environment."""
+
+    def run(what, command, prints=None, refused=None, folder=tmp_path, **variables):
+        variables = {name: str(value) for name, value in variables.items()}
+        ran = call(command, cwd=folder, env={**os.environ, **variables})
+        said = ran.stdout + ran.stderr
+        is_right = ran.returncode == 0 and prints in (None, ran.stdout.rstrip("\n"))
+        if refused is not None:
+            is_right = ran.returncode != 0 and refused in said
+        tell(f"{what}: status {ran.returncode}: {said[-500:]}", is_right)
+        return said
+
+    return run
+
+
+@pytest.fixture
+def add(tell):
+    """Runs a script, and adds the cases that it counts. Those that it skips are a failure where
+    none of these optional tools is missing."""
+
+    def run(command, *optional, **variables):
+        ran = call(command, cwd=TOP, env={**os.environ, **variables})
+        lines = ran.stdout.splitlines()
+        counted, ended = COUNT.match(lines[-1] if lines else ""), f"status {ran.returncode}"
+        assert counted, "\n".join([f"{ended}, uncounted:", *lines[-40:], ran.stderr[-4000:]])
+        passed, failed, skipped = (int(it or 0) for it in counted.groups())
+        tell.passed, tell.failed = tell.passed + passed, tell.failed + failed
+        tell.lines += [it for it in lines if it.startswith("FAILED:")]
+        if skipped and not tell.lacks(skipped, *optional):
+            tell(f"{skipped} cases were skipped, though all tools are there", False)
+        if ran.returncode and not failed:
+            tell(ended, False)
+
+    return run
 
 
 @pytest.fixture(scope="session")
@@ -64,11 +120,10 @@ def replay(program):
     return lambda lines: lines_of(command, given=lines)
 
 
-def lines_of(*command, given=()):
-    """Returns the lines that a command prints, which is given others."""
-    text = "".join(f"{line}\n" for line in given)
-    ran = subprocess.run(command, input=text, stdout=subprocess.PIPE, text=True, check=True)
-    return ran.stdout.splitlines()
+def lines_of(*command, given=(), cwd=None):
+    """Returns the lines that a command prints, which is given others, and has to end well."""
+    how = {"input": "".join(f"{line}\n" for line in given), "cwd": cwd, "text": True}
+    return subprocess.run(command, stdout=subprocess.PIPE, check=True, **how).stdout.splitlines()
 
 
 @pytest.fixture(scope="session")
@@ -85,10 +140,18 @@ def lacking(*tools):
     return [it for it in tools if not (glob.glob(it) if it[0] == "/" else shutil.which(it))]
 
 
-def needs(*tools):
-    """Skips a test where a tool is missing."""
+def needs(*tools, cases=1):
+    """Skips a test of so many cases where a tool is missing."""
     without = lacking(*tools)
-    return pytest.mark.skipif(bool(without), reason=f"without {', '.join(without)}")
+    return pytest.mark.skipif(bool(without), reason=f"without {', '.join(without)}; cases: {cases}")
+
+
+def rows(table):
+    """Returns the rows of a table as parameters; the tools that a row needs are its last column."""
+    return [
+        pytest.param(*row[:-1], marks=needs(*row[-1].split()), id=name)
+        for name, row in table.items()
+    ]
 
 
 # ---- counts
@@ -133,7 +196,9 @@ def pytest_runtest_logreport(report):
     if report.when == "call" or not report.passed:
         module, _, name = report.nodeid.partition("::")
         told = dict(report.user_properties) if report.when == "call" else {}
-        counts = {it: told.get(it, 0) for it in OUTCOMES} if told else {report.outcome: 1}
+        several = report.skipped and re.search(r"; cases: (\d+)$", report.longrepr[2])
+        counts = {report.outcome: int(several[1]) if several else 1}
+        counts = {it: told.get(it, 0) for it in OUTCOMES} if told else counts
         FAILED.extend([report.nodeid] if report.failed and not told else [])
         script = name[name.index("[") + 1 : -1] if module == "test_scripts.py" else module
         CASES.setdefault(script, Counter()).update(counts)

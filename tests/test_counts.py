@@ -29,7 +29,31 @@ MODULES = {
         "1 passed, 0 failed, 1 skipped",
         True,
     ),
+    "a test of cases that is skipped": (
+        "from conftest import needs\n@needs('nothing', cases=7)\ndef test_it(tell): pass",
+        "0 passed, 0 failed, 7 skipped",
+        True,
+    ),
 }
+# The same of what a test has a shell do.
+SHELL = {
+    "check('it', 'echo one; echo two >&2', prints='one')": ("1 passed, 0 failed", True),
+    "check('it', 'exit 1')": ("0 passed, 1 failed", False),
+    "check('it', 'false | true')": ("0 passed, 1 failed", False),
+    "check('it', 'echo one', prints='two')": ("0 passed, 1 failed", False),
+    "check('it', 'echo one >&2; exit 1', refused='one')": ("1 passed, 0 failed", True),
+    "check('it', 'echo one', refused='one')": ("0 passed, 1 failed", False),
+    "check('it', 'exit 1', refused='one')": ("0 passed, 1 failed", False),
+    "add('echo 3 passed, 1 failed')": ("3 passed, 1 failed", False),
+    "add('echo 3 passed, 0 failed; exit 1')": ("3 passed, 1 failed", False),
+    "add('echo 3 passed, 0 failed; echo more')": ("0 passed, 1 failed", False),
+    "add('echo 3 passed, 0 failed, 2 skipped')": ("3 passed, 1 failed", False),
+    "add('echo 3 passed, 0 failed, 2 skipped', 'nothing')": (
+        "3 passed, 0 failed, 2 skipped",
+        True,
+    ),
+}
+MODULES |= {it: (f"def test_it(check, add):\n {it}", *SHELL[it]) for it in SHELL}
 
 
 @pytest.mark.parametrize("workers", [0, 2])

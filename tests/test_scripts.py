@@ -5,11 +5,7 @@
     pytest-3 tests --lf              those that failed
 """
 
-import re
-import subprocess
-
 import pytest
-from conftest import TOP, lacking
 
 BUILT, CORE, SLOW = pytest.mark.built, pytest.mark.core, pytest.mark.slow
 # Those that take long stand between others, since a worker of xdist takes two at a time.
@@ -53,24 +49,8 @@ OPTIONAL = {
     "tests/plant web": "chromium firefox-esr xvfb-run /usr/lib/python3/dist-packages/gi",
     "tests/web/run": "chromium firefox-esr xvfb-run /usr/lib/python3/dist-packages/gi",
 }
-COUNT = re.compile(r"^(\d+) passed, (\d+) failed(?:, (\d+) skipped)?$")
 
 
 @pytest.mark.parametrize("script", [pytest.param(it, marks=SCRIPTS[it], id=it) for it in SCRIPTS])
-def test_script(script, tell):
-    ran = subprocess.run(
-        ["setpriv", "--pdeathsig", "TERM", *script.split()],
-        cwd=TOP, stdin=subprocess.DEVNULL, stdout=subprocess.PIPE, stderr=subprocess.STDOUT,
-        text=True, errors="replace", check=False,
-    )  # fmt: skip
-    lines = ran.stdout.splitlines()
-    counted = COUNT.match(lines[-1] if lines else "")
-    assert counted, "\n".join([f"it ended with status {ran.returncode}, uncounted", *lines[-40:]])
-    tell.passed, tell.failed, skipped = (int(it or 0) for it in counted.groups())
-    tell.lines += [it for it in lines if it.startswith("FAILED:")]
-    if lacking(*OPTIONAL.get(script, "").split()):
-        tell.skipped = skipped
-    elif skipped:
-        tell(f"{skipped} cases were skipped, though all tools are there", False)
-    if ran.returncode and not tell.failed:
-        tell(f"it ended with status {ran.returncode}", False)
+def test_script(script, add):
+    add(script.split(), *OPTIONAL.get(script, "").split())
