@@ -1,5 +1,5 @@
 """The built tests in which memory, reads and writes are refused one by one, over the allocator that
-refuses. calls/run has the calls of sec1 and sec1_der that allocate, and test_program.py has
+refuses. test_calls.py has the calls of sec1 and sec1_der that allocate, and test_program.py has
 sec1_inspect."""
 
 import os

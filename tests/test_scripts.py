@@ -24,7 +24,6 @@ SCRIPTS = {
     "tests/dist/run emulated": [SLOW],
     "tests/dist/run alone": [SLOW],
     "tests/plant readers": [BUILT, SLOW],
-    "tests/calls/run": [BUILT],
     "tests/dump/pairs.py": [BUILT, SLOW],
     "bash crates/sec1_c/test.sh": [BUILT],
     "tests/dist/run fuzz": [BUILT, SLOW],
