@@ -25,7 +25,6 @@ SCRIPTS = {
     "tests/dist/run alone": [SLOW],
     "tests/plant readers": [BUILT, SLOW],
     "tests/dump/pairs.py": [BUILT, SLOW],
-    "bash crates/sec1_c/test.sh": [BUILT],
     "tests/dist/run fuzz": [BUILT, SLOW],
     "tests/plant dist": [BUILT, SLOW],
     "tests/dist/run same": [BUILT, SLOW],
@@ -36,7 +35,6 @@ OPTIONAL = {
     "bindings/test.sh": "node npm tsc mypy esbuild rollup webpack jsc x86_64-w64-mingw32-gcc "
     "/usr/lib/wine/wine64 cargo-clippy cargo-fmt /usr/share/cargo/registry/serde-1* qemu-aarch64 "
     "firefox-esr chromium",
-    "bash crates/sec1_c/test.sh": "clang /usr/lib/clang/*/lib/linux/libclang_rt.fuzzer-x86_64.a",
     "tests/plant js": "node",
     "tests/dist/run alone": "node cmake pkg-config clang musl-gcc dh lintian",
     "tests/dist/run aarch64": "qemu-aarch64 aarch64-linux-gnu-gcc",

@@ -3,8 +3,9 @@
 # and out/libsec1_c-aarch64.a, and the module for WebAssembly, out/sec1.wasm, which it links from
 # out/libsec1_c-wasm64.a. With a folder it also builds the rest, which is in dist, for x86-64, and
 # installs it there: build.sh [FOLDER].
-# RT names the command `rt`, JOBS the number of its jobs. With SEC1_C_BUILT=1 the objects that stand
-# in out/ are taken as they are; with ONLY_X86_64=1 only the object for x86-64 is built.
+# RT names the command `rt`, JOBS the number of its jobs, BUILD the folder of what the rest is built
+# in. With SEC1_C_BUILT=1 the objects that stand in out/ are taken as they are; with ONLY_X86_64=1
+# only the object for x86-64 is built.
 set -euo pipefail
 folder=${1:+$(realpath -m "$1")}
 cd "$(dirname "$0")"
@@ -23,6 +24,6 @@ if [[ ! ${SEC1_C_BUILT:-} ]]; then
     ${RT:-rt} lib --cpu=x86-64 ${JOBS:+--jobs "$JOBS"}
 fi
 if [[ $folder ]]; then
-    make -C ../../dist install BUILD="$PWD/out/build" PROVED="$PWD/out/libsec1_c.a" \
-        PREFIX="$folder"
+    make -C ../../dist install BUILD="${BUILD:-$PWD/out/build}" \
+        PROVED="$PWD/out/libsec1_c.a" PREFIX="$folder"
 fi

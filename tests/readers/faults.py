@@ -512,7 +512,7 @@ def begin(files):
 
 def plain(files):
     """Returns the files that are compared without a fault: one of each comparison, but for those in
-    C, which crates/sec1_c/test.sh compares."""
+    C, which test_library.py compares."""
     found = {differ.READERS[it]: it for it in files}
     found.pop(differ.differs_in_c, None)
     return list(found.values())
