@@ -20,7 +20,6 @@ SCRIPTS = {
     "tests/dist/run secrets": [SLOW],
     "tests/plant js": [SLOW],
     "tests/dist/run portable": [SLOW],
-    "bindings/test.sh": [],
     "tests/dist/run emulated": [SLOW],
     "tests/dist/run alone": [SLOW],
     "tests/plant readers": [BUILT, SLOW],
@@ -32,9 +31,6 @@ SCRIPTS = {
 # The optional tools of scripts that skip cases without them. Cases that are skipped though each of
 # these is there don't count.
 OPTIONAL = {
-    "bindings/test.sh": "node npm tsc mypy esbuild rollup webpack jsc x86_64-w64-mingw32-gcc "
-    "/usr/lib/wine/wine64 cargo-clippy cargo-fmt /usr/share/cargo/registry/serde-1* qemu-aarch64 "
-    "firefox-esr chromium",
     "tests/plant js": "node",
     "tests/dist/run alone": "node cmake pkg-config clang musl-gcc dh lintian",
     "tests/dist/run aarch64": "qemu-aarch64 aarch64-linux-gnu-gcc",
