@@ -8,8 +8,8 @@ own.
 
 A number is an address if the linker has filled it in, and such a number it writes in ten bytes,
 however small it is; every other is as short as it can be. Of the constants those words are taken
-for addresses that lie within the constants, at multiples of 8; tests/dist/run compares their number
-with that of the object for x86-64.
+for addresses that lie within the constants, at multiples of 8; tests/test_made.py compares their
+number with that of the object for x86-64.
 
 Left out is what the stack of a module needs and an array doesn't: its pointer, and the test of each
 function that there is room for it. The compiler has left in a few other tests, of what the proofs

@@ -2,7 +2,7 @@
 sanitizers, its header as each standard of C and C++, and its examples in C, C++, Rust and Python.
 
 The object is what the proof of crates/sec1_c built. The rest is of dist, whose assembly is compared
-with that object by dist/run.
+with that object by test_made.py.
 """
 
 import os
@@ -81,9 +81,9 @@ def test_archive_exports_what_the_header_declares(archive):
 
 # ---- its instructions
 
-# Those that the first x86-64 lacks: SSE3, SSSE3, SSE4, AVX, BMI, ADX and the like. tzcnt isn't one of
-# them: an old processor runs it as bsf, whose result is the same for every number but 0, and the
-# compiler writes it for no other.
+# Those that the first x86-64 lacks: SSE3, SSSE3, SSE4, AVX, BMI, ADX and the like. tzcnt isn't one:
+# an old processor runs it as bsf, whose result is the same for every number but 0, and the compiler
+# writes it for no other.
 NEWER = re.compile(
     """v[a-z0-9]+|k(mov|or|and|not|xor|test|shift|unpck|add)[a-z]+|addsubp[sd]|h(add|sub)p[sd]
     |mov[sd][hl]?dup|lddqu|fisttp.*|m(onitor|wait)x?|pshufb|ph(add|sub)s?[wd]|pmaddubsw

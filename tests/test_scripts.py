@@ -19,15 +19,12 @@ SCRIPTS = {
     "tests/plant js": [SLOW],
     "tests/plant readers": [BUILT, SLOW],
     "tests/dump/pairs.py": [BUILT, SLOW],
-    "tests/dist/run fuzz": [BUILT, SLOW],
     "tests/plant dist": [BUILT, SLOW],
-    "tests/dist/run same": [BUILT, SLOW],
 }
 # The optional tools of scripts that skip cases without them. Cases that are skipped though each of
 # these is there don't count.
 OPTIONAL = {
     "tests/plant js": "node",
-    "tests/dist/run fuzz": "clang /usr/lib/clang/*/lib/linux/libclang_rt.fuzzer-x86_64.a",
     "tests/doors": "node npm",
     "tests/plant web": "chromium firefox-esr xvfb-run /usr/lib/python3/dist-packages/gi",
     "tests/web/run": "chromium firefox-esr xvfb-run /usr/lib/python3/dist-packages/gi",

@@ -2,8 +2,8 @@
 fail, or the file can't be written or compiled.
 
 The module is the one that crates/sec1_c/build.sh links; MODULE names another. Not among the faults
-are `memcpy` in the place of `memmove`, since no call moves memory that overlaps, as tests/dist/run
-fuzz shows; and what changes nothing of this module, where a number never waits on the stack while a
+are `memcpy` in the place of `memmove`, since no call moves memory that overlaps, as test_fuzz_of_c
+shows; and what changes nothing of this module, where a number never waits on the stack while a
 block begins, or while memory is written that it was read from.
 """
 import os

@@ -1,0 +1,166 @@
+"""What dist has, beside what `rt lib` builds with the same kit: the assembly, the module for
+WebAssembly, sec1.c and sec1.rs. How much of its stack the module uses; and a minute of libFuzzer
+beside the second readers, half of it over sec1.c."""
+
+import os
+import re
+import sys
+
+import pytest
+from conftest import TOP, lacking, lines_of, needs
+
+pytestmark = [pytest.mark.built, pytest.mark.slow]
+
+DIST, OUT = TOP / "dist", TOP / "crates/sec1_c/out"
+LIBRARY = TOP / "bindings/js/library.js"
+PYTHON = [sys.executable, "-B"]
+RT = os.environ.get("RT", "rt")
+
+
+def kit_of(processor):
+    """Returns which kit the assembly of a processor was made with."""
+    text = (DIST / f"sec1-{processor}.s").read_text()
+    return re.search(r"^ \* Made with: (.*) \*/$", text, re.M).group(1)
+
+
+KIT = kit_of("x86_64")
+HERE = None if lacking(RT) else lines_of(RT, "version")[0]
+
+
+def by_this_kit(cases=1):
+    """Skips a test of so many cases where there is another kit than that of dist, or none."""
+    reason = f"that was {KIT}, this is {HERE or 'no kit'}; cases: {cases}"
+    return pytest.mark.skipif(HERE != KIT, reason=reason)
+
+
+@pytest.fixture
+def planted(tell):
+    """Returns what a file holds, with another text in the place of what a pattern finds first."""
+
+    def plant(path, pattern, text):
+        held, number = re.subn(pattern, text, path.read_text(), count=1, flags=re.M)
+        tell(f"another text in {path.name}", number == 1 and held != path.read_text())
+        return held
+
+    return plant
+
+
+# ---- the kit, and the stack
+
+
+def test_kits(tell):
+    tell("that of aarch64", kit_of("aarch64") == KIT)
+    tell("sec1.wasm", f"Made with: {KIT}".encode() in (DIST / "sec1.wasm").read_bytes())
+    tell("README.md", f"`{KIT}`" in (DIST / "README.md").read_text())
+
+
+# Other numbers of bytes to be wiped, less than calls use.
+DEPTHS = {"what is wiped": None, "less": "53248, 4096", "less by others": "61440, 2048"}
+
+
+@pytest.mark.parametrize("depths", DEPTHS.values(), ids=DEPTHS)
+def test_stack(planted, check, tmp_path, depths):
+    """Compares what bindings/js wipes of the module's stack with what calls use."""
+    library, numbers = tmp_path / "library.js", rf"\1 = [65536, {depths}];"
+    line = r"^(const \[STACK, DEEP, FLAT\]) = .*"
+    library.write_text(planted(LIBRARY, line, numbers) if depths else LIBRARY.read_text())
+    command = [*PYTHON, TOP / "tests/dist/stack.py", DIST / "sec1.wasm", library]
+    check("the stack", command, refused="calls: " if depths else None)
+
+
+# ---- the assembly
+
+# The archive that is built for a processor, the option of the kit's compiler, and an instruction,
+# a jump if equal, with another one.
+PROCESSORS = {
+    "x86_64": ("libsec1_c.a", "-march=x86-64", ("\tje\t", "\tjne\t")),
+    "aarch64": ("libsec1_c-aarch64.a", "-fPIC", (r"\tb\.eq\t", "\tb.ne\t")),
+}
+
+
+@by_this_kit(cases=3)
+@pytest.mark.parametrize("processor", PROCESSORS)
+def test_assembly(planted, check, tmp_path, processor):
+    archive, option, jumps = PROCESSORS[processor]
+    kit = os.path.dirname(os.path.realpath(lines_of(RT, "doc")[0]))
+    clang = [f"{kit}/toolchain/bin/clang", f"--target={processor}-unknown-linux-gnu", option]
+    source, other = DIST / f"sec1-{processor}.s", tmp_path / "other.s"
+    other.write_text(planted(source, *jumps))
+    compare = [*PYTHON, TOP / "tests/dist/compare.py"]
+    check("it is what rt lib builds", [*compare, source, OUT / archive, *clang])
+    check("another instruction", [*compare, other, OUT / archive, *clang], refused=" differ")
+
+
+# ---- the module
+
+
+@pytest.fixture
+def module(tmp_path):
+    """Returns the module that build.sh links, with a memory of 32 bits, and the kit behind it."""
+    lines_of(*PYTHON, DIST / "to_32.py", OUT / "sec1.wasm", tmp_path / "32.wasm")
+    return (tmp_path / "32.wasm").read_bytes(), b"\4sec1Made with: " + KIT.encode()
+
+
+@by_this_kit(cases=3)
+def test_module(module, tell):
+    linked, kit = module
+    found = bytearray((DIST / "sec1.wasm").read_bytes())
+    tell("it is what is linked", found[: len(linked)] == linked)
+    # the number and the length of the section that names the kit stand between them
+    tell("it ends with the kit", found[len(linked) + 2 :] == kit)
+    found[len(found) // 2] ^= 1
+    tell("another byte is found", found[: len(linked)] != linked)
+
+
+@by_this_kit(cases=2)
+@needs("node", cases=2)
+def test_module_has_what_an_engine_wants(check, tell, tmp_path):
+    """Has an engine refuse the module without one of the instructions that are added."""
+    wraps = [TOP / "tests/dist/wraps.py", OUT / "sec1.wasm", DIST / "sec1.wasm"]
+    changes = lines_of(*PYTHON, *wraps)
+    tell(f"{len(changes)} changes", len(changes) >= 100)
+    (tmp_path / "changes").write_text("\n".join(changes))
+    check("none is accepted", ["node", "-e", ACCEPTED, DIST / "sec1.wasm", "changes"], prints="")
+
+
+# Prints the places of those changes with which an engine accepts a module.
+ACCEPTED = """const [module, changes] = process.argv.slice(1).map((it) => fs.readFileSync(it));
+for (const [at, digits] of String(changes).split("\\n").map((line) => line.split(" "))) {
+    const bytes = Buffer.from(module);
+    bytes.set(Buffer.from(digits, "hex"), Number(at));
+    if (WebAssembly.validate(bytes)) console.log(at);
+}"""
+
+
+# ---- one file of C, and one of Rust
+
+
+@by_this_kit(cases=3)
+@pytest.mark.parametrize("language, name", [("c", "sec1.c"), ("rust", "sec1.rs")])
+def test_translation(planted, tell, language, name):
+    command = [DIST / f"to_{language}.py", OUT / "sec1.wasm", DIST / "sec1.h", KIT]
+    made = "\n".join(lines_of(*PYTHON, *command)) + "\n"
+    tell("it is what is made of what rt lib builds", made == (DIST / name).read_text())
+    tell("another number is found", made != planted(DIST / name, " 1([;)])", r" 2\1"))
+
+
+@by_this_kit()
+def test_addresses(check):
+    """Compares what is taken for an address with what the linker has filled in."""
+    files = OUT / "sec1.wasm", OUT / "libsec1_c-wasm64.a"
+    check("the addresses", [*PYTHON, TOP / "tests/dist/addresses.py", *files])
+
+
+# ---- fuzz
+
+HALF = int(os.environ.get("FUZZ_SECONDS", 60)) // 2
+FUZZER = "clang", "/usr/lib/clang/*/lib/linux/libclang_rt.fuzzer-x86_64.a"
+
+
+def test_fuzz(check, add, tmp_path):
+    check("make", ["make", "-s", "-C", DIST, f"BUILD={tmp_path}"])
+    add([DIST / "tests/fuzz.sh", tmp_path / "libsec1.a", str(HALF)], *FUZZER)
+
+
+def test_fuzz_of_c(add):
+    add([DIST / "tests/fuzz.sh", DIST / "sec1.c", str(HALF)], *FUZZER)
