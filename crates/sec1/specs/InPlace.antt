@@ -1,5 +1,5 @@
 -- What reading a value into an existing place means.
-use Rattle.std.specs.Prelude.{◌≡◌, ℕ, List, Option, Some, Result, IsOk, IfErr, IfOk, OnOk}
+use Rattle.std.specs.Prelude.{◌≡◌, ℕ, List, Option, Some, Result, IsOk, IfErr, OnOk}
 use Rattle.sec1_der.specs.Errors.{IsReadingFault}
 use Rattle.sec1_der.specs.Faults.{Fault, HasFault}
 use Rattle.sec1_der.specs.declared.error.Error.{Error}
@@ -9,16 +9,6 @@ use Rattle.sec1_der.specs.declared.error.Error.{Error}
 pub record ReadsInto {T U : Type 0} (bytes_of : T → Option (List ℕ)) (fault : Fault)
     (input : List ℕ) (place : T) (result : Result U Error) : Type 0 where
   pub found : OnOk result (bytes_of place ≡ Some input)
-  -- the bytes of each value are read
-  pub only : (value : T) → bytes_of value ≡ Some input → IsOk result
-  pub kinds : IfErr result (λ e. IsReadingFault e.kind)
-  -- whether the input is refused, and by which kind, is a function of it
-  pub kind : HasFault result (fault input)
-
--- The input is read as a value.
-pub record ReadsValue {T : Type 0} (bytes_of : T → Option (List ℕ)) (fault : Fault)
-    (input : List ℕ) (result : Result T Error) : Type 0 where
-  pub found : IfOk result (λ value. bytes_of value ≡ Some input)
   -- the bytes of each value are read
   pub only : (value : T) → bytes_of value ≡ Some input → IsOk result
   pub kinds : IfErr result (λ e. IsReadingFault e.kind)

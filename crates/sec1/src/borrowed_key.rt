@@ -124,7 +124,9 @@ impl<'a> TryFrom<&'a [u8]> for BorrowedKey<'a> {
         BorrowedKey::content_injective();
         der::laws::trees_unique();
         der::laws::cut_elements();
-        Ok(read_in_place(bytes)?)
+        let mut key = BorrowedKey::empty();
+        read_in_place(&mut key, bytes)?;
+        Ok(key)
     }
 }
 
@@ -161,18 +163,21 @@ impl<'a> BorrowedKey<'a> {
     {
         Ok(der::encode_to_slice(self, buffer)?)
     }
-}
 
-impl<'a> ReadInPlace<'a> for BorrowedKey<'a> {
-    ghost is_empty = { λ key. (key.parameters ≡ None) × (key.public_key ≡ None) };
-
-    fn empty() -> BorrowedKey<'a> {
+    /// Returns a key without bytes and optional fields: a place to read a key into.
+    fn empty() -> BorrowedKey<'a>
+        ensures { (result.parameters ≡ None) × (result.public_key ≡ None) }
+    {
         BorrowedKey {
             private_key: &[],
             curve: None,
             public_key: None,
         }
     }
+}
+
+impl<'a> ReadInPlace<'a> for BorrowedKey<'a> {
+    ghost is_empty = { λ key. (key.parameters ≡ None) × (key.public_key ≡ None) };
 
     fn read_content(&mut self, content: &'a [u8]) -> der::Result<()> {
         let BorrowedKey {

@@ -1,6 +1,6 @@
 //! Reads a value into an existing place: a refusal moves no value, and a success moves one less.
 ghost use Rattle.std.specs.Prelude.{◌≡◌, ◌≤◌, ℕ, List, length, Some};
-ghost use Rattle.sec1.specs.InPlace.{ReadsInto, ReadsValue};
+ghost use Rattle.sec1.specs.InPlace.{ReadsInto};
 ghost use Rattle.sec1_der.specs.Errors.{Refuses};
 ghost use Rattle.sec1_der.specs.Elements.{max_length, element_of, IsProperPrefix};
 ghost use Rattle.sec1_der.specs.Faults.{element_fault, end_fault};
@@ -12,10 +12,6 @@ pub(crate) trait ReadInPlace<'a>: ValueContent {
     /// Whether nothing has been read into the place yet.
     ghost is_empty: { Self → Type 0 };
 
-    /// Returns an empty place.
-    fn empty() -> Self
-        ensures { is_empty result };
-
     /// Reads a value from its content into an empty place.
     ///
     /// # Errors
@@ -26,17 +22,20 @@ pub(crate) trait ReadInPlace<'a>: ValueContent {
         ensures { ReadsInto Self.content Self.fault content.now self.new result };
 }
 
-/// Reads a value from its whole DER encoding.
+/// Reads a value from its whole DER encoding into an empty place.
 ///
 /// # Errors
 ///
 /// Those of [`from_der`](sec1_der::from_der).
-// Inlined, so that bytes without the tag of a value are refused before there is a place, and before
-// anything is called.
+// Inlined, so that bytes without the tag of a value are refused before anything is called.
 #[inline(always)]
-pub(crate) fn read_in_place<'a, T: ReadInPlace<'a> + Tagged + Drop>(input: &'a [u8]) -> Result<T>
-    ensures read { ReadsValue (λ value. element_of T.tag_byte (T.content value))
-        (element_fault T.tag_byte T.fault end_fault) input.now result }
+pub(crate) fn read_in_place<'a, T: ReadInPlace<'a> + Tagged>(
+    place: &mut T,
+    input: &'a [u8],
+) -> Result<()>
+    requires { T.is_empty place.old }
+    ensures read { ReadsInto (λ value. element_of T.tag_byte (T.content value))
+        (element_fault T.tag_byte T.fault end_fault) input.now place.new result }
     ensures long { (value : T) (bytes : List ℕ)
         → element_of T.tag_byte (T.content value) ≡ Some bytes
         → IsProperPrefix bytes input.now → Refuses result ErrorKind.TrailingData }
@@ -46,12 +45,8 @@ pub(crate) fn read_in_place<'a, T: ReadInPlace<'a> + Tagged + Drop>(input: &'a [
         Ok(content) => content.remaining_input(),
         Err(e) => return Err(e),
     };
-    let mut place = T::empty();
     match place.read_content(content) {
-        Ok(()) => match reader.finish() {
-            Ok(()) => Ok(place),
-            Err(e) => Err(e),
-        },
+        Ok(()) => reader.finish(),
         Err(e) => Err(e),
     }
 }

@@ -144,7 +144,9 @@ impl<'a> TryFrom<&'a [u8]> for EcPrivateKey<'a> {
         EcPrivateKey::content_injective();
         der::laws::trees_unique();
         der::laws::cut_elements();
-        Ok(read_in_place(bytes)?)
+        let mut key = EcPrivateKey::empty();
+        read_in_place(&mut key, bytes)?;
+        Ok(key)
     }
 }
 
@@ -278,18 +280,21 @@ impl<'a> EcPrivateKey<'a> {
             public_key: self.public_key,
         }
     }
-}
 
-impl<'a> ReadInPlace<'a> for EcPrivateKey<'a> {
-    ghost is_empty = { λ key. (key.parameters ≡ None) × (key.public_key ≡ None) };
-
-    fn empty() -> EcPrivateKey<'a> {
+    /// Returns a key without bytes and optional fields: a place to read a key into.
+    fn empty() -> EcPrivateKey<'a>
+        ensures { (result.parameters ≡ None) × (result.public_key ≡ None) }
+    {
         EcPrivateKey {
             private_key: &[],
             parameters: None,
             public_key: None,
         }
     }
+}
+
+impl<'a> ReadInPlace<'a> for EcPrivateKey<'a> {
+    ghost is_empty = { λ key. (key.parameters ≡ None) × (key.public_key ≡ None) };
 
     #[inline(never)]
     fn read_content(&mut self, content: &'a [u8]) -> der::Result<()> {

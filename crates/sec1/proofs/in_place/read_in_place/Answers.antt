@@ -39,31 +39,20 @@ returns-in-Err-clause-read g c = record {
   kind = search rules;
 }
 
-pub returns-in-Ok-finish-clause-read : goal.returns-in-Ok-finish-clause-read
-returns-in-Ok-finish-clause-read g c = record {
-  found = search rules;
-  only = search rules;
-  kinds = search rules;
-  kind =
-      let passed = passes g.T.ValueContent.fault _ _ _ _ _ c.in-Ok.ensures.found c.fixed_tag.ensures
-      (rw c.remaining_input-content.ensures at c.in-Ok-read_content.ensures.kind) in
-      rw (rw c.new-reader.ensures at (passed.next end_fault)) (c.in-Ok-finish.ensures.refused.kind passed.whole);
-}
-
-pub returns-in-Err-finish-clause-read : goal.returns-in-Err-finish-clause-read
-returns-in-Err-finish-clause-read g c = record {
+pub returns-in-Ok-read_content-clause-read : goal.returns-in-Ok-read_content-clause-read
+returns-in-Ok-read_content-clause-read g c = record {
   found = search rules;
   only = λ value is.
       let there = element_of-some g.T.Tagged.tag_byte (g.T.ValueContent.content value) c.args.input.now is in
       let opened = c.in-Ok.ensures.only there.inside [] there.at.bounded
       (rw c.fixed_tag.ensures
       (whole g.T.Tagged.tag_byte there.inside c.args.input.now _ c.new-reader.ensures there.at.encoded)) in
-      absurd (cc (c.in-Err-finish.ensures.only opened.1));
+      c.finish.ensures.only opened.1;
   kinds = search rules;
   kind =
       let passed = passes g.T.ValueContent.fault _ _ _ _ _ c.in-Ok.ensures.found c.fixed_tag.ensures
       (rw c.remaining_input-content.ensures at c.in-Ok-read_content.ensures.kind) in
-      rw (rw c.new-reader.ensures at (passed.next end_fault)) (c.in-Err-finish.ensures.refused.kind passed.whole);
+      rw (rw c.new-reader.ensures at (passed.next end_fault)) (c.finish.ensures.refused.kind passed.whole);
 }
 
 pub returns-in-Err-read_content-clause-read : goal.returns-in-Err-read_content-clause-read

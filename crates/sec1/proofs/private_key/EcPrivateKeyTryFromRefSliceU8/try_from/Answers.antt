@@ -24,5 +24,5 @@ unfolding key_fault
 returns c =
     let read = c.in_ok-read_in_place.ensures.read in
     key_read c.cut_elements.ensures.element c.trees_unique.ensures c.content_injective.ensures
-    c.args.bytes.now _ read.found read.kind
+    c.args.bytes.now c.read_in_place.new.place read.found read.kind
     (λ key bytes is begins. c.in_ok-read_in_place.ensures.long key bytes (key_written key bytes is) begins)
