@@ -154,6 +154,8 @@ impl<'a> BorrowedKey<'a> {
     ///
     /// [`Error::Asn1`] of Overlength if the content of an element would be longer than 268,435,455
     /// bytes, then of Buffer if the slice is too short. The whole slice is unchanged then.
+    // Inlined, so that the length isn't returned through memory.
+    #[inline(always)]
     pub fn encode_to_slice(&self, buffer: &mut [u8]) -> Result<usize>
         ensures exact { MatchResult result
             (λ n. (n ≤ length buffer.new) × Exists (IsKeyOf self.now) (λ bytes.

@@ -185,6 +185,8 @@ impl<'a> EcPrivateKey<'a> {
     /// let n = key.encode_to_slice(buffer)?;
     /// Ok(&buffer[..n])
     /// ```
+    // Inlined, so that the length isn't returned through memory.
+    #[inline(always)]
     pub fn encode_to_slice(&self, buffer: &mut [u8]) -> Result<usize>
         ensures exact { MatchResult result
             (λ n. (n ≤ length buffer.new) × Exists (IsKeyOf self.now) (λ bytes.

@@ -109,6 +109,8 @@ pub fn known_encoded_len<T: EncodeValue + Tagged>(value: &T) -> usize
 /// let octets = OctetStringRef::new(bytes)?;
 /// encode_to_slice(&octets, buffer)
 /// ```
+// Inlined, so that the length isn't returned through memory.
+#[inline(always)]
 pub fn encode_to_slice<T: EncodeValue + Tagged>(value: &T, buffer: &mut [u8]) -> Result<usize>
     ensures { let encoded = element_of T.tag_byte (T.content value.now) in MatchResult result
         (λ n. (n ≤ length buffer.new) × IsSomeAnd encoded

@@ -37,6 +37,8 @@ impl<A: ValueContent + Tagged> Part for Optional<A> {
 }
 
 impl<A: EncodeValue + Tagged> EncodePart for Optional<A> {
+    // Inlined, so that the length isn't returned through memory.
+    #[inline(always)]
     fn part_len(&self) -> Result<Length> {
         match &self.0 {
             Some(value) => component_len(value),

@@ -71,6 +71,8 @@ impl<A: UniqueContent + Tagged> UniquePart for Required<A> {
 /// # Errors
 ///
 /// Overlength if the value has no encoding, or one that is longer than 268,435,455 bytes.
+// Inlined, so that the length isn't returned through memory.
+#[inline(always)]
 pub fn component_len<A: EncodeValue + Tagged>(value: &A) -> Result<Length>
     ensures { Measures (within_limit (element_of A.tag_byte (A.content value.now))) result }
 {
