@@ -3,7 +3,7 @@
 from functools import lru_cache
 
 from ber import LEVELS, Header, NoElement, is_tree
-from table import ALL, CLOSED, PRIVATE, PUBLIC, STRUCTURES, Field
+from table import ALL, CLOSED, PRIVATE, PUBLIC, STRUCTURES, Field, fields_after
 from values import is_valid
 
 STRICT, LOOSE, NOTHING = "strict", "loose", "nothing"
@@ -150,7 +150,8 @@ class Walk:
         is_there = head.length == len(content)
         if field is None or not field.admits(content) or field.is_exact and not is_there:
             return None, None
-        return field, rest
+        after = None if head.constructed or not is_there else fields_after(field.name, content)
+        return field, rest if after is None else after
 
     def shown(self, row):
         """Returns how many bytes are shown of a content that has no rows."""

@@ -3,7 +3,7 @@ each of its elements damaged, each name of an identifier, and texts."""
 import base64
 
 from pairs import element, siblings
-from table import ALL, STRUCTURES, arcs_of
+from table import ALL, CASES, STRUCTURES, arcs_of
 from values import NAMES
 
 KEY = bytes.fromhex(
@@ -88,6 +88,19 @@ def example(structure, fewest=False, turn=0):
             tag, content) if field.tag == 0 else content
         out += element(tag, content) * (2 if field.presence == "*" and not fewest and turn % 2 else 1)
     return out
+
+
+def extensions():
+    """Extensions in a certificate: an identifier that says what comes after it, one that begins so, or
+    of more than 12 bytes, before the fields of each."""
+    for name, arcs, _ in CASES:
+        for tail in (b"", b"\1", b"\1" * 10):
+            for _, _, structure in CASES:
+                extension = element(6, arcs_of(arcs) + tail) + example(structure)
+                tbs = example("tbs", True) + element(0xA3, element(0x30, element(0x30, extension)))
+                algorithm = element(0x30, example("algorithm", True))
+                data = element(0x30, element(0x30, tbs) + algorithm + element(3, b"\0"))
+                yield f"{name} {arcs} and {len(tail)} bytes, {structure}", data
 
 
 def examples():
@@ -326,7 +339,7 @@ def binaries():
 
 def every():
     """The name and the bytes of each."""
-    for make in (shapes, contents, forms, bits, retagged, examples, named, repaired, binaries):
+    for make in (shapes, contents, forms, bits, retagged, extensions, examples, named, repaired, binaries):
         yield from make()
     for name, text in texts():
         yield name, text.encode()

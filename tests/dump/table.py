@@ -5,7 +5,8 @@ name.
 A content is hidden, or shown up to so many bytes; it has at most so many (short), or one (version);
 it is an identifier that begins so (of:arcs), or a point; or its fields are those of a structure, or
 are drawn if they are that to its end (=structure), or of a BIT STRING if its bits are, and none is
-unused (bits:structure). Tag 17 is a time, and 00 any element.
+unused (bits:structure). Tag 17 is a time, and 00 any element. After some identifiers other fields
+come, by what they begin with (CASES).
 """
 import re
 
@@ -61,6 +62,12 @@ validity | RFC 5280 section 4.1.2.5 | 17 shown19 notBefore, 17 shown19 notAfter
 extensions0 | RFC 5280 section 4.1: an explicit tag | 30 extensions extensions
 extensions | RFC 5280 section 4.1 | 30* extension Extension
 extension | RFC 5280 section 4.1 | 06 shown12 extnID, 01? version critical, 04 hidden extnValue
+subjectKey | RFC 5280 section 4.2.1.2 | 01? version critical, 04 =subjectKey0 extnValue
+subjectKey0 | RFC 5280 section 4.2.1.2 | 04 shown64 SubjectKeyIdentifier
+authorityKey | RFC 5280 section 4.2.1.1 | 01? version critical, 04 =authorityKey0 extnValue
+authorityKey0 | RFC 5280 section 4.2.1.1 | 30 authorityKey1 AuthorityKeyIdentifier
+authorityKey1 | RFC 5280 section 4.2.1.1: implicit tags |
+  80? shown64 keyIdentifier, A1? hidden authorityCertIssuer, 82? shown20 authorityCertSerialNumber
 CertificationRequest | RFC 2986 section 4.2 |
   30 request certificationRequestInfo, 30 algorithm signatureAlgorithm, 03 hidden signature
 request | RFC 2986 section 4.1 |
@@ -76,7 +83,7 @@ revoked1 | RFC 5280 section 5.1 |
 ecPublic | RFC 5480 section 2 | 30 ecAlgorithm algorithm, 03 point subjectPublicKey
 rsaPublic | RFC 3279 section 2.3.1 | 30 rsaAlgorithm algorithm, 03 bits:rsaBits subjectPublicKey
 rsaBits | RFC 3279 section 2.3.1 | 30 RSAPublicKey RSAPublicKey
-SubjectPublicKeyInfo | RFC 5280 section 4.1.2.7 | 30 algorithm algorithm, 03 hidden subjectPublicKey
+SubjectPublicKeyInfo | RFC 5280 section 4.1.2.7 | 30 algorithm algorithm, 03 bits:rsaBits subjectPublicKey
 algorithm | RFC 5280 section 4.1.1.2 | 06 shown12 algorithm, 00? shown12 parameters
 ecAlgorithm | RFC 5480 section 2.1.1 | 06 of:1.2.840.10045.2.1 algorithm, 06? shown12 namedCurve
 rsaAlgorithm | RFC 8017 appendix A.1 | 06 of:1.2.840.113549.1.1 algorithm, 00? hidden parameters
@@ -131,6 +138,11 @@ bag | RFC 7292 section 4.2 |
   06 of:1.2.840.113549.1.12.10.1 bagId, A0 hidden bagValue, 31? hidden bagAttributes
 oid | X.690 section 8.19 | 06 short12 namedCurve
 """
+# The fields after an identifier: its name, what it begins with, and the structure that they are.
+CASES = [
+    ("extnID", "2.5.29.14", "subjectKey"),
+    ("extnID", "2.5.29.35", "authorityKey"),
+]
 # The forms, in the order that decides between those which as many bytes follow: the structure, the
 # name of its root, what its parts can hold, and what it is said to be. What is told by INTEGERs alone
 # is closed: a key with 02 for 04 may be two INTEGERs.
@@ -229,6 +241,12 @@ def structures():
 
 
 STRUCTURES = structures()
+
+
+def fields_after(name, content):
+    """Returns the fields that come after an identifier with this name; None if it doesn't decide it."""
+    return next((STRUCTURES[structure] for identifier, arcs, structure in CASES
+                 if identifier == name and len(content) <= 12 and content.startswith(arcs_of(arcs))), None)
 
 
 class Form:

@@ -13,7 +13,7 @@ use Rattle.sec1_der.specs.Trees.{forest, joined, leaf}
 use Rattle.sec1_der.proofs.LengthLaws.{len_1}
 use Rattle.sec1_der.specs.Elements.{element, header, length_octets}
 use Rattle.sec1_der.specs.Identifiers.{content_of}
-use Rattle.der_view.specs.Grammar.{Component, Form, components, key_components}
+use Rattle.der_view.specs.Grammar.{Component, Form, cases, components, key_components}
 use Rattle.der_view.specs.Headers.{max_content_len}
 use Rattle.der_view.specs.Keys.{IsContent, is_low, root_bytes}
 use Rattle.der_view.specs.Pictures.{best, better, capped, ended_by, first_place, is_nearer, known_as, left_as}
@@ -24,7 +24,7 @@ use Rattle.der_view.specs.Rows.{Element, EndOfContents, How, NotDrawn, Row, Step
 use Rattle.der_view.specs.Rows.{component_at}
 use Rattle.der_view.specs.Rows.{end_at, end_rows, fitting, inside, inside_bytes, inside_loose, is_open, may_end}
 use Rattle.der_view.specs.Rows.{next_rows, opened_in, opened_of, rest_after, rest_next, rest_of, rows_of, step_at}
-use Rattle.der_view.specs.Rows.{step_by}
+use Rattle.der_view.specs.Rows.{others_after, step_by}
 use Rattle.der_view.specs.Rows.{step_made, step_rows}
 use Rattle.der_view.specs.Rows.{step_with}
 use Rattle.der_view.specs.declared.grammar.Content.{Content}
@@ -252,13 +252,14 @@ nearest_first bytes none whole = best_none bytes tables.FIRST tables.OTHERS none
 rest_there : (most depth : ℕ) (some : List Component) (tag : ℕ) (content rest : List ℕ) (c : Component)
     (others : List Component) → nat_lt depth 64 ≡ true → is_low tag ≡ true → length content ≤ max_content_len
     → fitting tag some ≡ Some (c, others) → admits (der_header tag (length content)) c.2 content ≡ true
+    → others_after (der_header tag (length content)) c content others ≡ others
     → rest_after false most (depth + 1) (step_as (der_header tag (length content)) (header tag (length content)) c
     others
     true content rest) ≡ Some rest
     → rest_of false (suc most) depth false some (element tag content ++ rest) ≡ rest_of false most depth false others
     rest
 unfolding step_at
-rest_there most depth some tag content rest c others few low short fits admitted goes =
+rest_there most depth some tag content rest c others few low short fits admitted same goes =
     let n : ℕ = length content in
     let h = head_in_der tag n low short in
     let front : List ℕ = header tag n in
@@ -268,7 +269,7 @@ rest_there most depth some tag content rest c others few low short fits admitted
     let head : take found.len bytes ≡ front = take_at front (content ++ rest) found.len (sym h.len) in
     let is : step_by false false some bytes ≡ Some step =
     step_front false false some tag n front (content ++ rest) found (Some (found, content, rest)) h
-    (element_there false tag n front content rest found h refl) ∙ rw (fits, admitted, head) refl in
+    (element_there false tag n front content rest found h refl) ∙ rw (fits, admitted, same, head) refl in
     let end : end_at false false some bytes ≡ None =
     ap (λ (x : List ℕ). end_at false false some (x ++ (content ++ rest))) h.begins
     ∙ closed_none false some tag (h.tail ++ (content ++ rest)) in
@@ -330,7 +331,7 @@ ended most depth some is = rw is refl
 public_follows : (m : ℕ) (some : List Component) (q : Option (List ℕ)) → fitting 0xA1 some ≡ Some (point_row, [])
     → may_end some ≡ true → length (public_bytes q) ≤ max_content_len
     → rest_of false (suc (suc (suc m))) 1 false some (public_bytes q) ≡ Some []
-unfolding components key_components admits opened_in
+unfolding cases components key_components admits opened_in others_after
 public_follows m some None fits may few = ended (suc (suc m)) 1 some may
 public_follows m some (Some bytes) fits may few =
     let inner : List ℕ = element 0x03 (0 ∷ bytes) ++ [] in
@@ -340,15 +341,16 @@ public_follows m some (Some bytes) fits may few =
     let point : rest_of false (suc (suc m)) 2 false (components (structures.Key of_keys.PublicPoint)) inner ≡ Some [] =
     rest_there (suc m) 2 (components (structures.Key of_keys.PublicPoint)) 0x03 (0 ∷ bytes) []
     (0x03, presences.Needed, contents.Point, names.Point) [] refl refl (omega (arith, deep, within)) refl refl refl
+    refl
     ∙ ended m 2 [] refl in
-    rest_there (suc (suc m)) 1 some 0xA1 inner [] point_row [] refl refl within fits refl
+    rest_there (suc (suc m)) 1 some 0xA1 inner [] point_row [] refl refl within fits refl refl
     (goes_inside (suc (suc m)) 2 (der_header 0xA1 (length inner)) (header 0xA1 (length inner)) point_row []
     (structures.Key of_keys.PublicPoint) inner [] refl refl point)
     ∙ ended (suc m) 1 [] refl
 
 fields_follow : (m : ℕ) (p q : Option (List ℕ)) → length (fields_bytes p q) ≤ max_content_len
     → rest_of false (suc (suc (suc (suc m)))) 1 false (curve_row ∷ point_row ∷ []) (fields_bytes p q) ≡ Some []
-unfolding components key_components admits opened_in
+unfolding cases components key_components admits opened_in others_after
 fields_follow m None q few = public_follows (suc m) (curve_row ∷ point_row ∷ []) q refl refl few
 fields_follow m (Some arcs) q few =
     let content : List ℕ = content_of arcs in
@@ -362,9 +364,9 @@ fields_follow m (Some arcs) q few =
     [] =
     rest_there (suc (suc m)) 2 (components (structures.Key of_keys.CurveName)) 0x06 content []
     (0x06, presences.Needed, contents.Shown 12, names.NamedCurve) [] refl refl (omega (arith, deep, within)) refl refl
-    refl ∙ ended (suc m) 2 [] refl in
+    refl refl ∙ ended (suc m) 2 [] refl in
     rest_there (suc (suc (suc m))) 1 (curve_row ∷ point_row ∷ []) 0xA0 inner (public_bytes q) curve_row (point_row ∷ [])
-    refl refl within refl refl
+    refl refl within refl refl refl
     (goes_inside (suc (suc (suc m))) 2 (der_header 0xA0 (length inner)) (header 0xA0 (length inner)) curve_row
     (point_row ∷ []) (structures.Key of_keys.CurveName) inner (public_bytes q) refl refl name)
     ∙ public_follows m (point_row ∷ []) q refl refl last
@@ -373,16 +375,16 @@ key_follows : (m : ℕ) (private_key : List ℕ) (p q : Option (List ℕ))
     → length (element 0x04 private_key ++ fields_bytes p q) ≤ max_content_len
     → rest_of false (suc (suc (suc (suc (suc (suc m)))))) 1 false (components (structures.Key of_keys.EcPrivateKey))
     (element 0x02 (1 ∷ []) ++ (element 0x04 private_key ++ fields_bytes p q)) ≡ Some []
-unfolding components key_components admits opened_in
+unfolding cases components key_components admits opened_in others_after
 key_follows m private_key p q few =
     let long = element_long 0x04 private_key (fields_bytes p q) in
     let last : length (fields_bytes p q) ≤ max_content_len =
     omega (arith, length-append (element 0x04 private_key) (fields_bytes p q), few) in
     rest_there (suc (suc (suc (suc (suc m))))) 1 (components (structures.Key of_keys.EcPrivateKey)) 0x02 (1 ∷ [])
     (element 0x04 private_key ++ fields_bytes p q) version_row (key_row ∷ curve_row ∷ point_row ∷ []) refl refl
-    (omega arith) refl refl refl
+    (omega arith) refl refl refl refl
     ∙ (rest_there (suc (suc (suc (suc m)))) 1 (key_row ∷ curve_row ∷ point_row ∷ []) 0x04 private_key
-    (fields_bytes p q) key_row (curve_row ∷ point_row ∷ []) refl refl (omega (arith, long, few)) refl refl refl
+    (fields_bytes p q) key_row (curve_row ∷ point_row ∷ []) refl refl (omega (arith, long, few)) refl refl refl refl
     ∙ fields_follow m p q last)
 
 octets_some : (n : ℕ) → 1 ≤ length (length_octets n)
@@ -426,7 +428,7 @@ pub record IsKnown (a : List ℕ) : Type 0 where
   pub rows : AllFollow (rows_as strictly tables.FIRST.0 false a)
 
 pub key_is : (key : Key) (a : List ℕ) → IsKeyOf key a → length a ≤ max_content_len → IsKnown a
-unfolding opened_in admits
+unfolding opened_in admits cases others_after
 key_is key a is few =
     let n : ℕ = length key.private_key in
     let x : List ℕ = key.private_key ++ after_key key in

@@ -1,40 +1,33 @@
 -- Masks of private keys.
-use Rattle.std.proofs.Common.{◌≡◌, ◌==◌, ◌&&◌, ◌||◌, ℕ, zero, suc, ◌+◌, ◌<◌, ◌≤◌, inl, inr, Bool, true, false, List, []}
-use Rattle.std.proofs.Common.{◌∷◌, ◌++◌, length, take, drop, refl, sym, ap, ap₂, ◌∙◌, Option, Some, None, arith, nat_le}
-use Rattle.std.proofs.Common.{length-append, append_assoc, append-nil, take-append-drop, ⊎_elim, ◌⊎◌, subst}
+use Rattle.std.proofs.Common.{◌≡◌, ◌==◌, ◌&&◌, ◌||◌, ℕ, zero, suc, ◌+◌, ◌<◌, ◌≤◌, Bool, true, false, List, []}
+use Rattle.std.proofs.Common.{◌∷◌, ◌++◌, length, take, drop, refl, sym, ap, ap₂, ◌∙◌, Option, Some, None, arith}
+use Rattle.std.proofs.Common.{length-append, append_assoc, take-append-drop, ⊎_elim, subst}
 use Rattle.std.proofs.lemmas.Bool.{and_parts, cases_lt}
 use Rattle.std.proofs.lemmas.Bool.Decides.{nat_tests}
 use Rattle.std.proofs.lemmas.List.{length-take-le, take_all, take_at, drop_at}
 use Rattle.std.specs.Option.{is_some}
-use Rattle.std.specs.Prelude.{if◌then◌else◌, is_none, nat_lt}
+use Rattle.std.specs.Prelude.{if◌then◌else◌, nat_lt}
 use Rattle.sec1_der.specs.Elements.{element, header}
-use Rattle.der_view.specs.Contents.{has_type, is_number, is_primitive, is_small, is_there, is_whole, shown_len}
-use Rattle.der_view.specs.Grammar.{Component, Form, components, container_components, key_components, public_components}
-use Rattle.der_view.specs.Grammar.{service_components, signed_components}
+use Rattle.der_view.specs.Contents.{is_primitive, is_small, is_there, is_whole, shown_len}
+use Rattle.der_view.specs.Grammar.{Case, Component, cases, components}
 use Rattle.der_view.specs.Headers.{max_content_len}
-use Rattle.der_view.specs.Keys.{AreLevels, AreParts, DifferIn, IsContent, Level, Part, container, integers, is_low}
+use Rattle.der_view.specs.Keys.{AreLevels, AreParts, DifferIn, Level, Part, is_low}
 use Rattle.der_view.specs.Keys.{key_in}
-use Rattle.der_view.specs.Keys.{parts_bytes, root_bytes, sequence}
-use Rattle.der_view.specs.Masks.{AreAlike, AreAlikeAs, mask_as, mask_by_way, masked, next_mask, picture_mask, step_mask}
+use Rattle.der_view.specs.Keys.{parts_bytes}
+use Rattle.der_view.specs.Masks.{masked}
 use Rattle.der_view.specs.Masks.{undrawn}
-use Rattle.der_view.specs.Pictures.{best, better, known_as, left_as, nearest, parts_as, plan_of, root_of, root_step}
-use Rattle.der_view.specs.Pictures.{whole_as}
-use Rattle.der_view.specs.Rows.{Step, admits, component_at, element_at, end_at, fitting, has_tag, may_end}
-use Rattle.der_view.specs.Rows.{after_inside, inside_loose, is_followed, opened_in, opened_of, rest_after, rest_of}
+use Rattle.der_view.specs.Rows.{admits, chosen, component_at, element_at, end_at, fitting, has_tag, may_end}
+use Rattle.der_view.specs.Rows.{is_followed, opened_in, others_after}
 use Rattle.der_view.specs.Rows.{step_by, step_with}
 use Rattle.der_view.specs.declared.grammar.Content.{Content}
 use Rattle.der_view.specs.declared.grammar.Content.TheVariants as contents
 use Rattle.der_view.specs.declared.grammar.TheConstants as elements
 use Rattle.der_view.specs.declared.grammar.Structure.{Structure}
-use Rattle.der_view.specs.declared.grammar.forms.TheConstants as tables
 use Rattle.der_view.specs.declared.header.Header.{Header}
-use Rattle.der_view.specs.declared.plan.Plan.{Plan}
-use Rattle.der_view.specs.declared.plan.Way.{Way}
-use Rattle.der_view.specs.declared.plan.Way.TheVariants as ways
 use Rattle.der_view.proofs.DerLemmas.{IsHead, der_header, head_in_der}
 use Rattle.der_view.proofs.RestLemmas.{mask_stop}
 use Rattle.der_view.proofs.SameLemmas.{AreInside, Begins, SameContent, any, closed_alike, content_alike}
-use Rattle.der_view.proofs.SameLemmas.{inside_content, no_level, whole_len}
+use Rattle.der_view.proofs.SameLemmas.{inside_content, no_level, unseen_same, whole_len}
 use Rattle.der_view.proofs.SameLemmas.{no_next, none_masked, same_content, step_as, steps_masked, unseen_len}
 
 pub undrawn_same : (a b : List ℕ) → length a ≡ length b → undrawn a ≡ undrawn b
@@ -111,7 +104,8 @@ element_alike : (loose small : Bool) (most depth : ℕ) (some : List Component) 
     → Begins loose tag front found other b t → length s ≡ length t → length bytes ≡ length other
     → ((c : Component) (others : List Component) → fitting tag some ≡ Some (c, others)
     → SameContent loose small most (depth + 1) found c a b
-    × (masked loose small most depth false others s ≡ masked loose small most depth false others t))
+    × (masked loose small most depth false (others_after found c a others) s
+    ≡ masked loose small most depth false (others_after found c a others) t))
     → (loose ≡ true → SameContent loose small most (depth + 1) found elements.ELEMENT a b
     × (masked loose small most depth false any s ≡ masked loose small most depth false any t))
     → masked loose small (suc most) depth false some bytes ≡ masked loose small (suc most) depth false some other
@@ -133,17 +127,18 @@ element_alike loose small most depth some tag front found bytes other a b s t p 
         → masked loose small (suc most) depth false some bytes ≡ masked loose small (suc most) depth false some other
     following c others few at admitted =
         let known = fits c others at in
+        let more : List Component = others_after found c a others in
         let two : admits found c.2 b ≡ true = sym known.0.admitted ∙ admitted in
         let first : step_by loose loose some bytes
-        ≡ Some (step_as found (take found.len bytes) c others true a s) = p.step some ∙ rw (at, admitted) refl in
+        ≡ Some (step_as found (take found.len bytes) c more true a s) = p.step some ∙ rw (at, admitted) refl in
         let second : step_by loose loose some other
-        ≡ Some (step_as found (take found.len bytes) c others true b t) =
-        q.step some ∙ rw (at, two, sym heads) refl in
+        ≡ Some (step_as found (take found.len bytes) c more true b t) =
+        q.step some ∙ rw (at, two, sym heads, sym (known.0.others others)) refl in
         steps_masked loose small most depth some bytes other
-        (step_as found (take found.len bytes) c others true a s)
-        (step_as found (take found.len bytes) c others true b t)
+        (step_as found (take found.len bytes) c more true a s)
+        (step_as found (take found.len bytes) c more true b t)
         few e f first second refl p.definite p.definite
-        (known.0.alike (take found.len bytes) others true s t) rest known.1
+        (known.0.alike (take found.len bytes) more true s t) rest known.1
 
     -- they don't
     misfitting : (may : Bool) → loose ≡ may → nat_lt depth 64 ≡ true
@@ -206,6 +201,12 @@ some_first c d others more is =
     let pair : ◌≡◌ {A = Component × List Component} (c, others) (d, more) = cc in
     (ap (λ (x : Component × List Component). x.0) pair, ap (λ (x : Component × List Component). x.1) pair)
 
+-- any elements come after one of them
+any_after : (found : Header) (a : List ℕ) (others : List Component)
+    → others_after found elements.ELEMENT a others ≡ others
+unfolding others_after cases
+any_after found a others = refl
+
 any_alike : (loose small : Bool) (most depth : ℕ) (tag : ℕ) (front : List ℕ) (found : Header)
     (bytes other a b s t : List ℕ) → Begins loose tag front found bytes a s → Begins loose tag front found other b t
     → length s ≡ length t → length bytes ≡ length other
@@ -217,8 +218,10 @@ any_alike loose small most depth tag front found bytes other a b s t p q rest si
     (λ c others fits.
     let known = some_first elements.ELEMENT c any others (sym (any_fits tag) ∙ fits) in (
       subst (λ (x : Component). SameContent loose small most (depth + 1) found x a b) known.0 same,
-      subst (λ (x : List Component). masked loose small most depth false x s ≡ masked loose small most depth false x t)
-          known.1 next,
+      subst (λ (x : Component). masked loose small most depth false (others_after found x a others) s
+          ≡ masked loose small most depth false (others_after found x a others) t) known.0
+          (subst (λ (x : List Component). masked loose small most depth false x s
+          ≡ masked loose small most depth false x t) (known.1 ∙ sym (any_after found a others)) next),
     ))
     (λ may. (same, next))
 
@@ -265,9 +268,27 @@ any_passing loose small (part ∷ parts) (suc most) depth s t (low, few, are) si
     (any_passing loose small parts most depth s t are size alike)
     ∙ sym (ap (λ (x : List ℕ). masked loose small (suc most) depth false any x) (part_joined part parts t)))
 
+abbrev is_none_of : List Case → Bool
+is_none_of [] = true
+is_none_of (one ∷ more) = false
+
+-- whether an element doesn't decide what comes after it
+abbrev is_fixed : Component → Bool
+is_fixed component = is_none_of (cases component.3)
+
+fixed_after : (found : Header) (c : Component) (x : List ℕ) (others : List Component) → is_fixed c ≡ true
+    → others_after found c x others ≡ others
+unfolding others_after
+fixed_after found c x others is = by_cases (cases c.3) is
+  where
+    by_cases : (some : List Case) → is_none_of some ≡ true
+        → chosen some (take (shown_len false found c.2 x) x) others ≡ others
+    by_cases [] known = refl
+    by_cases (one ∷ more) known = absurd (cc known)
+
 abbrev passed_by : (List Component → Bool) → Option (Component × List Component) → Bool
 passed_by holds None = true
-passed_by holds (Some found) = holds found.1
+passed_by holds (Some found) = is_fixed found.0 && holds found.1
 
 -- whether this holds of the components after elements with these tags, if such follow
 abbrev passed : (List Component → Bool) → List ℕ → List Component → Bool
@@ -301,11 +322,14 @@ passing loose small holds (part ∷ parts) (suc most) depth some s t (low, few, 
     ap (λ (x : List ℕ). masked loose small (suc most) depth false some x) (part_joined part parts s)
     ∙ (element_alike loose small most depth some part.0 front found (front ++ (part.1 ++ u)) (front ++ (part.1 ++ v))
     part.1 part.1 u v p q len (append_len front (part.1 ++ u) (part.1 ++ v) (append_len part.1 u v len))
-    (λ c others fits. (
+    (λ c others fits.
+    let both = and_parts (is_fixed c) (passed holds (tags_of parts) others)
+    (ap (λ (o : Option (Component × List Component)). passed_by (λ more. passed holds (tags_of parts) more) o)
+    (sym fits) ∙ is) in (
       same_content loose small most (depth + 1) found c part.1 p.definite,
-      passing loose small holds parts most depth others s t are size alike other
-          (ap (λ (o : Option (Component × List Component)). passed_by (λ more. passed holds (tags_of parts) more) o)
-          (sym fits) ∙ is),
+      subst (λ (cs : List Component). masked loose small most depth false cs u
+          ≡ masked loose small most depth false cs v) (sym (fixed_after found c part.1 others both.0))
+          (passing loose small holds parts most depth others s t are size alike other both.1),
     ))
     (λ may. (
       same_content loose small most (depth + 1) found elements.ELEMENT part.1 p.definite,
@@ -421,7 +445,7 @@ last_as loose small fine (suc most) depth some tag n x y low differ same free is
         (append_len front (a ++ s) (b ++ t) (both_len a b s t size len))
         (λ c others at. (
           same most (depth + 1) c a b p q size (fit c others at),
-          ap (λ (z : List ℕ). masked loose small most depth false others z) rest,
+          ap (λ (z : List ℕ). masked loose small most depth false (others_after found c a others) z) rest,
         ))
         (λ may. (
           same most (depth + 1) elements.ELEMENT a b p q size free,
@@ -658,6 +682,8 @@ shut_content : (loose small : Bool) (most depth tag n : ℕ) (c : Component) (x 
 unfolding opened_in admits
 shut_content loose small most depth tag n (g, p, contents.Whole u, name) x y low few unseen size one two is = record {
   admitted = refl;
+  others = unseen_same (der_header tag n) (g, p, contents.Whole u, name) x y
+      (whole_len false (der_header tag n) u x) (whole_len false (der_header tag n) u y);
   alike = λ head others follows s t.
       closed_alike loose small most depth (der_header tag n) head (g, p, contents.Whole u, name) others follows x y s t
       (rw (one most depth u) refl) (rw (two most depth u) refl) (whole_len small (der_header tag n) u x)

@@ -8,7 +8,7 @@ use Rattle.std.proofs.lemmas.List.{take_at, length-take}
 use Rattle.std.specs.Prelude.{if◌then◌else◌, is_none, ◌-◌, min}
 use Rattle.sec1_der.specs.Elements.{header}
 use Rattle.der_view.specs.Contents.{has_type, is_number, is_small}
-use Rattle.der_view.specs.Grammar.{Component, Form, components, container_components, key_components}
+use Rattle.der_view.specs.Grammar.{Component, Form, cases, components, container_components, key_components}
 use Rattle.der_view.specs.Grammar.{public_components, service_components, signed_components}
 use Rattle.der_view.specs.Headers.{max_content_len}
 use Rattle.der_view.specs.Keys.{AreLevels, AreParts, DifferIn, IsContent, Level, Part, container, integers, key_in}
@@ -18,7 +18,7 @@ use Rattle.der_view.specs.Masks.{undrawn, masked}
 use Rattle.der_view.specs.Pictures.{best, better, form_by, is_nearer, is_retagged, is_tree, known_as, left_as}
 use Rattle.der_view.specs.Pictures.{nearest, parts_as, plan_of, root_of, root_step, whole_as}
 use Rattle.der_view.specs.Rows.{Step, admits, element_at, fitting, after_inside, inside_bytes, inside_loose}
-use Rattle.der_view.specs.Rows.{opened_of, rest_after, rest_of, step_with}
+use Rattle.der_view.specs.Rows.{opened_of, others_after, rest_after, rest_of, step_with}
 use Rattle.der_view.specs.declared.grammar.Structure.{Structure}
 use Rattle.der_view.specs.declared.header.Header.{Header}
 use Rattle.der_view.specs.declared.plan.Plan.{Plan}
@@ -164,11 +164,13 @@ root_alike loose small holds root m a b rest is size are known = by_fit (fitting
             none (first ∙ rw (at, refused) refl) (second ∙ rw (at, two) refl)
         by_test true admitted =
             let two : admits found c.2 b ≡ true = sym (alike 0).admitted ∙ admitted in
-            let p : Step = step_as found (take found.len bytes) c others true a rest in
-            let q : Step = step_as found (take found.len bytes) c others true b rest in
+            let more : List Component = others_after found c a others in
+            let p : Step = step_as found (take found.len bytes) c more true a rest in
+            let q : Step = step_as found (take found.len bytes) c more true b rest in
             let one' : root_step root bytes ≡ Some p = first ∙ rw (at, admitted) refl in
-            let two' : root_step root other ≡ Some q = second ∙ rw (at, two, sym heads) refl in
-            let masks = (alike (length bytes)).alike (take found.len bytes) others true rest rest in
+            let two' : root_step root other ≡ Some q =
+            second ∙ rw (at, two, sym heads, sym ((alike 0).others others)) refl in
+            let masks = (alike (length bytes)).alike (take found.len bytes) more true rest rest in
             root_made loose small bytes p root one' refl
             ∙ (ap (λ (x : List ℕ). take found.len bytes ++ (x ++ undrawn rest)) masks.mask
             ∙ (ap (λ (n : ℕ). take found.len bytes ++ (step_mask loose small n 1 q ++ undrawn rest)) len
@@ -321,7 +323,7 @@ pub ec_alike : (m n : ℕ) (version x y rest : List ℕ) → length version ≤ 
     → IsContent m (key_in [] ((0x02, version) ∷ []) 0x04 n x) rest
     → AreAlike (root_bytes m (key_in [] ((0x02, version) ∷ []) 0x04 n x) rest)
     (root_bytes m (key_in [] ((0x02, version) ∷ []) 0x04 n y) rest)
-unfolding components container_components key_components public_components service_components signed_components
+unfolding cases components container_components key_components public_components service_components signed_components
 ec_alike m n version x y rest few differ is =
     key_forms [] ((0x02, version) ∷ []) 0x04 m n x y rest ((refl, few, tt), refl) tt (octets_unseen n) differ is refl
     refl
@@ -332,7 +334,7 @@ pub number_alike : (m n : ℕ) (numbers : List (List ℕ)) (x y rest : List ℕ)
     → IsContent m (key_in [] (integers numbers) 0x02 n x) rest
     → AreAlike (root_bytes m (key_in [] (integers numbers) 0x02 n x) rest)
     (root_bytes m (key_in [] (integers numbers) 0x02 n y) rest)
-unfolding components container_components key_components public_components service_components signed_components
+unfolding cases components container_components key_components public_components service_components signed_components
 number_alike m n [] x y rest are some few long differ is = absurd (omega arith)
 number_alike m n (a ∷ []) x y rest are some few long differ is = absurd (omega arith)
 number_alike m n (a ∷ b ∷ []) x y rest are some few long differ is = absurd (omega arith)
@@ -366,7 +368,7 @@ pub contained_ec_alike : (m n : ℕ) (version algorithm inner after x y rest : L
     → AreAlike (root_bytes m (key_in (container version algorithm after ∷ sequence ∷ [])
     ((0x02, inner) ∷ []) 0x04 n x) rest)
     (root_bytes m (key_in (container version algorithm after ∷ sequence ∷ []) ((0x02, inner) ∷ []) 0x04 n y) rest)
-unfolding components container_components key_components public_components service_components signed_components
+unfolding cases components container_components key_components public_components service_components signed_components
 contained_ec_alike m n version algorithm inner after x y rest are differ is =
     key_forms (container version algorithm after ∷ sequence ∷ [])
     ((0x02, inner) ∷ []) 0x04 m n x y rest are (container_unseen, (sequence_unseen, tt)) (octets_unseen n) differ is
@@ -377,7 +379,7 @@ pub contained_number_alike : (m n : ℕ) (version algorithm after x y rest : Lis
     → IsContent m (key_in (container version algorithm after ∷ []) [] 0x02 n x) rest
     → AreAlike (root_bytes m (key_in (container version algorithm after ∷ []) [] 0x02 n x) rest)
     (root_bytes m (key_in (container version algorithm after ∷ []) [] 0x02 n y) rest)
-unfolding components container_components key_components public_components service_components signed_components
+unfolding cases components container_components key_components public_components service_components signed_components
 contained_number_alike m n version algorithm after x y rest are long differ is =
     key_forms (container version algorithm after ∷ []) [] 0x02 m n x y rest are (container_unseen, tt)
     (number_unseen n long) differ is
@@ -388,7 +390,7 @@ pub contained_octets_alike : (m n : ℕ) (version algorithm after x y rest : Lis
     → IsContent m (key_in (container version algorithm after ∷ []) [] 0x04 n x) rest
     → AreAlike (root_bytes m (key_in (container version algorithm after ∷ []) [] 0x04 n x) rest)
     (root_bytes m (key_in (container version algorithm after ∷ []) [] 0x04 n y) rest)
-unfolding components container_components key_components public_components service_components signed_components
+unfolding cases components container_components key_components public_components service_components signed_components
 contained_octets_alike m n version algorithm after x y rest are differ is =
     key_forms (container version algorithm after ∷ []) [] 0x04 m n x y rest are (container_unseen, tt) (octets_unseen n)
     differ is
@@ -402,7 +404,7 @@ pub contained_rsa_alike : (m n : ℕ) (version algorithm after : List ℕ) (numb
     → AreAlike (root_bytes m (key_in (container version algorithm after ∷ sequence ∷ [])
     (integers numbers) 0x02 n x) rest)
     (root_bytes m (key_in (container version algorithm after ∷ sequence ∷ []) (integers numbers) 0x02 n y) rest)
-unfolding components container_components key_components public_components service_components signed_components
+unfolding cases components container_components key_components public_components service_components signed_components
 contained_rsa_alike m n version algorithm after [] x y rest are some few long differ is = absurd (omega arith)
 contained_rsa_alike m n version algorithm after (a ∷ []) x y rest are some few long differ is = absurd (omega arith)
 contained_rsa_alike m n version algorithm after (a ∷ b ∷ []) x y rest are some few long differ is = absurd (omega arith)
@@ -472,7 +474,7 @@ pub contained_cut_alike : (m n tag k : ℕ) (version algorithm x y rest : List �
     → IsContent m (key_in [] (container_parts version algorithm) 0x04 n (header tag k ++ x)) rest
     → AreAlike (root_bytes m (key_in [] (container_parts version algorithm) 0x04 n (header tag k ++ x)) rest)
     (root_bytes m (key_in [] (container_parts version algorithm) 0x04 n (header tag k ++ y)) rest)
-unfolding components container_components key_components public_components service_components signed_components
+unfolding cases components container_components key_components public_components service_components signed_components
 contained_cut_alike m n tag k version algorithm x y rest cut are differ is =
     let parts : List Part = container_parts version algorithm in
     let a : List ℕ = header tag k ++ x in

@@ -6,11 +6,11 @@ use Rattle.std.proofs.lemmas.List.{drop_at, length-take-le}
 use Rattle.std.specs.Option.{is_some}
 use Rattle.std.specs.Prelude.{if◌then◌else◌, is_none}
 use Rattle.der_view.specs.Contents.{is_shown, is_whole, shown_in, shown_len}
-use Rattle.der_view.specs.Grammar.{Component, components}
+use Rattle.der_view.specs.Grammar.{Component, cases, components}
 use Rattle.der_view.specs.Masks.{content_mask, masked, masked_content, step_mask, zeros}
-use Rattle.der_view.specs.Rows.{Step, admits, after_inside, are_bits, front_len, has_bits}
+use Rattle.der_view.specs.Rows.{Step, admits, after_inside, are_bits, chosen, front_len, has_bits}
 use Rattle.der_view.specs.Rows.{inside_bytes, inside_loose, is_followed, is_open}
-use Rattle.der_view.specs.Rows.{opened_in, opened_of, rest_after, rest_of}
+use Rattle.der_view.specs.Rows.{opened_in, opened_of, others_after, rest_after, rest_of}
 use Rattle.der_view.specs.declared.grammar.Content.{Content}
 use Rattle.der_view.specs.declared.grammar.Content.TheVariants as contents
 use Rattle.der_view.specs.declared.grammar.Structure.{Structure}
@@ -18,7 +18,7 @@ use Rattle.der_view.specs.declared.header.Header.{Header}
 use Rattle.der_view.proofs.MaskLemmas.{IsMasked, IsRows, IsTaken, MasksRest, again, closed_content, content_shown}
 use Rattle.der_view.proofs.MaskLemmas.{bits_same, front_open, front_within, kept_fits}
 use Rattle.der_view.proofs.MaskLemmas.{kept_misfits, left, none_shown, opened_rows, opened_same, rest_closed}
-use Rattle.der_view.proofs.MaskLemmas.{step_again}
+use Rattle.der_view.proofs.MaskLemmas.{step_again, surely_shown}
 use Rattle.der_view.proofs.MaskLemmas.{tail_len, zeros_bits, zeros_followed}
 use Rattle.der_view.proofs.StepLemmas.{Stays, step_like}
 
@@ -100,6 +100,13 @@ whole_zeros small header k x s e =
     subst (λ (c : Content). masked_content (shown_len small header c x) x ≡ zeros x) (sym e)
     (ap (λ (n : ℕ). masked_content n x) (none_shown (is_whole header x)))
 
+-- what is shown of a content decides what comes after it
+pub chosen_same : (header : Header) (c : Component) (x m : List ℕ)
+    → take (shown_len false header c.2 m) m ≡ take (shown_len false header c.2 x) x
+    → (others : List Component) → others_after header c m others ≡ others_after header c x others
+unfolding others_after
+chosen_same header c x m same others = ap (λ (y : List ℕ). chosen (cases c.3) y others) same
+
 none_masks : (loose small : Bool) (most depth : ℕ) (step : Step) (t : List ℕ) → IsTaken step
     → opened_of loose most depth step ≡ None → length t ≡ length step.rest
     → MasksStep loose small most depth step
@@ -129,6 +136,7 @@ none_masks loose small most depth step t taken none size =
         misfits = λ e c misfit.
             subst (λ (j : Content). admits step.header c (masked_content (shown_len small step.header j x) x) ≡ false)
             (sym (free_kind step taken e)) (kept_misfits small step.header c x misfit);
+        chosen = chosen_same step.header step.component x m (surely_shown small step.header k x);
       };
       rest_len = size;
       opened = kept ∙ sym none;
@@ -173,6 +181,8 @@ rows_stay step m taken rows size = record {
   len = size;
   follows = λ e. rows.alike m step.content ∙ taken.admitted e;
   misfits = λ e c misfit. rows.free (free_kind step taken e) c m step.content ∙ misfit;
+  chosen = chosen_same step.header step.component step.content m
+      (rw (rows.shown false m, rows.shown false step.content) refl);
 }
 
 rows_shown : (small : Bool) (header : Header) (k : Content) (x m : List ℕ) → IsRows header k

@@ -29,6 +29,10 @@ use Rattle.der_view.proofs.StepLemmas.{zeros_len, zeros_no_step}
 
 -- ---- what is shown of a content
 
+pub none_shown : (test : Bool) → ◌≡◌ {A = ℕ} (if test then 0 else 0) 0
+none_shown true = refl
+none_shown false = refl
+
 and_false : (a b : Bool) → b ≡ false → (a && b) ≡ false
 and_false true b is = is
 and_false false b is = refl
@@ -181,6 +185,25 @@ content_shown small header k x = record {
         let size : length (masked_content 0 x) ≡ length x = masked_len 0 x in
         rw (is, size, is) refl
 
+-- of an element with a component the same is shown anywhere
+pub surely_shown : (small : Bool) (header : Header) (k : Content) (x : List ℕ)
+    → take (shown_len false header k (masked_content (shown_len small header k x) x))
+    (masked_content (shown_len small header k x) x) ≡ take (shown_len false header k x) x
+unfolding shown_len shown_in is_shown
+surely_shown small header contents.Hidden x = (content_shown small header contents.Hidden x).shown
+surely_shown small header (contents.Shown most) x = (content_shown small header (contents.Shown most) x).shown
+surely_shown small header (contents.Short most) x = (content_shown small header (contents.Short most) x).shown
+surely_shown small header contents.Version x = (content_shown small header contents.Version x).shown
+surely_shown small header (contents.Of family) x = (content_shown small header (contents.Of family) x).shown
+surely_shown small header contents.Point x = (content_shown small header contents.Point x).shown
+surely_shown small header (contents.Inside s) x = (content_shown small header (contents.Inside s) x).shown
+surely_shown small header (contents.Whole s) x = (content_shown small header (contents.Whole s) x).shown
+surely_shown small header (contents.Bits s) x = (content_shown small header (contents.Bits s) x).shown
+surely_shown small header contents.Free x =
+    let m : List ℕ = masked_content (shown_len small header contents.Free x) x in
+    ap (λ (n : ℕ). take n m) (none_shown (is_whole header m))
+    ∙ sym (ap (λ (n : ℕ). take n x) (none_shown (is_whole header x)))
+
 -- ---- what is inside an element
 
 abbrev pub left : Option (List ℕ) → ℕ
@@ -242,10 +265,6 @@ pub record IsRows (header : Header) (k : Content) : Type 0 where
   pub shown : (small : Bool) (x : List ℕ) → shown_len small header k x ≡ 0
   pub alike : (x y : List ℕ) → admits header k x ≡ admits header k y
   pub free : k ≡ contents.Free → (c : Content) (x y : List ℕ) → admits header c x ≡ admits header c y
-
-pub none_shown : (test : Bool) → ◌≡◌ {A = ℕ} (if test then 0 else 0) 0
-none_shown true = refl
-none_shown false = refl
 
 elements_rows : (header : Header) (k : Content) (test : Bool) (s : Structure)
     → (if is_none header.content_len || (header.tag.constructed && test) then Some structures.Any else None) ≡ Some s
@@ -367,6 +386,10 @@ zeros_other families.Md [] = refl
 zeros_other families.Md (a ∷ x) = and_false _ false refl
 zeros_other families.Ocsp [] = refl
 zeros_other families.Ocsp (a ∷ x) = and_false _ false refl
+zeros_other families.SubjectKey [] = refl
+zeros_other families.SubjectKey (a ∷ x) = and_false _ false refl
+zeros_other families.AuthorityKey [] = refl
+zeros_other families.AuthorityKey (a ∷ x) = and_false _ false refl
 
 whole_len : (header : Header) (x m : List ℕ) → length m ≡ length x → is_whole header m ≡ is_whole header x
 whole_len header x m size = rw size refl

@@ -7,14 +7,14 @@ use Rattle.der_view.specs.Contents.{is_small, is_shown, is_whole, shown_in, show
 use Rattle.der_view.specs.Grammar.{Component, components}
 use Rattle.der_view.specs.Masks.{masked, step_mask}
 use Rattle.der_view.specs.Rows.{Step, admits, after_inside, end_at, front_len, inside_bytes, inside_loose}
-use Rattle.der_view.specs.Rows.{is_followed, opened_in, opened_of, rest_after, rest_of, step_at, step_by}
+use Rattle.der_view.specs.Rows.{is_followed, opened_in, opened_of, others_after, rest_after, rest_of, step_at, step_by}
 use Rattle.der_view.specs.Rows.{step_with}
 use Rattle.der_view.specs.declared.grammar.Content.{Content}
 use Rattle.der_view.specs.declared.grammar.Content.TheVariants as contents
 use Rattle.der_view.specs.declared.grammar.Structure.{Structure}
 use Rattle.der_view.specs.declared.grammar.Structure.TheVariants as structures
 use Rattle.der_view.specs.declared.header.Header.{Header}
-use Rattle.der_view.proofs.LevelLemmas.{closed_left}
+use Rattle.der_view.proofs.LevelLemmas.{chosen_same, closed_left}
 use Rattle.der_view.proofs.MaskLemmas.{again, none_shown}
 use Rattle.der_view.proofs.RestLemmas.{mask_step, mask_stop, masks_rest, next_masked}
 
@@ -44,6 +44,7 @@ pub record StepsAlike (loose small : Bool) (most depth : ℕ) (p q : Step) : Typ
 pub record SameContent (loose small : Bool) (most depth : ℕ) (header : Header) (c : Component) (a b : List ℕ)
     : Type 0 where
   pub admitted : admits header c.2 a ≡ admits header c.2 b
+  pub others : (cs : List Component) → others_after header c a cs ≡ others_after header c b cs
   pub alike :
       (head : List ℕ) (others : List Component) (follows : Bool) (s t : List ℕ)
       → StepsAlike loose small most depth (step_as header head c others follows a s)
@@ -149,6 +150,20 @@ pub whole_len : (small : Bool) (header : Header) (u : Structure) (x : List ℕ)
 unfolding shown_len shown_in is_shown
 whole_len small header u x = none_shown (is_whole header x)
 
+free_len : (header : Header) (x : List ℕ) → shown_len false header contents.Free x ≡ 0
+unfolding shown_len shown_in is_shown
+free_len header x = none_shown (is_whole header x)
+
+inside_len : (header : Header) (u : Structure) (x : List ℕ) → shown_len false header (contents.Inside u) x ≡ 0
+unfolding shown_len shown_in is_shown
+inside_len header u x = none_shown (is_whole header x)
+
+-- what isn't shown decides nothing
+pub unseen_same : (header : Header) (c : Component) (a b : List ℕ) → shown_len false header c.2 a ≡ 0
+    → shown_len false header c.2 b ≡ 0 → (cs : List Component)
+    → others_after header c a cs ≡ others_after header c b cs
+unseen_same header c a b one two = chosen_same header c b a (rw (one, two) refl)
+
 elements_alike : (loose small : Bool) (most depth : ℕ) (header : Header) (c : Component) (a b : List ℕ)
     (holds : Structure → Bool) (free : Bool) → AreInside small most depth holds header a b
     → ((whole : Structure → List ℕ → Bool) (y : List ℕ) → opened_in whole loose header c.2 y
@@ -192,11 +207,13 @@ pub content_alike : (loose small : Bool) (most depth : ℕ) (header : Header) (c
 unfolding opened_in admits
 content_alike loose small most depth header (g, p, contents.Hidden, n) a b holds are is = record {
   admitted = refl;
+  others = unseen_same header (g, p, contents.Hidden, n) a b (hidden_len false header a) (hidden_len false header b);
   alike = elements_alike loose small most depth header (g, p, contents.Hidden, n) a b holds loose are
       (λ whole y. refl) (λ constructed made test x size. hidden_len small header x) refl refl;
 }
 content_alike loose small most depth header (g, p, contents.Free, n) a b holds are is = record {
   admitted = refl;
+  others = unseen_same header (g, p, contents.Free, n) a b (free_len header a) (free_len header b);
   alike = elements_alike loose small most depth header (g, p, contents.Free, n) a b holds true are
       (λ whole y. refl)
       (λ constructed made test x size. are.unseen x size (made ∙ plain constructed test)) refl refl;
@@ -207,12 +224,14 @@ content_alike loose small most depth header (g, p, contents.Free, n) a b holds a
     plain false test = refl
 content_alike loose small most depth header (g, p, contents.Inside u, n) a b holds are is = record {
   admitted = refl;
+  others = unseen_same header (g, p, contents.Inside u, n) a b (inside_len header u a) (inside_len header u b);
   alike = λ head others follows s t.
       rows_alike loose small most depth header head (g, p, contents.Inside u, n) others follows a b s t u are.definite
       refl refl refl (are.inner u loose is);
 }
 content_alike loose small most depth header (g, p, contents.Whole u, n) a b holds are is = record {
   admitted = refl;
+  others = unseen_same header (g, p, contents.Whole u, n) a b (whole_len false header u a) (whole_len false header u b);
   alike = λ head others follows s t. by_test head others follows s t (is_followed most depth u b) refl;
 }
   where
@@ -243,6 +262,7 @@ pub same_content : (loose small : Bool) (most depth : ℕ) (header : Header) (c 
     → is_none header.content_len ≡ false → SameContent loose small most depth header c a a
 same_content loose small most depth header c a definite = record {
   admitted = refl;
+  others = λ cs. refl;
   alike = λ head others follows s t. record {
     mask = mask head others follows s t (opened_of loose most depth (step_as header head c others follows a s)) refl;
     goes = goes head others follows s t (opened_of loose most depth (step_as header head c others follows a s)) refl;

@@ -9,7 +9,7 @@ use Rattle.der_view.specs.Grammar.{Component, components}
 use Rattle.der_view.specs.Headers.{header_of}
 use Rattle.der_view.specs.Masks.{undrawn, zeros}
 use Rattle.der_view.specs.Rows.{Step, admits, component_at, component_by, element_at, element_by, fitting, parts_by}
-use Rattle.der_view.specs.Rows.{step_by, step_made, step_with}
+use Rattle.der_view.specs.Rows.{others_after, step_by, step_made, step_with}
 use Rattle.der_view.specs.declared.grammar.Content.{Content}
 use Rattle.der_view.specs.declared.grammar.Structure.TheVariants as structures
 use Rattle.der_view.specs.declared.grammar.TheConstants as tables
@@ -170,6 +170,8 @@ pub record Stays (step : Step) (m : List ℕ) : Type 0 where
   pub follows : step.follows ≡ true → admits step.header step.component.2 m ≡ true
   pub misfits : step.follows ≡ false → (k : Content) → admits step.header k step.content ≡ false
       → admits step.header k m ≡ false
+  pub chosen : (others : List Component) → others_after step.header step.component m others
+      ≡ others_after step.header step.component step.content others
 
 -- what is known of bytes that begin with an element
 pub record BeginsWith (cut misfit : Bool) (some : List Component) (bytes : List ℕ) (step : Step) : Type 0 where
@@ -208,22 +210,28 @@ step_none bytes element = record {
   rest = element.2;
 }
 
+-- a component that fits, and those after it, which its content may decide
+record IsComponent (header : Header) (content : List ℕ) (o : Option (Component × List Component))
+    (found : Component × List Component) : Type 0 where
+  more : List Component
+  fits : o ≡ Some (found.0, more)
+  others : others_after header found.0 content more ≡ found.1
+  admitted : admits header found.0.2 content ≡ true
+
 component_is : (header : Header) (content : List ℕ) (o : Option (Component × List Component))
     (found : Component × List Component) → component_by header content o ≡ Some found
-    → (o ≡ Some found) × (admits header found.0.2 content ≡ true)
+    → IsComponent header content o found
 component_is header content None found is = absurd (cc is)
-component_is header content (Some x) found is = by_test (admits header x.0.2 content) refl is
+component_is header content (Some (c, more')) found is = by_test (admits header c.2 content) refl is
   where
-    by_test : (test : Bool) → admits header x.0.2 content ≡ test
-        → (if test then Some x else None) ≡ Some found →
-        (◌≡◌ {A = Option (Component × List Component)} (Some x) (Some found))
-        × (admits header found.0.2 content ≡ true)
+    by_test : (test : Bool) → admits header c.2 content ≡ test
+        → (if test then Some (c, others_after header c content more') else None) ≡ Some found
+        → IsComponent header content (Some (c, more')) found
     by_test false at known = absurd (cc known)
     by_test true at known =
-        let same : x ≡ found = cc in (
-          ap (λ (y : Component × List Component). Some y) same,
-          ap (λ (y : Component × List Component). admits header y.0.2 content) (sym same) ∙ at,
-        )
+        let same : ◌≡◌ {A = Component × List Component} (c, others_after header c content more') found = cc in
+        subst (λ (y : Component × List Component). IsComponent header content (Some (c, more')) y) same
+        (record { more = more'; fits = refl; others = refl; admitted = at })
 
 component_none : (header : Header) (content m : List ℕ) (o : Option (Component × List Component))
     → component_by header content o ≡ None
@@ -233,8 +241,10 @@ component_none header content m None is stays = refl
 component_none header content m (Some x) is stays = by_test (admits header x.0.2 content) refl is
   where
     by_test : (test : Bool) → admits header x.0.2 content ≡ test
-        → ◌≡◌ {A = Option (Component × List Component)} (if test then Some x else None) None
-        → ◌≡◌ {A = Option (Component × List Component)} (if admits header x.0.2 m then Some x else None) None
+        → ◌≡◌ {A = Option (Component × List Component)}
+        (if test then Some (x.0, others_after header x.0 content x.1) else None) None
+        → ◌≡◌ {A = Option (Component × List Component)}
+        (if admits header x.0.2 m then Some (x.0, others_after header x.0 m x.1) else None) None
     by_test true at known = absurd (cc known)
     by_test false at known = rw (stays x.0.2 at) refl
 
@@ -261,13 +271,14 @@ step_found_as cut misfit tag tail some e step (Some one) at component is =
     subst (λ (x : Step). BeginsWith cut misfit some (tag ∷ tail) x) (some_step made step is) (record {
       element = h;
       head = refl;
-      admitted = λ yes. known.1;
+      admitted = λ yes. known.admitted;
       free = λ no. absurd (cc no);
       again = λ m r stays size.
           let element = h.again m r stays.len size in
           let fits : admits e.0 one.0.2 m ≡ true = stays.follows refl in
+          let same : others_after e.0 one.0 m known.more ≡ one.1 = stays.chosen known.more ∙ known.others in
           step_from cut misfit e.0.len tag tail (m ++ r) some (Some (e.0, m, r)) h.some element
-          ∙ rw (known.0, fits, head_again (tag ∷ tail) (m ++ r) e.0.len h.within) refl;
+          ∙ rw (known.fits, fits, same, head_again (tag ∷ tail) (m ++ r) e.0.len h.within) refl;
     })
 step_found_as cut false tag tail some e step None at component is = absurd (cc is)
 step_found_as cut true tag tail some e step None at component is =

@@ -1,15 +1,17 @@
 -- The table of structures in the code, as definitions read it.
-use Rattle.std.specs.Prelude.{ℕ, List}
+use Rattle.std.specs.Prelude.{ℕ, List, []}
 use Rattle.der_view.specs.declared.grammar.Content.{Content}
 use Rattle.der_view.specs.declared.grammar.family.Family.{Family}
 use Rattle.der_view.specs.declared.grammar.family.Family.TheVariants as families
 use Rattle.der_view.specs.declared.grammar.name.Name.{Name}
+use Rattle.der_view.specs.declared.grammar.name.Name.TheVariants as names
 use Rattle.der_view.specs.declared.grammar.Presence.{Presence}
 use Rattle.der_view.specs.declared.grammar.forms.Secrecy.{Secrecy}
 use Rattle.der_view.specs.declared.grammar.Structure.{Structure}
 use Rattle.der_view.specs.declared.grammar.Structure.TheVariants as structures
 use Rattle.der_view.specs.declared.grammar.TheConstants as tables
 use Rattle.der_view.specs.declared.grammar.certificates.TheConstants as certificates
+use Rattle.der_view.specs.declared.grammar.choice.TheConstants as choices
 use Rattle.der_view.specs.declared.grammar.containers.TheConstants as containers
 use Rattle.der_view.specs.declared.grammar.family.TheConstants as fronts
 use Rattle.der_view.specs.declared.grammar.keys.TheConstants as keys
@@ -51,6 +53,8 @@ identifiers families.Sha = fronts.SHA
 identifiers families.Sha1 = fronts.SHA1
 identifiers families.Md = fronts.MD
 identifiers families.Ocsp = fronts.OCSP
+identifiers families.SubjectKey = fronts.SUBJECT_KEY
+identifiers families.AuthorityKey = fronts.AUTHORITY_KEY
 
 -- the components of a structure of private keys
 unfoldable pub key_components : KeyStructure → List Component
@@ -106,6 +110,11 @@ signed_components of_signed.Validity = certificates.VALIDITY
 signed_components of_signed.ExtensionsField = certificates.EXTENSIONS_FIELD
 signed_components of_signed.Extensions = certificates.EXTENSIONS
 signed_components of_signed.Extension = certificates.EXTENSION
+signed_components of_signed.SubjectKeyExtension = certificates.SUBJECT_KEY_EXTENSION
+signed_components of_signed.SubjectKeyIdentifier = certificates.SUBJECT_KEY_IDENTIFIER
+signed_components of_signed.AuthorityKeyExtension = certificates.AUTHORITY_KEY_EXTENSION
+signed_components of_signed.AuthorityKeyValue = certificates.AUTHORITY_KEY_VALUE
+signed_components of_signed.AuthorityKeyIdentifier = certificates.AUTHORITY_KEY_IDENTIFIER
 signed_components of_signed.CertificationRequest = certificates.CERTIFICATION_REQUEST
 signed_components of_signed.CertificationRequestInfo = certificates.CERTIFICATION_REQUEST_INFO
 signed_components of_signed.CertificateList = certificates.CERTIFICATE_LIST
@@ -154,3 +163,12 @@ components (structures.Signed s) = signed_components s
 components (structures.Container s) = container_components s
 components (structures.Service s) = service_components s
 components structures.Any = tables.ELEMENTS
+
+-- identifiers, and the structure whose components come after one of them
+abbrev pub Case : Type 0
+Case = Family × Structure
+
+-- what may come after an identifier with a name, if it decides that
+unfoldable pub cases : Name → List Case
+cases names.ExtnId = choices.EXTENSION
+cases _ = []

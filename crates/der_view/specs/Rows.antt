@@ -5,7 +5,7 @@ use Rattle.std.specs.Prelude.{if◌then◌else◌, Bool, true, false, List, [], 
 use Rattle.std.specs.Prelude.{drop, Option, Some, None, Result, Ok, Err, is_none, is_some}
 use Rattle.std.specs.Str.{bytes_eq}
 use Rattle.der_view.specs.Contents.{is_primitive, is_whole, shown_len}
-use Rattle.der_view.specs.Grammar.{Component, components, identifiers}
+use Rattle.der_view.specs.Grammar.{Case, Component, cases, components, identifiers}
 use Rattle.der_view.specs.Headers.{header_of}
 use Rattle.der_view.specs.declared.grammar.TheConstants as tables
 use Rattle.der_view.specs.declared.grammar.Content.{Content}
@@ -139,11 +139,23 @@ admits header (contents.Whole structure) bytes = is_primitive header
 admits header (contents.Bits structure) bytes = is_primitive header
 admits header _ bytes = true
 
+-- the components after an identifier with these bytes: those of its first case
+abbrev pub chosen : List Case → List ℕ → List Component → List Component
+chosen [] bytes others = others
+chosen (one ∷ more) bytes others =
+    if is_of (identifiers one.0) bytes then components one.1 else chosen more bytes others
+
+-- the components after an element, which nothing decides but what is shown of it
+unfoldable pub others_after : Header → Component → List ℕ → List Component → List Component
+others_after header component bytes others =
+    chosen (cases component.3) (take (shown_len false header component.2 bytes) bytes) others
+
 abbrev pub component_by : Header → List ℕ → Option (Component × List Component)
     → Option (Component × List Component)
 component_by header content None = None
 component_by header content (Some found) =
-    if admits header found.0.2 content then Some found else None
+    if admits header found.0.2 content
+    then Some (found.0, others_after header found.0 content found.1) else None
 
 -- the first component that such an element can be, and those that may come after it
 abbrev pub component_at : ℕ → Header → List ℕ → List Component

@@ -39,6 +39,11 @@ fourth_text names.TimeStampResp = codes "TimeStampResp"
 fourth_text names.OcspRequest = codes "OCSPRequest"
 fourth_text names.AsymmetricKeyPackage = codes "AsymmetricKeyPackage"
 fourth_text names.SafeContents = codes "SafeContents"
+fourth_text names.KeyIdentifier = codes "keyIdentifier"
+fourth_text names.SubjectKeyIdentifier = codes "SubjectKeyIdentifier"
+fourth_text names.AuthorityKeyIdentifier = codes "AuthorityKeyIdentifier"
+fourth_text names.AuthorityCertIssuer = codes "authorityCertIssuer"
+fourth_text names.AuthorityCertSerialNumber = codes "authorityCertSerialNumber"
 fourth_text name = []
 
 -- the same of the names from UserCertificate on

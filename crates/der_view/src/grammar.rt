@@ -4,6 +4,7 @@ ghost use Rattle.std.specs.Prelude.{◌≡◌};
 ghost use Rattle.der_view.specs.Grammar.{components};
 
 mod certificates;
+mod choice;
 mod containers;
 mod family;
 mod forms;
@@ -13,6 +14,7 @@ mod public;
 mod services;
 
 pub use certificates::SignedStructure;
+pub(crate) use choice::Case;
 pub use containers::ContainerStructure;
 pub use family::Family;
 pub(crate) use forms::{FIRST, OTHERS};

@@ -1,11 +1,11 @@
 //! The element that comes next, what it is, and what is shown of it.
 ghost use Rattle.std.specs.Prelude.{◌≡◌, ◌+◌, ◌≤◌, IfSome, length, option_map};
-ghost use Rattle.der_view.specs.Rows.{admits, comes_again, component_at, element_at, end_at};
-ghost use Rattle.der_view.specs.Rows.{fitting, has_tag, is_of, may_be_absent, may_end, step_by};
-ghost use Rattle.der_view.specs.Rows.{step_of};
+ghost use Rattle.der_view.specs.Rows.{admits, chosen, comes_again, component_at, element_at};
+ghost use Rattle.der_view.specs.Rows.{end_at, fitting, has_tag, is_of, may_be_absent, may_end};
+ghost use Rattle.der_view.specs.Rows.{others_after, step_by, step_of};
 
-use crate::content::{is_primitive, is_whole};
-use crate::grammar::{Component, Content, ELEMENT, Presence, Structure};
+use crate::content::{is_primitive, is_whole, shown_len};
+use crate::grammar::{Case, Component, Content, ELEMENT, Presence, Structure};
 use crate::header::Header;
 
 /// The element that comes next at a level.
@@ -104,11 +104,41 @@ fn component_at<'a>(
 {
     let (component, others) = fitting(tag, components)?;
     if admits(header, component.2, content) {
-        Some((component, others))
+        Some((component, others_after(header, component, content, others)))
     } else {
         None
     }
 }
+
+/// Returns the components that may come after an element. If it is an identifier that decides
+/// them, it does so only as far as it is shown.
+#[tactic(auto, unfolding(crate::specs::Rows::others_after))]
+fn others_after<'a>(
+    header: &Header,
+    component: Component,
+    content: &[u8],
+    others: &'a [Component],
+) -> &'a [Component]
+    ensures { result.now ≡ others_after header.now component content.now others.now }
+{
+    let len = shown_len(false, header, component.2, content);
+    chosen(component.3.cases(), &content[..len], others)
+}
+
+/// Returns the components after an identifier with these bytes: those of its first case.
+fn chosen<'a>(cases: &[Case], bytes: &[u8], others: &'a [Component]) -> &'a [Component]
+    ensures { result.now ≡ chosen cases.now bytes.now others.now }
+{
+    let [case, more @ ..] = cases else {
+        return others;
+    };
+    if is_of(case.0.identifiers(), bytes) {
+        case.1.components()
+    } else {
+        chosen(more, bytes, others)
+    }
+}
+
 /// Returns the first component that an element with this tag can be, and those that may come after
 /// it.
 fn fitting(tag: u8, components: &[Component]) -> Option<(Component, &[Component])>

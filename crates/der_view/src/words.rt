@@ -177,6 +177,11 @@ impl Name {
             Name::OcspRequest => "OCSPRequest",
             Name::AsymmetricKeyPackage => "AsymmetricKeyPackage",
             Name::SafeContents => "SafeContents",
+            Name::KeyIdentifier => "keyIdentifier",
+            Name::SubjectKeyIdentifier => "SubjectKeyIdentifier",
+            Name::AuthorityKeyIdentifier => "AuthorityKeyIdentifier",
+            Name::AuthorityCertIssuer => "authorityCertIssuer",
+            Name::AuthorityCertSerialNumber => "authorityCertSerialNumber",
             _ => "",
         }
     }

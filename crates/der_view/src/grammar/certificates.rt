@@ -2,15 +2,15 @@
 ghost use Rattle.std.specs.Prelude.{◌≡◌};
 ghost use Rattle.der_view.specs.Grammar.{signed_components};
 
-use super::Content::{Hidden, Inside, Shown, Version};
+use super::Content::{Hidden, Inside, Shown, Version, Whole};
 use super::Presence::{Many, Needed, Optional};
 use super::Structure::{Public, Signed};
 use super::public::PublicStructure::{Algorithm, PublicKeyInfo};
 use super::{Component, Name};
 use SignedStructure::{
-    CertificationRequestInfo, DistinguishedName, Extension, Extensions, ExtensionsField,
-    NameAttribute, RelativeName, RevokedCertificate, RevokedCertificates, TbsCertList,
-    TbsCertificate, Validity, VersionField,
+    AuthorityKeyIdentifier, AuthorityKeyValue, CertificationRequestInfo, DistinguishedName,
+    Extension, Extensions, ExtensionsField, NameAttribute, RelativeName, RevokedCertificate,
+    RevokedCertificates, SubjectKeyIdentifier, TbsCertList, TbsCertificate, Validity, VersionField,
 };
 
 /// A structure of certificates, requests for them, or lists of those that are revoked.
@@ -36,6 +36,16 @@ pub enum SignedStructure {
     Extensions,
     /// Extension (RFC 5280 section 4.1.2.9).
     Extension,
+    /// What comes after the extnID of a subjectKeyIdentifier (RFC 5280 section 4.2.1.2).
+    SubjectKeyExtension,
+    /// SubjectKeyIdentifier (RFC 5280 section 4.2.1.2).
+    SubjectKeyIdentifier,
+    /// What comes after the extnID of an authorityKeyIdentifier (RFC 5280 section 4.2.1.1).
+    AuthorityKeyExtension,
+    /// The extnValue of an authorityKeyIdentifier.
+    AuthorityKeyValue,
+    /// AuthorityKeyIdentifier (RFC 5280 section 4.2.1.1).
+    AuthorityKeyIdentifier,
     /// CertificationRequest (RFC 2986 section 4.2).
     CertificationRequest,
     /// CertificationRequestInfo (RFC 2986 section 4.1).
@@ -138,6 +148,46 @@ const EXTENSION: [Component; 3] = [
     (0x06, Needed, Shown(12), Name::ExtnId),
     (0x01, Optional, Version, Name::Critical),
     (0x04, Needed, Hidden, Name::ExtnValue),
+];
+
+const SUBJECT_KEY_EXTENSION: [Component; 2] = [
+    (0x01, Optional, Version, Name::Critical),
+    (
+        0x04,
+        Needed,
+        Whole(Signed(SubjectKeyIdentifier)),
+        Name::ExtnValue,
+    ),
+];
+
+const SUBJECT_KEY_IDENTIFIER: [Component; 1] = [(
+    0x04,
+    Needed,
+    Shown(64),
+    Name::SubjectKeyIdentifier,
+)];
+
+const AUTHORITY_KEY_EXTENSION: [Component; 2] = [
+    (0x01, Optional, Version, Name::Critical),
+    (
+        0x04,
+        Needed,
+        Whole(Signed(AuthorityKeyValue)),
+        Name::ExtnValue,
+    ),
+];
+
+const AUTHORITY_KEY_VALUE: [Component; 1] = [(
+    0x30,
+    Needed,
+    Inside(Signed(AuthorityKeyIdentifier)),
+    Name::AuthorityKeyIdentifier,
+)];
+
+const AUTHORITY_KEY_IDENTIFIER: [Component; 3] = [
+    (0x80, Optional, Shown(64), Name::KeyIdentifier),
+    (0xA1, Optional, Hidden, Name::AuthorityCertIssuer),
+    (0x82, Optional, Shown(20), Name::AuthorityCertSerialNumber),
 ];
 
 const CERTIFICATION_REQUEST: [Component; 3] = [
@@ -244,6 +294,11 @@ impl SignedStructure {
             SignedStructure::ExtensionsField => &EXTENSIONS_FIELD,
             SignedStructure::Extensions => &EXTENSIONS,
             SignedStructure::Extension => &EXTENSION,
+            SignedStructure::SubjectKeyExtension => &SUBJECT_KEY_EXTENSION,
+            SignedStructure::SubjectKeyIdentifier => &SUBJECT_KEY_IDENTIFIER,
+            SignedStructure::AuthorityKeyExtension => &AUTHORITY_KEY_EXTENSION,
+            SignedStructure::AuthorityKeyValue => &AUTHORITY_KEY_VALUE,
+            SignedStructure::AuthorityKeyIdentifier => &AUTHORITY_KEY_IDENTIFIER,
             SignedStructure::CertificationRequest => &CERTIFICATION_REQUEST,
             SignedStructure::CertificationRequestInfo => &CERTIFICATION_REQUEST_INFO,
             SignedStructure::CertificateList => &CERTIFICATE_LIST,

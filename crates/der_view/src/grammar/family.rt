@@ -35,6 +35,10 @@ pub enum Family {
     Md,
     /// 1.3.6.1.5.5.7.48.1: responses of OCSP (RFC 6960 section 4.2.1).
     Ocsp,
+    /// 2.5.29.14: subjectKeyIdentifier (RFC 5280 section 4.2.1.2).
+    SubjectKey,
+    /// 2.5.29.35: authorityKeyIdentifier (RFC 5280 section 4.2.1.1).
+    AuthorityKey,
 }
 
 const EC_PUBLIC_KEY: [u8; 7] = [0x2A, 0x86, 0x48, 0xCE, 0x3D, 0x02, 0x01];
@@ -67,6 +71,10 @@ const MD: [u8; 7] = [0x2A, 0x86, 0x48, 0x86, 0xF7, 0x0D, 0x02];
 
 const OCSP: [u8; 9] = [0x2B, 0x06, 0x01, 0x05, 0x05, 0x07, 0x30, 0x01, 0x01];
 
+const SUBJECT_KEY: [u8; 3] = [0x55, 0x1D, 0x0E];
+
+const AUTHORITY_KEY: [u8; 3] = [0x55, 0x1D, 0x23];
+
 impl Family {
     /// Borrows the bytes that contents of its identifiers begin with.
     #[tactic(auto, unfolding(crate::specs::Grammar::identifiers))]
@@ -89,6 +97,8 @@ impl Family {
             Family::Sha1 => &SHA1,
             Family::Md => &MD,
             Family::Ocsp => &OCSP,
+            Family::SubjectKey => &SUBJECT_KEY,
+            Family::AuthorityKey => &AUTHORITY_KEY,
         }
     }
 }

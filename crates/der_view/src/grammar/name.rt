@@ -141,4 +141,9 @@ pub enum Name {
     OcspRequest,
     AsymmetricKeyPackage,
     SafeContents,
+    KeyIdentifier,
+    SubjectKeyIdentifier,
+    AuthorityKeyIdentifier,
+    AuthorityCertIssuer,
+    AuthorityCertSerialNumber,
 }

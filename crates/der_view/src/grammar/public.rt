@@ -103,7 +103,7 @@ const EDWARDS_ALGORITHM: [Component; 1] = [(0x06, Needed, Of(Family::Edwards), N
 
 const PUBLIC_KEY_INFO: [Component; 2] = [
     (0x30, Needed, Inside(Public(Algorithm)), Name::Algorithm),
-    (0x03, Needed, Hidden, Name::SubjectPublicKey),
+    (0x03, Needed, Bits(Public(RsaBits)), Name::SubjectPublicKey),
 ];
 
 const EC_PUBLIC_KEY_INFO: [Component; 2] = [
