@@ -219,17 +219,17 @@ def test_c_without_a_warning(check, tmp_path, variables, tests):
         call(["/usr/lib/wine/wineserver64", "-k"])
 
 
-def linked(folder, name, *build):
+def linked(name, build):
     """Returns a shell's text that links a program of the tests with what is compiled so."""
     program = f"gcc -std=c11 -O1 -I{DIST} -o {name} {DIST}/tests/{name}.c other.o"
-    return f"{' '.join(build)} -I{DIST} -c -o other.o && {program}"
+    return f"{build} -I{DIST} -c -o other.o && {program}"
 
 
 @pytest.mark.parametrize("compiler", ["g++", pytest.param("clang++", marks=needs("clang++"))])
 def test_c_as_cpp(check, tmp_path, compiler):
     strict = "-Wall -Wextra -Wconversion -Werror"
     build = f"{compiler} -x c++ {strict} {DIST}/sec1.c"
-    check("it is compiled", linked(tmp_path, "text", build))
+    check("it is compiled", linked("text", build))
     check("its version and a text", ["./text"], prints="ok 200")
 
 
@@ -238,7 +238,7 @@ def test_c_without_functions_of_gcc(check, tmp_path):
     plain, number = re.subn("^#if defined __GNUC__ \\|\\| .*", "#if 0", text, flags=re.M)
     assert number
     (tmp_path / "plain.c").write_text(plain)
-    check("it is compiled", linked(tmp_path, "calls", "gcc -O0 plain.c"))
+    check("it is compiled", linked("calls", "gcc -O0 plain.c"))
     check("calls.c passes over it", ["./calls"])
 
 
