@@ -925,7 +925,7 @@ function drawnByHand() {
 
 test('draws the pictures that were drawn by hand, and tells their rows', () => {
   const drawn = drawnByHand();
-  assert.equal(drawn.length, 45);
+  assert.equal(drawn.length, 46);
   for (const { input, option, shown, status } of drawn) {
     const { text, hasKey, rows } = sec1.draw(input, option);
     assert.deepEqual([text.split('\n'), hasKey], [[...shown, ''], status === 0]);

@@ -1068,7 +1068,7 @@ class Others(unittest.TestCase):
 
     def test_pictures_drawn_by_hand(self):
         drawn = drawn_by_hand()
-        self.assertEqual(len(drawn), 45)
+        self.assertEqual(len(drawn), 46)
         for data, asked, text, status in drawn:
             picture = sec1.draw(data, asked)
             self.assertEqual(picture, sec1.Picture(text, status == 0))

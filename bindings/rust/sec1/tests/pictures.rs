@@ -27,7 +27,7 @@ fn drawn_by_hand() {
         assert_rows(&picture, &draw(&input, false).text);
         count += 1;
     }
-    assert_eq!(count, 45);
+    assert_eq!(count, 46);
 }
 
 #[test]
