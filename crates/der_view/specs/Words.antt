@@ -3,10 +3,8 @@ use Rattle.std.specs.Prelude.{ℕ, List, [], codes}
 use Rattle.der_view.specs.declared.grammar.name.Name.{Name}
 use Rattle.der_view.specs.declared.grammar.name.Name.TheVariants as names
 
--- the same of the names from IssuerKeyHash on
+-- the same of the names from ResponseBytes on
 unfoldable pub fourth_text : Name → List ℕ
-fourth_text names.IssuerKeyHash = codes "issuerKeyHash"
-fourth_text names.ResponseStatus = codes "responseStatus"
 fourth_text names.ResponseBytes = codes "responseBytes"
 fourth_text names.ResponseType = codes "responseType"
 fourth_text names.Response = codes "response"
@@ -82,6 +80,8 @@ third_text names.ReqCert = codes "reqCert"
 third_text names.SingleRequestExtensions = codes "singleRequestExtensions"
 third_text names.HashAlgorithm = codes "hashAlgorithm"
 third_text names.IssuerNameHash = codes "issuerNameHash"
+third_text names.IssuerKeyHash = codes "issuerKeyHash"
+third_text names.ResponseStatus = codes "responseStatus"
 third_text name = fourth_text name
 
 -- the same of the names from BagId on

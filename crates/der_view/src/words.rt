@@ -133,18 +133,18 @@ impl Name {
             Name::SingleRequestExtensions => "singleRequestExtensions",
             Name::HashAlgorithm => "hashAlgorithm",
             Name::IssuerNameHash => "issuerNameHash",
+            Name::IssuerKeyHash => "issuerKeyHash",
+            Name::ResponseStatus => "responseStatus",
             _ => self.fourth_text(),
         }
     }
 
-    /// Returns the same of the names from [`Name::IssuerKeyHash`] on.
+    /// Returns the same of the names from [`Name::ResponseBytes`] on.
     #[tactic(auto, unfolding(crate::specs::Words::fourth_text))]
     fn fourth_text(self) -> &'static str
         ensures { result.now ≡ fourth_text self }
     {
         match self {
-            Name::IssuerKeyHash => "issuerKeyHash",
-            Name::ResponseStatus => "responseStatus",
             Name::ResponseBytes => "responseBytes",
             Name::ResponseType => "responseType",
             Name::Response => "response",
