@@ -22419,11 +22419,15 @@ after_36:;
     goto after_102;
   case 33:
     goto after_103;
-  case 34: case 35: case 36: case 37: case 38: case 39: case 40: case 41: case 42: case 43: case 44:
-  case 45: case 46: case 47: case 48: case 49: case 50: case 51: case 52: case 53: case 54: case 55:
-  case 56: case 57: case 58: case 59: case 60: case 61: case 62: case 63: case 64: case 65: case 66:
-  case 67: case 68: case 69: case 70: case 71: case 72:
+  case 34:
     goto after_104;
+  case 35:
+    goto after_105;
+  case 36: case 37: case 38: case 39: case 40: case 41: case 42: case 43: case 44: case 45: case 46:
+  case 47: case 48: case 49: case 50: case 51: case 52: case 53: case 54: case 55: case 56: case 57:
+  case 58: case 59: case 60: case 61: case 62: case 63: case 64: case 65: case 66: case 67: case 68:
+  case 69: case 70: case 71: case 72:
+    goto after_106;
   default:
     goto after_35;
   }
@@ -22562,93 +22566,90 @@ after_103:;
 after_104:;
   v3 = CONSTANT(34454);
   v4 = 13;
-  switch (p1 + 0xffffff9au) {
-  case 1:
-    goto after_105;
-  case 2:
-    goto after_106;
-  case 3:
-    goto after_107;
-  case 4:
-    goto after_108;
-  case 5:
-    goto after_109;
-  case 6:
-    goto after_110;
-  case 7:
-    goto after_111;
-  case 8:
-    goto after_112;
-  case 9:
-    goto after_113;
-  case 10:
-    goto after_114;
-  case 11:
-    goto after_115;
-  case 12:
-    goto after_116;
-  case 13:
-    goto after_117;
-  case 14:
-    goto after_118;
-  case 15:
-    goto after_119;
-  case 16:
-    goto after_120;
-  case 17:
-    goto after_121;
-  case 18:
-    goto after_122;
-  case 19:
-    goto after_123;
-  case 20:
-    goto after_124;
-  case 21:
-    goto after_125;
-  case 22:
-    goto after_126;
-  case 23:
-    goto after_127;
-  case 24:
-    goto after_128;
-  case 25:
-    goto after_129;
-  case 26:
-    goto after_130;
-  case 27:
-    goto after_131;
-  case 28:
-    goto after_132;
-  case 29:
-    goto after_133;
-  case 30:
-    goto after_134;
-  case 31:
-    goto after_135;
-  case 32:
-    goto after_136;
-  case 33:
-    goto after_137;
-  case 34:
-    goto after_138;
-  case 35:
-    goto after_139;
-  case 36:
-    goto after_140;
-  case 37:
-    goto after_141;
-  case 38:
-    goto after_142;
-  default:
-    goto after_35;
-  }
+  goto after_35;
 after_105:;
   v3 = CONSTANT(34467);
   v4 = 14;
   goto after_35;
 after_106:;
   v3 = CONSTANT(34481);
-  goto after_35;
+  v4 = 13;
+  switch (p1 + 0xffffff98u) {
+  case 1:
+    goto after_107;
+  case 2:
+    goto after_108;
+  case 3:
+    goto after_109;
+  case 4:
+    goto after_110;
+  case 5:
+    goto after_111;
+  case 6:
+    goto after_112;
+  case 7:
+    goto after_113;
+  case 8:
+    goto after_114;
+  case 9:
+    goto after_115;
+  case 10:
+    goto after_116;
+  case 11:
+    goto after_117;
+  case 12:
+    goto after_118;
+  case 13:
+    goto after_119;
+  case 14:
+    goto after_120;
+  case 15:
+    goto after_121;
+  case 16:
+    goto after_122;
+  case 17:
+    goto after_123;
+  case 18:
+    goto after_124;
+  case 19:
+    goto after_125;
+  case 20:
+    goto after_126;
+  case 21:
+    goto after_127;
+  case 22:
+    goto after_128;
+  case 23:
+    goto after_129;
+  case 24:
+    goto after_130;
+  case 25:
+    goto after_131;
+  case 26:
+    goto after_132;
+  case 27:
+    goto after_133;
+  case 28:
+    goto after_134;
+  case 29:
+    goto after_135;
+  case 30:
+    goto after_136;
+  case 31:
+    goto after_137;
+  case 32:
+    goto after_138;
+  case 33:
+    goto after_139;
+  case 34:
+    goto after_140;
+  case 35:
+    goto after_141;
+  case 36:
+    goto after_142;
+  default:
+    goto after_35;
+  }
 after_107:;
   v3 = CONSTANT(34494);
   v4 = 12;

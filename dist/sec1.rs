@@ -28264,6 +28264,8 @@ unsafe fn der_view_grammar_name_Name_text(p0: u64, mut p1: u32) {
   }
   v3 = constant(34119);
   v4 = 15;
+  'after_106: {
+  'after_105: {
   'after_104: {
   'after_103: {
   'after_102: {
@@ -28399,10 +28401,15 @@ unsafe fn der_view_grammar_name_Name_text(p0: u64, mut p1: u32) {
   33 => {
     break 'after_103;
   }
-  34 | 35 | 36 | 37 | 38 | 39 | 40 | 41 | 42 | 43 | 44 | 45 | 46 | 47 | 48 | 49 | 50 | 51 | 52 |
-      53 | 54 | 55 | 56 | 57 | 58 | 59 | 60 | 61 | 62 | 63 | 64 | 65 | 66 | 67 | 68 | 69 | 70 | 71 |
-      72 => {
+  34 => {
     break 'after_104;
+  }
+  35 => {
+    break 'after_105;
+  }
+  36 | 37 | 38 | 39 | 40 | 41 | 42 | 43 | 44 | 45 | 46 | 47 | 48 | 49 | 50 | 51 | 52 | 53 | 54 |
+      55 | 56 | 57 | 58 | 59 | 60 | 61 | 62 | 63 | 64 | 65 | 66 | 67 | 68 | 69 | 70 | 71 | 72 => {
+    break 'after_106;
   }
   _ => {
     break 'after_35;
@@ -28543,6 +28550,14 @@ unsafe fn der_view_grammar_name_Name_text(p0: u64, mut p1: u32) {
   }
   v3 = constant(34454);
   v4 = 13;
+  break 'after_35;
+  }
+  v3 = constant(34467);
+  v4 = 14;
+  break 'after_35;
+  }
+  v3 = constant(34481);
+  v4 = 13;
   'after_142: {
   'after_141: {
   'after_140: {
@@ -28579,134 +28594,119 @@ unsafe fn der_view_grammar_name_Name_text(p0: u64, mut p1: u32) {
   'after_109: {
   'after_108: {
   'after_107: {
-  'after_106: {
-  'after_105: {
-  match p1.wrapping_add(0xffffff9a) {
+  match p1.wrapping_add(0xffffff98) {
   1 => {
-    break 'after_105;
-  }
-  2 => {
-    break 'after_106;
-  }
-  3 => {
     break 'after_107;
   }
-  4 => {
+  2 => {
     break 'after_108;
   }
-  5 => {
+  3 => {
     break 'after_109;
   }
-  6 => {
+  4 => {
     break 'after_110;
   }
-  7 => {
+  5 => {
     break 'after_111;
   }
-  8 => {
+  6 => {
     break 'after_112;
   }
-  9 => {
+  7 => {
     break 'after_113;
   }
-  10 => {
+  8 => {
     break 'after_114;
   }
-  11 => {
+  9 => {
     break 'after_115;
   }
-  12 => {
+  10 => {
     break 'after_116;
   }
-  13 => {
+  11 => {
     break 'after_117;
   }
-  14 => {
+  12 => {
     break 'after_118;
   }
-  15 => {
+  13 => {
     break 'after_119;
   }
-  16 => {
+  14 => {
     break 'after_120;
   }
-  17 => {
+  15 => {
     break 'after_121;
   }
-  18 => {
+  16 => {
     break 'after_122;
   }
-  19 => {
+  17 => {
     break 'after_123;
   }
-  20 => {
+  18 => {
     break 'after_124;
   }
-  21 => {
+  19 => {
     break 'after_125;
   }
-  22 => {
+  20 => {
     break 'after_126;
   }
-  23 => {
+  21 => {
     break 'after_127;
   }
-  24 => {
+  22 => {
     break 'after_128;
   }
-  25 => {
+  23 => {
     break 'after_129;
   }
-  26 => {
+  24 => {
     break 'after_130;
   }
-  27 => {
+  25 => {
     break 'after_131;
   }
-  28 => {
+  26 => {
     break 'after_132;
   }
-  29 => {
+  27 => {
     break 'after_133;
   }
-  30 => {
+  28 => {
     break 'after_134;
   }
-  31 => {
+  29 => {
     break 'after_135;
   }
-  32 => {
+  30 => {
     break 'after_136;
   }
-  33 => {
+  31 => {
     break 'after_137;
   }
-  34 => {
+  32 => {
     break 'after_138;
   }
-  35 => {
+  33 => {
     break 'after_139;
   }
-  36 => {
+  34 => {
     break 'after_140;
   }
-  37 => {
+  35 => {
     break 'after_141;
   }
-  38 => {
+  36 => {
     break 'after_142;
   }
   _ => {
     break 'after_35;
   }
   }
-  }
-  v3 = constant(34467);
-  v4 = 14;
-  break 'after_35;
-  }
-  v3 = constant(34481);
-  break 'after_35;
   }
   v3 = constant(34494);
   v4 = 12;
