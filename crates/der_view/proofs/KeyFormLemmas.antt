@@ -13,7 +13,7 @@ use Rattle.sec1_der.specs.Trees.{forest, joined, leaf}
 use Rattle.sec1_der.proofs.LengthLaws.{len_1}
 use Rattle.sec1_der.specs.Elements.{element, header, length_octets}
 use Rattle.sec1_der.specs.Identifiers.{content_of}
-use Rattle.der_view.specs.Grammar.{Component, Form, cases, components, key_components}
+use Rattle.der_view.specs.Grammar.{Component, Form, cases, components}
 use Rattle.der_view.specs.Headers.{max_content_len}
 use Rattle.der_view.specs.Keys.{IsContent, is_low, root_bytes}
 use Rattle.der_view.specs.Pictures.{best, better, capped, ended_by, first_place, is_nearer, known_as, left_as}
@@ -34,7 +34,6 @@ use Rattle.der_view.specs.declared.grammar.Presence.TheVariants as presences
 use Rattle.der_view.specs.declared.grammar.Structure.{Structure}
 use Rattle.der_view.specs.declared.grammar.Structure.TheVariants as structures
 use Rattle.der_view.specs.declared.grammar.forms.TheConstants as tables
-use Rattle.der_view.specs.declared.grammar.keys.KeyStructure.TheVariants as of_keys
 use Rattle.der_view.specs.declared.header.Header.{Header}
 use Rattle.der_view.specs.declared.plan.Plan.{Plan}
 use Rattle.der_view.specs.declared.plan.Way.TheVariants as ways
@@ -305,10 +304,10 @@ abbrev key_row : Component
 key_row = (0x04, presences.Needed, contents.Hidden, names.PrivateKey)
 
 abbrev curve_row : Component
-curve_row = (0xA0, presences.Optional, contents.Inside (structures.Key of_keys.CurveName), names.Parameters)
+curve_row = (0xA0, presences.Optional, contents.Inside structures.CurveName, names.Parameters)
 
 abbrev point_row : Component
-point_row = (0xA1, presences.Optional, contents.Inside (structures.Key of_keys.PublicPoint), names.PublicKey)
+point_row = (0xA1, presences.Optional, contents.Inside structures.PublicPoint, names.PublicKey)
 
 -- the bytes of the public key, and before it of the parameters
 abbrev public_bytes : Option (List ℕ) → List ℕ
@@ -331,26 +330,26 @@ ended most depth some is = rw is refl
 public_follows : (m : ℕ) (some : List Component) (q : Option (List ℕ)) → fitting 0xA1 some ≡ Some (point_row, [])
     → may_end some ≡ true → length (public_bytes q) ≤ max_content_len
     → rest_of false (suc (suc (suc m))) 1 false some (public_bytes q) ≡ Some []
-unfolding cases components key_components admits opened_in others_after
+unfolding cases components admits opened_in others_after
 public_follows m some None fits may few = ended (suc (suc m)) 1 some may
 public_follows m some (Some bytes) fits may few =
     let inner : List ℕ = element 0x03 (0 ∷ bytes) ++ [] in
     let long = element_long 0xA1 inner [] in
     let within : length inner ≤ max_content_len = omega (arith, long, few) in
     let deep = element_long 0x03 (0 ∷ bytes) [] in
-    let point : rest_of false (suc (suc m)) 2 false (components (structures.Key of_keys.PublicPoint)) inner ≡ Some [] =
-    rest_there (suc m) 2 (components (structures.Key of_keys.PublicPoint)) 0x03 (0 ∷ bytes) []
+    let point : rest_of false (suc (suc m)) 2 false (components structures.PublicPoint) inner ≡ Some [] =
+    rest_there (suc m) 2 (components structures.PublicPoint) 0x03 (0 ∷ bytes) []
     (0x03, presences.Needed, contents.Point, names.Point) [] refl refl (omega (arith, deep, within)) refl refl refl
     refl
     ∙ ended m 2 [] refl in
     rest_there (suc (suc m)) 1 some 0xA1 inner [] point_row [] refl refl within fits refl refl
     (goes_inside (suc (suc m)) 2 (der_header 0xA1 (length inner)) (header 0xA1 (length inner)) point_row []
-    (structures.Key of_keys.PublicPoint) inner [] refl refl point)
+    structures.PublicPoint inner [] refl refl point)
     ∙ ended (suc m) 1 [] refl
 
 fields_follow : (m : ℕ) (p q : Option (List ℕ)) → length (fields_bytes p q) ≤ max_content_len
     → rest_of false (suc (suc (suc (suc m)))) 1 false (curve_row ∷ point_row ∷ []) (fields_bytes p q) ≡ Some []
-unfolding cases components key_components admits opened_in others_after
+unfolding cases components admits opened_in others_after
 fields_follow m None q few = public_follows (suc m) (curve_row ∷ point_row ∷ []) q refl refl few
 fields_follow m (Some arcs) q few =
     let content : List ℕ = content_of arcs in
@@ -360,27 +359,27 @@ fields_follow m (Some arcs) q few =
     let deep = element_long 0x06 content [] in
     let last : length (public_bytes q) ≤ max_content_len =
     omega (arith, length-append (element 0xA0 inner) (public_bytes q), few) in
-    let name : rest_of false (suc (suc (suc m))) 2 false (components (structures.Key of_keys.CurveName)) inner ≡ Some
+    let name : rest_of false (suc (suc (suc m))) 2 false (components structures.CurveName) inner ≡ Some
     [] =
-    rest_there (suc (suc m)) 2 (components (structures.Key of_keys.CurveName)) 0x06 content []
+    rest_there (suc (suc m)) 2 (components structures.CurveName) 0x06 content []
     (0x06, presences.Needed, contents.Shown 12, names.NamedCurve) [] refl refl (omega (arith, deep, within)) refl refl
     refl refl ∙ ended (suc m) 2 [] refl in
     rest_there (suc (suc (suc m))) 1 (curve_row ∷ point_row ∷ []) 0xA0 inner (public_bytes q) curve_row (point_row ∷ [])
     refl refl within refl refl refl
     (goes_inside (suc (suc (suc m))) 2 (der_header 0xA0 (length inner)) (header 0xA0 (length inner)) curve_row
-    (point_row ∷ []) (structures.Key of_keys.CurveName) inner (public_bytes q) refl refl name)
+    (point_row ∷ []) structures.CurveName inner (public_bytes q) refl refl name)
     ∙ public_follows m (point_row ∷ []) q refl refl last
 
 key_follows : (m : ℕ) (private_key : List ℕ) (p q : Option (List ℕ))
     → length (element 0x04 private_key ++ fields_bytes p q) ≤ max_content_len
-    → rest_of false (suc (suc (suc (suc (suc (suc m)))))) 1 false (components (structures.Key of_keys.EcPrivateKey))
+    → rest_of false (suc (suc (suc (suc (suc (suc m)))))) 1 false (components structures.EcPrivateKey)
     (element 0x02 (1 ∷ []) ++ (element 0x04 private_key ++ fields_bytes p q)) ≡ Some []
-unfolding cases components key_components admits opened_in others_after
+unfolding cases components admits opened_in others_after
 key_follows m private_key p q few =
     let long = element_long 0x04 private_key (fields_bytes p q) in
     let last : length (fields_bytes p q) ≤ max_content_len =
     omega (arith, length-append (element 0x04 private_key) (fields_bytes p q), few) in
-    rest_there (suc (suc (suc (suc (suc m))))) 1 (components (structures.Key of_keys.EcPrivateKey)) 0x02 (1 ∷ [])
+    rest_there (suc (suc (suc (suc (suc m))))) 1 (components structures.EcPrivateKey) 0x02 (1 ∷ [])
     (element 0x04 private_key ++ fields_bytes p q) version_row (key_row ∷ curve_row ∷ point_row ∷ []) refl refl
     (omega arith) refl refl refl refl
     ∙ (rest_there (suc (suc (suc (suc m)))) 1 (key_row ∷ curve_row ∷ point_row ∷ []) 0x04 private_key
@@ -399,7 +398,7 @@ octets_some n = choice (nat_lt n 128) (n ∷ []) ((0x80 + length (digits_of 256 
 inside_known : (key : Key) (most : ℕ)
     → length (inside_key (length key.private_key) (key.private_key ++ after_key key)) ≤ max_content_len
     → length (inside_key (length key.private_key) (key.private_key ++ after_key key)) + 1 ≤ most
-    → rest_of false most 1 false (components (structures.Key of_keys.EcPrivateKey))
+    → rest_of false most 1 false (components structures.EcPrivateKey)
     (inside_key (length key.private_key) (key.private_key ++ after_key key)) ≡ Some []
 inside_known key most few enough =
     let n : ℕ = length key.private_key in
@@ -417,10 +416,10 @@ inside_known key most few enough =
     let fuel : most ≡ suc (suc (suc (suc (suc (suc m))))) = omega (arith, size, head, two, after', enough) in
     let short : length rest ≤ max_content_len = omega (arith, size, few) in
     let known = key_follows m key.private_key key.parameters key.public_key short in
-    subst (λ (k : ℕ). rest_of false k 1 false (components (structures.Key of_keys.EcPrivateKey)) content ≡ Some [])
+    subst (λ (k : ℕ). rest_of false k 1 false (components structures.EcPrivateKey) content ≡ Some [])
     (sym fuel)
     (ap (λ (b : List ℕ). rest_of false (suc (suc (suc (suc (suc (suc m)))))) 1 false
-    (components (structures.Key of_keys.EcPrivateKey)) b) (sym same) ∙ known)
+    (components structures.EcPrivateKey) b) (sym same) ∙ known)
 
 -- what a key's bytes are
 pub record IsKnown (a : List ℕ) : Type 0 where
@@ -450,10 +449,10 @@ key_is key a is few =
     let begins : root_step root a ≡ Some step =
     ap (λ (b : List ℕ). root_step root b) first ∙ (root_at root m content [] there ∙ root_as m content head) in
     let front_len : 1 ≤ length front = omega (arith, ap length h.begins) in
-    let inner : rest_of false (length a) 1 false (components (structures.Key of_keys.EcPrivateKey)) content ≡ Some [] =
+    let inner : rest_of false (length a) 1 false (components structures.EcPrivateKey) content ≡ Some [] =
     inside_known key (length a) fits (omega (arith, whole, front_len)) in
     let after' : rest_after false (length a) 1 step ≡ Some [] =
-    goes_inside (length a) 1 found front root [] (structures.Key of_keys.EcPrivateKey) content [] refl refl inner in
+    goes_inside (length a) 1 found front root [] structures.EcPrivateKey content [] refl refl inner in
     record {
       whole = whole_found false root a step begins
           ∙ (ap (λ (o : Option (List ℕ)). ended_by step o) after' ∙ eq-eqb m m refl);

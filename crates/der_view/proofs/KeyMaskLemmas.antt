@@ -8,8 +8,7 @@ use Rattle.std.proofs.lemmas.List.{take_at, length-take}
 use Rattle.std.specs.Prelude.{if◌then◌else◌, is_none, ◌-◌, min}
 use Rattle.sec1_der.specs.Elements.{header}
 use Rattle.der_view.specs.Contents.{has_type, is_number, is_small}
-use Rattle.der_view.specs.Grammar.{Component, Form, cases, components, container_components, key_components}
-use Rattle.der_view.specs.Grammar.{public_components, service_components, signed_components}
+use Rattle.der_view.specs.Grammar.{Component, Form, cases, components}
 use Rattle.der_view.specs.Headers.{max_content_len}
 use Rattle.der_view.specs.Keys.{AreLevels, AreParts, DifferIn, IsContent, Level, Part, container, integers, key_in}
 use Rattle.der_view.specs.Keys.{root_bytes, sequence, IsCutIn, container_parts}
@@ -323,7 +322,7 @@ pub ec_alike : (m n : ℕ) (version x y rest : List ℕ) → length version ≤ 
     → IsContent m (key_in [] ((0x02, version) ∷ []) 0x04 n x) rest
     → AreAlike (root_bytes m (key_in [] ((0x02, version) ∷ []) 0x04 n x) rest)
     (root_bytes m (key_in [] ((0x02, version) ∷ []) 0x04 n y) rest)
-unfolding cases components container_components key_components public_components service_components signed_components
+unfolding cases components
 ec_alike m n version x y rest few differ is =
     key_forms [] ((0x02, version) ∷ []) 0x04 m n x y rest ((refl, few, tt), refl) tt (octets_unseen n) differ is refl
     refl
@@ -334,7 +333,7 @@ pub number_alike : (m n : ℕ) (numbers : List (List ℕ)) (x y rest : List ℕ)
     → IsContent m (key_in [] (integers numbers) 0x02 n x) rest
     → AreAlike (root_bytes m (key_in [] (integers numbers) 0x02 n x) rest)
     (root_bytes m (key_in [] (integers numbers) 0x02 n y) rest)
-unfolding cases components container_components key_components public_components service_components signed_components
+unfolding cases components
 number_alike m n [] x y rest are some few long differ is = absurd (omega arith)
 number_alike m n (a ∷ []) x y rest are some few long differ is = absurd (omega arith)
 number_alike m n (a ∷ b ∷ []) x y rest are some few long differ is = absurd (omega arith)
@@ -368,7 +367,7 @@ pub contained_ec_alike : (m n : ℕ) (version algorithm inner after x y rest : L
     → AreAlike (root_bytes m (key_in (container version algorithm after ∷ sequence ∷ [])
     ((0x02, inner) ∷ []) 0x04 n x) rest)
     (root_bytes m (key_in (container version algorithm after ∷ sequence ∷ []) ((0x02, inner) ∷ []) 0x04 n y) rest)
-unfolding cases components container_components key_components public_components service_components signed_components
+unfolding cases components
 contained_ec_alike m n version algorithm inner after x y rest are differ is =
     key_forms (container version algorithm after ∷ sequence ∷ [])
     ((0x02, inner) ∷ []) 0x04 m n x y rest are (container_unseen, (sequence_unseen, tt)) (octets_unseen n) differ is
@@ -379,7 +378,7 @@ pub contained_number_alike : (m n : ℕ) (version algorithm after x y rest : Lis
     → IsContent m (key_in (container version algorithm after ∷ []) [] 0x02 n x) rest
     → AreAlike (root_bytes m (key_in (container version algorithm after ∷ []) [] 0x02 n x) rest)
     (root_bytes m (key_in (container version algorithm after ∷ []) [] 0x02 n y) rest)
-unfolding cases components container_components key_components public_components service_components signed_components
+unfolding cases components
 contained_number_alike m n version algorithm after x y rest are long differ is =
     key_forms (container version algorithm after ∷ []) [] 0x02 m n x y rest are (container_unseen, tt)
     (number_unseen n long) differ is
@@ -390,7 +389,7 @@ pub contained_octets_alike : (m n : ℕ) (version algorithm after x y rest : Lis
     → IsContent m (key_in (container version algorithm after ∷ []) [] 0x04 n x) rest
     → AreAlike (root_bytes m (key_in (container version algorithm after ∷ []) [] 0x04 n x) rest)
     (root_bytes m (key_in (container version algorithm after ∷ []) [] 0x04 n y) rest)
-unfolding cases components container_components key_components public_components service_components signed_components
+unfolding cases components
 contained_octets_alike m n version algorithm after x y rest are differ is =
     key_forms (container version algorithm after ∷ []) [] 0x04 m n x y rest are (container_unseen, tt) (octets_unseen n)
     differ is
@@ -404,7 +403,7 @@ pub contained_rsa_alike : (m n : ℕ) (version algorithm after : List ℕ) (numb
     → AreAlike (root_bytes m (key_in (container version algorithm after ∷ sequence ∷ [])
     (integers numbers) 0x02 n x) rest)
     (root_bytes m (key_in (container version algorithm after ∷ sequence ∷ []) (integers numbers) 0x02 n y) rest)
-unfolding cases components container_components key_components public_components service_components signed_components
+unfolding cases components
 contained_rsa_alike m n version algorithm after [] x y rest are some few long differ is = absurd (omega arith)
 contained_rsa_alike m n version algorithm after (a ∷ []) x y rest are some few long differ is = absurd (omega arith)
 contained_rsa_alike m n version algorithm after (a ∷ b ∷ []) x y rest are some few long differ is = absurd (omega arith)
@@ -474,7 +473,7 @@ pub contained_cut_alike : (m n tag k : ℕ) (version algorithm x y rest : List �
     → IsContent m (key_in [] (container_parts version algorithm) 0x04 n (header tag k ++ x)) rest
     → AreAlike (root_bytes m (key_in [] (container_parts version algorithm) 0x04 n (header tag k ++ x)) rest)
     (root_bytes m (key_in [] (container_parts version algorithm) 0x04 n (header tag k ++ y)) rest)
-unfolding cases components container_components key_components public_components service_components signed_components
+unfolding cases components
 contained_cut_alike m n tag k version algorithm x y rest cut are differ is =
     let parts : List Part = container_parts version algorithm in
     let a : List ℕ = header tag k ++ x in

@@ -1,22 +1,24 @@
--- The first entry of a table of names.
-use Rattle.std.proofs.Common.{◌≡◌, ℕ, zero, suc, ◌-◌, ◌<◌, List, [], ◌∷◌, length, take, drop, refl, arith}
-use Rattle.std.specs.Prelude.{Some, None, if◌then◌else◌}
+-- The first row of a table of names.
+use Rattle.std.proofs.Common.{◌≡◌, ℕ, suc, ◌-◌, ◌+◌, ◌*◌, ◌<◌, ◌≤◌, List, [], ◌∷◌, length, take, drop, refl}
+use Rattle.std.proofs.Common.{arith, slice_index_or}
+use Rattle.std.specs.Prelude.{if◌then◌else◌}
 use Rattle.std.specs.Str.{bytes_eq}
-use Rattle.der_view.specs.Names.{name_in}
+use Rattle.der_view.specs.Names.{names_after}
 
 -- where there is one
-pub name_in-entry : (most : ℕ) (table content after : List ℕ) (count : ℕ) → 0 < most
-    → drop (length content) table ≡ count ∷ after
-    → name_in most table content
-    ≡ (if bytes_eq (take (length content) table) content then Some (take count after)
-    else name_in (most - 1) (drop count after) content)
-name_in-entry zero table content after count some is = absurd (omega arith)
-name_in-entry (suc most) table content after count some is =
+pub first_row : (most : ℕ) (table front : List ℕ) → 0 < most → 3 ≤ length table
+    → names_after most table front
+    ≡ (if bytes_eq (take (slice_index_or table 0 0) (drop 3 table)) front
+    then take (256 * slice_index_or table 1 0 + slice_index_or table 2 0)
+    (drop (slice_index_or table 0 0) (drop 3 table))
+    else names_after (most - 1) (drop (256 * slice_index_or table 1 0 + slice_index_or table 2 0)
+    (drop (slice_index_or table 0 0) (drop 3 table))) front)
+first_row (suc most) (len ∷ high ∷ low ∷ rest) front some long =
     let before : suc most - 1 ≡ most = omega arith in
-    rw (is, before) refl
+    rw before refl
+first_row most table front some long = absurd (omega arith)
 
 -- where there is none
-pub name_in-none : (most : ℕ) (table content : List ℕ) → drop (length content) table ≡ []
-    → name_in most table content ≡ None
-name_in-none zero table content is = refl
-name_in-none (suc most) table content is = rw is refl
+pub no_row : (most : ℕ) (table front : List ℕ) → length table < 3 → names_after most table front ≡ []
+no_row (suc most) (a ∷ b ∷ c ∷ rest) front short = absurd (omega arith)
+no_row most table front short = refl

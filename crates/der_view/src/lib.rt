@@ -39,10 +39,7 @@ pub use characters::Characters;
 pub use drawing::{draw, is_key, said_lines};
 pub use facts::{Kind, Point, RowFacts, Shown};
 pub use form::draw_rows;
-pub use grammar::{
-    Component, ContainerStructure, Content, Family, Form, KeyStructure, Name, Presence,
-    PublicStructure, Secrecy, ServiceStructure, SignedStructure, Structure,
-};
+pub use grammar::{Component, Content, Family, Form, Name, Presence, Secrecy, Structure};
 pub use header::{Class, ElementFault, Header, Tag};
 pub use line::Line;
 pub use marks::{Fault, Mark};

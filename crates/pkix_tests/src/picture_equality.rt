@@ -3,10 +3,9 @@ ghost use Rattle.std.specs.Prelude.{◌≡◌, ◌≢◌, ◌↔◌, IsTrue, IsO
 
 use crate::equality::Cloned;
 use der_view::{
-    Advice, Arcs, Armour, Block, Characters, Class, ContainerStructure, Content, Element,
-    ElementFault, Encoding, Family, Fault, Flaw, Found, Header, KeyStructure, Kind, Mark, Name,
-    Options, Place, Plan, Point, Presence, PublicStructure, Reading, RowFacts, Secrecy, Sentence,
-    ServiceStructure, Shown, SignedStructure, Source, Structure, Tag, Way,
+    Advice, Arcs, Armour, Block, Characters, Class, Content, Element, ElementFault, Encoding,
+    Family, Fault, Flaw, Found, Header, Kind, Mark, Name, Options, Place, Plan, Point, Presence,
+    Reading, RowFacts, Secrecy, Sentence, Shown, Source, Structure, Tag, Way,
 };
 
 /// The clone of characters is the same, and never fails.
@@ -67,41 +66,6 @@ pub fn cloned_family(value: &Family) -> Cloned<Family>
 
 /// The clone of a structure is the same, and never fails.
 pub fn cloned_structure(value: &Structure) -> Cloned<Structure>
-    ensures { IsOkAnd result (λ cloned. cloned ≡ value.now) }
-{
-    value.clone()
-}
-
-/// The clone of a structure of keys is the same, and never fails.
-pub fn cloned_key_structure(value: &KeyStructure) -> Cloned<KeyStructure>
-    ensures { IsOkAnd result (λ cloned. cloned ≡ value.now) }
-{
-    value.clone()
-}
-
-/// The clone of a structure of public keys is the same, and never fails.
-pub fn cloned_public_structure(value: &PublicStructure) -> Cloned<PublicStructure>
-    ensures { IsOkAnd result (λ cloned. cloned ≡ value.now) }
-{
-    value.clone()
-}
-
-/// The clone of a structure of certificates is the same, and never fails.
-pub fn cloned_signed_structure(value: &SignedStructure) -> Cloned<SignedStructure>
-    ensures { IsOkAnd result (λ cloned. cloned ≡ value.now) }
-{
-    value.clone()
-}
-
-/// The clone of a structure of containers is the same, and never fails.
-pub fn cloned_container_structure(value: &ContainerStructure) -> Cloned<ContainerStructure>
-    ensures { IsOkAnd result (λ cloned. cloned ≡ value.now) }
-{
-    value.clone()
-}
-
-/// The clone of a structure of services is the same, and never fails.
-pub fn cloned_service_structure(value: &ServiceStructure) -> Cloned<ServiceStructure>
     ensures { IsOkAnd result (λ cloned. cloned ≡ value.now) }
 {
     value.clone()

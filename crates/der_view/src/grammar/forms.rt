@@ -1,21 +1,9 @@
 //! What the whole of some bytes can be.
 use super::Content::{Inside, Short};
 use super::Presence::Needed;
-use super::Structure::{Container, Key, Public, Service, Signed};
-use super::certificates::SignedStructure::{Certificate, CertificateList, CertificationRequest};
-use super::containers::ContainerStructure::{
-    ContentInfo, MdInfo, PbeKeyInfo, PbesKeyInfo, Pfx, SafeContents, Sha1Info, ShaInfo,
-};
-use super::keys::KeyStructure::{
-    DhKeyInfo, DsaKeyInfo, DsaPrivateKey, EcKeyInfo, EcPrivateKey, KeyInfo, KeyPackage,
-    OctetKeyInfo, RsaKeyInfo, RsaPrivateKey, X942KeyInfo,
-};
-use super::public::PublicStructure::{
-    DhParameter, DomainParameters, DsaParameters, EcParameters, EcPublicKeyInfo, PublicKeyInfo,
-    RsaPublicKey, RsaPublicKeyInfo, Signature,
-};
-use super::services::ServiceStructure::{OcspRequest, OcspResponse, TimeStampReq, TimeStampResp};
+use super::Structure::*;
 use super::{Component, Name};
+use Secrecy::{Closed, Private, Public};
 
 /// What the parts of a form can hold.
 #[derive(Clone, Copy)]
@@ -32,253 +20,45 @@ pub enum Secrecy {
 pub type Form = (Component, Secrecy);
 
 /// The first of the forms.
-pub(crate) const FIRST: Form = (
-    (0x30, Needed, Inside(Key(EcPrivateKey)), Name::EcPrivateKey),
-    Secrecy::Private,
-);
+#[rattlefmt::skip]
+pub(crate) const FIRST: Form = ((0x30, Needed, Inside(EcPrivateKey), Name::EcPrivateKey), Private);
 
 /// The others. Of two that as many bytes follow the earlier is meant.
+#[rattlefmt::skip]
 pub(crate) const OTHERS: [Form; 35] = [
-    (
-        (0x30, Needed, Inside(Key(EcKeyInfo)), Name::PrivateKeyInfo),
-        Secrecy::Private,
-    ),
-    (
-        (0x30, Needed, Inside(Key(RsaKeyInfo)), Name::PrivateKeyInfo),
-        Secrecy::Private,
-    ),
-    (
-        (0x30, Needed, Inside(Key(DsaKeyInfo)), Name::PrivateKeyInfo),
-        Secrecy::Private,
-    ),
-    (
-        (0x30, Needed, Inside(Key(DhKeyInfo)), Name::PrivateKeyInfo),
-        Secrecy::Private,
-    ),
-    (
-        (0x30, Needed, Inside(Key(X942KeyInfo)), Name::PrivateKeyInfo),
-        Secrecy::Private,
-    ),
-    (
-        (
-            0x30,
-            Needed,
-            Inside(Key(OctetKeyInfo)),
-            Name::PrivateKeyInfo,
-        ),
-        Secrecy::Private,
-    ),
-    (
-        (0x30, Needed, Inside(Key(KeyInfo)), Name::PrivateKeyInfo),
-        Secrecy::Private,
-    ),
-    (
-        (
-            0x30,
-            Needed,
-            Inside(Key(RsaPrivateKey)),
-            Name::RsaPrivateKey,
-        ),
-        Secrecy::Private,
-    ),
-    (
-        (
-            0x30,
-            Needed,
-            Inside(Key(DsaPrivateKey)),
-            Name::DsaPrivateKey,
-        ),
-        Secrecy::Private,
-    ),
-    (
-        (0x30, Needed, Inside(Container(Pfx)), Name::Pfx),
-        Secrecy::Private,
-    ),
-    (
-        (0x30, Needed, Inside(Signed(Certificate)), Name::Certificate),
-        Secrecy::Public,
-    ),
-    (
-        (
-            0x30,
-            Needed,
-            Inside(Signed(CertificationRequest)),
-            Name::CertificationRequest,
-        ),
-        Secrecy::Public,
-    ),
-    (
-        (
-            0x30,
-            Needed,
-            Inside(Signed(CertificateList)),
-            Name::CertificateList,
-        ),
-        Secrecy::Public,
-    ),
-    (
-        (
-            0x30,
-            Needed,
-            Inside(Public(EcPublicKeyInfo)),
-            Name::PublicKeyInfo,
-        ),
-        Secrecy::Public,
-    ),
-    (
-        (
-            0x30,
-            Needed,
-            Inside(Public(RsaPublicKeyInfo)),
-            Name::PublicKeyInfo,
-        ),
-        Secrecy::Public,
-    ),
-    (
-        (
-            0x30,
-            Needed,
-            Inside(Public(PublicKeyInfo)),
-            Name::PublicKeyInfo,
-        ),
-        Secrecy::Public,
-    ),
-    (
-        (0x30, Needed, Inside(Public(DhParameter)), Name::DhParameter),
-        Secrecy::Closed,
-    ),
-    (
-        (
-            0x30,
-            Needed,
-            Inside(Public(RsaPublicKey)),
-            Name::RsaPublicKey,
-        ),
-        Secrecy::Closed,
-    ),
-    (
-        (0x30, Needed, Inside(Public(Signature)), Name::Signature),
-        Secrecy::Closed,
-    ),
-    (
-        (
-            0x30,
-            Needed,
-            Inside(Public(DsaParameters)),
-            Name::DsaParameters,
-        ),
-        Secrecy::Closed,
-    ),
-    (
-        (
-            0x30,
-            Needed,
-            Inside(Public(DomainParameters)),
-            Name::DomainParameters,
-        ),
-        Secrecy::Closed,
-    ),
-    (
-        (
-            0x30,
-            Needed,
-            Inside(Public(EcParameters)),
-            Name::EcParameters,
-        ),
-        Secrecy::Public,
-    ),
-    (
-        (
-            0x30,
-            Needed,
-            Inside(Container(ContentInfo)),
-            Name::ContentInfo,
-        ),
-        Secrecy::Closed,
-    ),
-    (
-        (
-            0x30,
-            Needed,
-            Inside(Container(PbesKeyInfo)),
-            Name::EncryptedPrivateKeyInfo,
-        ),
-        Secrecy::Closed,
-    ),
-    (
-        (
-            0x30,
-            Needed,
-            Inside(Container(PbeKeyInfo)),
-            Name::EncryptedPrivateKeyInfo,
-        ),
-        Secrecy::Closed,
-    ),
-    (
-        (0x30, Needed, Inside(Container(ShaInfo)), Name::DigestInfo),
-        Secrecy::Closed,
-    ),
-    (
-        (0x30, Needed, Inside(Container(Sha1Info)), Name::DigestInfo),
-        Secrecy::Closed,
-    ),
-    (
-        (0x30, Needed, Inside(Container(MdInfo)), Name::DigestInfo),
-        Secrecy::Closed,
-    ),
-    (
-        (
-            0x30,
-            Needed,
-            Inside(Service(OcspResponse)),
-            Name::OcspResponse,
-        ),
-        Secrecy::Closed,
-    ),
-    (
-        (
-            0x30,
-            Needed,
-            Inside(Service(TimeStampReq)),
-            Name::TimeStampReq,
-        ),
-        Secrecy::Closed,
-    ),
-    (
-        (
-            0x30,
-            Needed,
-            Inside(Service(TimeStampResp)),
-            Name::TimeStampResp,
-        ),
-        Secrecy::Closed,
-    ),
-    (
-        (
-            0x30,
-            Needed,
-            Inside(Service(OcspRequest)),
-            Name::OcspRequest,
-        ),
-        Secrecy::Closed,
-    ),
-    (
-        (
-            0x30,
-            Needed,
-            Inside(Key(KeyPackage)),
-            Name::AsymmetricKeyPackage,
-        ),
-        Secrecy::Private,
-    ),
-    (
-        (
-            0x30,
-            Needed,
-            Inside(Container(SafeContents)),
-            Name::SafeContents,
-        ),
-        Secrecy::Private,
-    ),
-    ((0x06, Needed, Short(12), Name::NamedCurve), Secrecy::Public),
+    ((0x30, Needed, Inside(EcKeyInfo), Name::PrivateKeyInfo), Private),
+    ((0x30, Needed, Inside(RsaKeyInfo), Name::PrivateKeyInfo), Private),
+    ((0x30, Needed, Inside(DsaKeyInfo), Name::PrivateKeyInfo), Private),
+    ((0x30, Needed, Inside(DhKeyInfo), Name::PrivateKeyInfo), Private),
+    ((0x30, Needed, Inside(X942KeyInfo), Name::PrivateKeyInfo), Private),
+    ((0x30, Needed, Inside(OctetKeyInfo), Name::PrivateKeyInfo), Private),
+    ((0x30, Needed, Inside(KeyInfo), Name::PrivateKeyInfo), Private),
+    ((0x30, Needed, Inside(RsaPrivateKey), Name::RsaPrivateKey), Private),
+    ((0x30, Needed, Inside(DsaPrivateKey), Name::DsaPrivateKey), Private),
+    ((0x30, Needed, Inside(Pfx), Name::Pfx), Private),
+    ((0x30, Needed, Inside(Certificate), Name::Certificate), Public),
+    ((0x30, Needed, Inside(CertificationRequest), Name::CertificationRequest), Public),
+    ((0x30, Needed, Inside(CertificateList), Name::CertificateList), Public),
+    ((0x30, Needed, Inside(EcPublicKeyInfo), Name::PublicKeyInfo), Public),
+    ((0x30, Needed, Inside(RsaPublicKeyInfo), Name::PublicKeyInfo), Public),
+    ((0x30, Needed, Inside(PublicKeyInfo), Name::PublicKeyInfo), Public),
+    ((0x30, Needed, Inside(DhParameter), Name::DhParameter), Closed),
+    ((0x30, Needed, Inside(RsaPublicKey), Name::RsaPublicKey), Closed),
+    ((0x30, Needed, Inside(Signature), Name::Signature), Closed),
+    ((0x30, Needed, Inside(DsaParameters), Name::DsaParameters), Closed),
+    ((0x30, Needed, Inside(DomainParameters), Name::DomainParameters), Closed),
+    ((0x30, Needed, Inside(EcParameters), Name::EcParameters), Public),
+    ((0x30, Needed, Inside(ContentInfo), Name::ContentInfo), Closed),
+    ((0x30, Needed, Inside(PbesKeyInfo), Name::EncryptedPrivateKeyInfo), Closed),
+    ((0x30, Needed, Inside(PbeKeyInfo), Name::EncryptedPrivateKeyInfo), Closed),
+    ((0x30, Needed, Inside(ShaInfo), Name::DigestInfo), Closed),
+    ((0x30, Needed, Inside(Sha1Info), Name::DigestInfo), Closed),
+    ((0x30, Needed, Inside(MdInfo), Name::DigestInfo), Closed),
+    ((0x30, Needed, Inside(OcspResponse), Name::OcspResponse), Closed),
+    ((0x30, Needed, Inside(TimeStampReq), Name::TimeStampReq), Closed),
+    ((0x30, Needed, Inside(TimeStampResp), Name::TimeStampResp), Closed),
+    ((0x30, Needed, Inside(OcspRequest), Name::OcspRequest), Closed),
+    ((0x30, Needed, Inside(KeyPackage), Name::AsymmetricKeyPackage), Private),
+    ((0x30, Needed, Inside(SafeContents), Name::SafeContents), Private),
+    ((0x06, Needed, Short(12), Name::NamedCurve), Public),
 ];
