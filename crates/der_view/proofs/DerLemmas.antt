@@ -1,28 +1,26 @@
--- Headers in DER are headers.
-use Rattle.std.proofs.Common.{◌≡◌, ℕ, suc, ◌+◌, ◌-◌, ◌/◌, ◌%◌, ◌==◌, ◌≤◌, ⊎_elim, Bool, true, false, List}
-use Rattle.std.proofs.Common.{◌∷◌, ◌++◌, length, take, if◌then◌else◌, refl, arith, Some, Ok, Err}
-use Rattle.std.proofs.Common.{not, ◌||◌, lt-ltb, ne_eqb, length-append}
+-- Elements in DER are elements.
+use Rattle.std.proofs.Common.{◌≡◌, ℕ, suc, ◌+◌, ◌-◌, ◌/◌, ◌%◌, ◌==◌, ◌≤◌, ⊎_elim, Bool, true, false, List, ◌++◌, length}
+use Rattle.std.proofs.Common.{take, drop, if◌then◌else◌, refl, sym, ap, ◌∙◌, arith, Option, Some, None, Result, Ok, []}
+use Rattle.std.proofs.Common.{◌&&◌, not, ◌||◌, lt-ltb, ne_eqb, length-append}
 use Rattle.std.proofs.lemmas.Bool.{and_parts, cases_lt}
 use Rattle.std.proofs.lemmas.Bool.Decides.{nat_tests}
 use Rattle.std.proofs.lemmas.Int.Digits.{length-digits_of_step, length-digits_of-le, number_digits_of}
-use Rattle.std.proofs.lemmas.List.{take_at}
+use Rattle.std.proofs.lemmas.List.{drop_all, drop_at, take_all, take_at}
 use Rattle.std.specs.Int.Digits.{digits_of}
 use Rattle.std.specs.Prelude.{nat_lt}
 use Rattle.sec1_der.proofs.LengthLaws.{len_1, len_long}
-use Rattle.sec1_der.specs.Elements.{header, length_octets, max_length, number_of}
+use Rattle.sec1_der.specs.Elements.{header, length_octets, number_of}
 use Rattle.der_view.specs.Headers.{header_of, length_at, max_content_len, tag_of}
 use Rattle.der_view.specs.Keys.{is_low}
-use Rattle.der_view.specs.declared.header.ElementFault.TheVariants as faults
+use Rattle.der_view.specs.Rows.{element_at, element_by}
+use Rattle.der_view.specs.declared.header.ElementFault.{ElementFault}
 use Rattle.der_view.specs.declared.header.Header.{Header}
 
--- the length of a content in DER, which is refused above a limit
-length_if : (n : ℕ) (rest : List ℕ) → n ≤ max_length
-    → length_at (length_octets n ++ rest)
-    ≡ (if nat_lt max_content_len n then Err faults.LengthTooLarge else Ok (Some n, length (length_octets n)))
-length_if n rest few = ⊎_elim
-    (λ small.
-    let within : nat_lt max_content_len n ≡ false = grind (arith, nat_tests) in
-    rw (within, len_1 n small, lt-ltb n 128 small) refl)
+-- the length of a content in DER
+length_in_der : (n : ℕ) (rest : List ℕ) → n ≤ max_content_len
+    → length_at (length_octets n ++ rest) ≡ Ok (Some n, length (length_octets n))
+length_in_der n rest few = ⊎_elim
+    (λ small. rw (len_1 n small, lt-ltb n 128 small) refl)
     (λ large.
     let d : ℕ = length (digits_of 256 n) in
     let more : d ≡ length (digits_of 256 (n / 256)) + 1 = length-digits_of_step 256 n (omega arith) (omega arith) in
@@ -37,24 +35,13 @@ length_if n rest few = ⊎_elim
     grind (arith, nat_tests) in
     let front : take d (digits_of 256 n ++ rest) ≡ digits_of 256 n = take_at (digits_of 256 n) rest d refl in
     let number : number_of (digits_of 256 n) ≡ n = number_digits_of 256 n (omega arith) in
+    let within : nat_lt max_content_len n ≡ false = grind (arith, nat_tests) in
     let size : d + 1 ≡ suc d = omega arith in
-    rw (len_long n (digits_of 256 n) large refl, long, some, other, short, count, fits, front, number, size) refl)
+    rw (len_long n (digits_of 256 n) large refl, long, some, other, short, count, fits, front, number, within, size)
+    refl)
     (cases_lt n 128)
 
-length_in_der : (n : ℕ) (rest : List ℕ) → n ≤ max_content_len
-    → length_at (length_octets n ++ rest) ≡ Ok (Some n, length (length_octets n))
-length_in_der n rest few =
-    let within : nat_lt max_content_len n ≡ false = grind (arith, nat_tests) in
-    rw within at (length_if n rest (omega arith))
-
 -- the header of an element of n bytes
-pub record IsHead (tag : ℕ) (front : List ℕ) (found : Header) (n : ℕ) : Type 0 where
-  pub tail : List ℕ
-  pub begins : front ≡ tag ∷ tail
-  pub is : (rest : List ℕ) → header_of (front ++ rest) ≡ Ok found
-  pub len : found.len ≡ length front
-  pub content : found.content_len ≡ Some n
-
 abbrev pub der_header : ℕ → ℕ → Header
 der_header tag n = record {
   tag = tag_of tag (tag % 0x20);
@@ -63,19 +50,38 @@ der_header tag n = record {
   content_len = Some n;
 }
 
-not_true : (a : Bool) → not a ≡ true → a ≡ false
-not_true true is = cc
-not_true false is = refl
+pub head_len : (tag n : ℕ) → (der_header tag n).len ≡ length (header tag n)
+head_len tag n = omega arith
 
-pub head_in_der : (tag n : ℕ) → is_low tag ≡ true → n ≤ max_content_len → IsHead tag (header tag n) (der_header tag n) n
-head_in_der tag n low few =
+head_in_der : (tag n : ℕ) (x : List ℕ) → is_low tag ≡ true → n ≤ max_content_len
+    → header_of (header tag n ++ x) ≡ Ok (der_header tag n)
+head_in_der tag n x low few =
     let parts = and_parts (not (tag == 0x00 || tag == 0x20)) (nat_lt (tag % 0x20) 0x1F) low in
     let free : (tag == 0x00 || tag == 0x20) ≡ false = not_true (tag == 0x00 || tag == 0x20) parts.0 in
     let small : nat_lt (tag % 0x20) 0x1F ≡ true = parts.1 in
-    record {
-      tail = length_octets n;
-      begins = refl;
-      is = λ rest. rw (free, small, length_in_der n rest few) refl;
-      len = omega arith;
-      content = refl;
-    }
+    rw (free, small, length_in_der n x few) refl
+  where
+    not_true : (a : Bool) → not a ≡ true → a ≡ false
+    not_true true is = cc
+    not_true false is = refl
+
+-- the element which bytes begin with
+pub element_in_der : (cut : Bool) (tag n : ℕ) (x : List ℕ) → is_low tag ≡ true → n ≤ max_content_len
+    → element_at cut (header tag n ++ x)
+    ≡ (if nat_lt (length x) n && not cut then None else Some (der_header tag n, take n x, drop n x))
+element_in_der cut tag n x low few =
+    let tail : drop (der_header tag n).len (header tag n ++ x) ≡ x =
+    drop_at (header tag n) x (der_header tag n).len (sym (head_len tag n)) in
+    ap (λ (r : Result Header ElementFault). element_by cut (header tag n ++ x) r) (head_in_der tag n x low few)
+    ∙ rw tail (by_len (nat_lt (length x) n) cut refl)
+  where
+    by_len : (test c : Bool) → nat_lt (length x) n ≡ test
+        → ◌≡◌ {A = Option (Header × List ℕ × List ℕ)}
+        (if test then (if c then Some (der_header tag n, x, []) else None)
+        else Some (der_header tag n, take n x, drop n x))
+        (if test && not c then None else Some (der_header tag n, take n x, drop n x))
+    by_len false c short = refl
+    by_len true false short = refl
+    by_len true true short =
+        let few : length x ≤ n = grind (arith, nat_tests) in
+        rw (take_all n x few, drop_all n x few) refl

@@ -7,9 +7,8 @@ ghost use Rattle.sec1_der.specs.Elements.{header};
 ghost use Rattle.der_view.specs.Drawings.{has_key, is_key_of, picture_text};
 ghost use Rattle.der_view.specs.Grammar.{Component, Form};
 ghost use Rattle.der_view.specs.Headers.{max_content_len};
-ghost use Rattle.der_view.specs.Keys.{AreLevels, AreParts, DifferIn, IsContent, IsCutIn};
-ghost use Rattle.der_view.specs.Keys.{container, container_parts, integers, key_bytes, key_in};
-ghost use Rattle.der_view.specs.Keys.{sequence};
+ghost use Rattle.der_view.specs.Keys.{AreParts, AreUnseen, DifferIn, IsContent, IsCutIn, container};
+ghost use Rattle.der_view.specs.Keys.{container_parts, integers, key_bytes, key_in, sequence};
 ghost use Rattle.der_view.specs.Masks.{AreAlike, mask_as, masked};
 ghost use Rattle.der_view.specs.Pictures.{picture, plan_of, rows_as, whole_as};
 ghost use Rattle.der_view.specs.RowLaws.{AllFollow, AreAt, rows_len};
@@ -47,50 +46,23 @@ pub fn pictures_are_of_masks()
 /// bytes: one of fewer is shown in a whole tree that isn't the key.
 pub fn keys_are_unseen()
     // RFC 5915 section 3: ECPrivateKey
-    ensures ec { (m n : ℕ) (version x y rest : List ℕ) → length version ≤ max_content_len
-        → DifferIn n x y → IsContent m (key_in [] ((0x02, version) ∷ []) 0x04 n x) rest
-        → AreAlike (key_bytes m [] ((0x02, version) ∷ []) 0x04 n x rest)
-        (key_bytes m [] ((0x02, version) ∷ []) 0x04 n y rest) }
+    ensures ec { (n : ℕ) (version : List ℕ) → AreUnseen [] ((0x02, version) ∷ []) 0x04 n }
     // RFC 8017 appendix A.1.2: RSAPrivateKey, from the fourth number on; and the sixth of a DSA key
-    ensures number { (m n : ℕ) (numbers : List (List ℕ)) (x y rest : List ℕ)
-        → AreParts (integers numbers) → 3 ≤ length numbers → length numbers ≤ 8 → 8 < n
-        → DifferIn n x y
-        → IsContent m (key_in [] (integers numbers) 0x02 n x) rest
-        → AreAlike (key_bytes m [] (integers numbers) 0x02 n x rest)
-        (key_bytes m [] (integers numbers) 0x02 n y rest) }
+    ensures number { (n : ℕ) (numbers : List (List ℕ)) → 3 ≤ length numbers → length numbers ≤ 8
+        → 8 < n → AreUnseen [] (integers numbers) 0x02 n }
     // RFC 5958 section 2: ECPrivateKey in PKCS #8
-    ensures contained_ec { (m n : ℕ) (version algorithm inner after x y rest : List ℕ)
-        → AreLevels (container version algorithm after ∷ sequence ∷ []) ((0x02, inner) ∷ []) 0x04
-        n x → DifferIn n x y
-        → IsContent m (key_in (container version algorithm after ∷ sequence ∷ [])
-        ((0x02, inner) ∷ []) 0x04 n x) rest
-        → AreAlike (key_bytes m (container version algorithm after ∷ sequence ∷ [])
-        ((0x02, inner) ∷ []) 0x04 n x rest)
-        (key_bytes m (container version algorithm after ∷ sequence ∷ [])
-        ((0x02, inner) ∷ []) 0x04 n y rest) }
+    ensures contained_ec { (n : ℕ) (version algorithm inner after : List ℕ)
+        → AreUnseen (container version algorithm after ∷ sequence ∷ []) ((0x02, inner) ∷ []) 0x04 n }
     // RSAPrivateKey in PKCS #8
-    ensures contained_rsa { (m n : ℕ) (version algorithm after : List ℕ)
-        (numbers : List (List ℕ)) (x y rest : List ℕ)
-        → AreLevels (container version algorithm after ∷ sequence ∷ []) (integers numbers) 0x02 n x
-        → 3 ≤ length numbers → length numbers ≤ 8 → 8 < n → DifferIn n x y
-        → IsContent m (key_in (container version algorithm after ∷ sequence ∷ [])
-        (integers numbers) 0x02 n x) rest
-        → AreAlike (key_bytes m (container version algorithm after ∷ sequence ∷ [])
-        (integers numbers) 0x02 n x rest)
-        (key_bytes m (container version algorithm after ∷ sequence ∷ [])
-        (integers numbers) 0x02 n y rest) }
+    ensures contained_rsa { (n : ℕ) (version algorithm after : List ℕ) (numbers : List (List ℕ))
+        → 3 ≤ length numbers → length numbers ≤ 8 → 8 < n
+        → AreUnseen (container version algorithm after ∷ sequence ∷ []) (integers numbers) 0x02 n }
     // a DSA or Diffie-Hellman key in PKCS #8
-    ensures contained_number { (m n : ℕ) (version algorithm after x y rest : List ℕ)
-        → AreLevels (container version algorithm after ∷ []) [] 0x02 n x → 8 < n → DifferIn n x y
-        → IsContent m (key_in (container version algorithm after ∷ []) [] 0x02 n x) rest
-        → AreAlike (key_bytes m (container version algorithm after ∷ []) [] 0x02 n x rest)
-        (key_bytes m (container version algorithm after ∷ []) [] 0x02 n y rest) }
+    ensures contained_number { (n : ℕ) (version algorithm after : List ℕ) → 8 < n
+        → AreUnseen (container version algorithm after ∷ []) [] 0x02 n }
     // RFC 8410 section 7: CurvePrivateKey in PKCS #8
-    ensures contained_octets { (m n : ℕ) (version algorithm after x y rest : List ℕ)
-        → AreLevels (container version algorithm after ∷ []) [] 0x04 n x → DifferIn n x y
-        → IsContent m (key_in (container version algorithm after ∷ []) [] 0x04 n x) rest
-        → AreAlike (key_bytes m (container version algorithm after ∷ []) [] 0x04 n x rest)
-        (key_bytes m (container version algorithm after ∷ []) [] 0x04 n y rest) }
+    ensures contained_octets { (n : ℕ) (version algorithm after : List ℕ)
+        → AreUnseen (container version algorithm after ∷ []) [] 0x04 n }
     // any key in PKCS #8 that is cut inside the privateKey
     ensures contained_cut { (m n tag k : ℕ) (version algorithm x y rest : List ℕ)
         → IsCutIn n tag k x → AreParts (container_parts version algorithm)
