@@ -11,7 +11,8 @@ use Rattle.sec1_der.specs.Elements.{header}
 use Rattle.der_view.specs.Contents.{has_type, is_number, is_small}
 use Rattle.der_view.specs.Grammar.{Component, Form, cases, components, container_components, key_components}
 use Rattle.der_view.specs.Grammar.{public_components, service_components, signed_components}
-use Rattle.der_view.specs.Keys.{AreParts, AreUnseen, DifferIn, IsContent, IsCutIn, Level, Part, integers, key_bytes}
+use Rattle.der_view.specs.Headers.{max_content_len}
+use Rattle.der_view.specs.Keys.{AreLevels, AreParts, AreUnseen, IsContent, IsCutIn, Level, Part, integers, key_bytes}
 use Rattle.der_view.specs.Keys.{key_in}
 use Rattle.der_view.specs.Masks.{AreAlike, AreAlikeAs, mask_as, mask_by_way, mask_with, next_mask, undrawn}
 use Rattle.der_view.specs.Pictures.{best, better, form_by, is_nearer, is_retagged, is_tree, known_as, left_as, nearest}
@@ -172,10 +173,11 @@ input_alike holds m a b rest is alike known =
 abbrev pub is_blind : List Level → List ℕ → ℕ → Bool
 is_blind levels tags tag = forms_hold (λ cs. blind levels tags tag cs) (tables.FIRST ∷ tables.OTHERS)
 
-pub unseen : (levels : List Level) (before : List Part) (tag n : ℕ) → AreShut levels tag n
-    → is_blind levels (tags_of before) tag ≡ true → AreUnseen levels before tag n
+pub unseen : (levels : List Level) (before : List Part) (tag m n : ℕ) (x y rest : List ℕ) → AreShut levels tag n
+    → is_blind levels (tags_of before) tag ≡ true → AreLevels levels before tag n x
+    → AreUnseen m levels before tag n x y rest
 unfolding key_bytes
-unseen levels before tag n shut known m x y rest are differ is =
+unseen levels before tag m n x y rest shut known are differ is =
     input_alike (λ cs. blind levels (tags_of before) tag cs) m (key_in levels before tag n x) (key_in levels before tag n y) rest
     is (key_alike levels before tag n x y are shut differ) known
 
@@ -204,14 +206,11 @@ cut_in n tag k x y is same =
     rw (← size, take-append-add front y left) (cut_unfollowed tag k (take left y) is.low is.few few)
 
 pub cut_unseen : (m n tag k : ℕ) (before : List Part) (x y rest : List ℕ) → IsCutIn n tag k x → AreParts before
-    → DifferIn n (header tag k ++ x) (header tag k ++ y)
-    → IsContent m (key_in [] before 0x04 n (header tag k ++ x)) rest
     → forms_hold (λ cs. passed (λ ds. goes is_shut everything (fitting 0x04 ds)) (tags_of before) cs)
     (tables.FIRST ∷ tables.OTHERS) ≡ true
-    → AreAlike (key_bytes m [] before 0x04 n (header tag k ++ x) rest)
-    (key_bytes m [] before 0x04 n (header tag k ++ y) rest)
+    → AreUnseen m [] before 0x04 n (header tag k ++ x) (header tag k ++ y) rest
 unfolding key_bytes
-cut_unseen m n tag k before x y rest cut are differ is known =
+cut_unseen m n tag k before x y rest cut are known differ is =
     input_alike (λ cs. passed (λ ds. goes is_shut everything (fitting 0x04 ds)) (tags_of before) cs) m
     (key_in [] before 0x04 n (header tag k ++ x)) (key_in [] before 0x04 n (header tag k ++ y)) rest is
     (cut_alike before 0x04 n (header tag k ++ x) (header tag k ++ y) are refl (octets_shut n, refl) differ
@@ -236,21 +235,23 @@ tags_same : (numbers : List (List ℕ)) → tags_of (integers numbers) ≡ repli
 tags_same [] = refl
 tags_same (number ∷ numbers) = ap (λ (tags : List ℕ). 0x02 ∷ tags) (tags_same numbers)
 
-pub numbers_unseen : (levels : List Level) (numbers : List (List ℕ)) (n : ℕ) → AreShut levels 0x02 n
-    → 3 ≤ length numbers → length numbers ≤ 8
-    → all_below (λ k. is_blind levels (replicate (3 + k) 0x02) 0x02) 6 ≡ true
-    → AreUnseen levels (integers numbers) 0x02 n
-numbers_unseen levels numbers n shut some few all =
+pub numbers_unseen : (levels : List Level) (numbers : List (List ℕ)) (m n : ℕ) (x y rest : List ℕ)
+    → AreShut levels 0x02 n → all_below (λ k. is_blind levels (replicate (3 + k) 0x02) 0x02) 6 ≡ true
+    → AreLevels levels (integers numbers) 0x02 n x → 3 ≤ length numbers → length numbers ≤ 8
+    → AreUnseen m levels (integers numbers) 0x02 n x y rest
+numbers_unseen levels numbers m n x y rest shut all are some few =
     let k : ℕ = length numbers - 3 in
     let size : 3 + k ≡ length numbers = omega (arith, some) in
     let less : k < 6 = omega (arith, few) in
-    unseen levels (integers numbers) 0x02 n shut
+    unseen levels (integers numbers) 0x02 m n x y rest shut
     (subst (λ (tags : List ℕ). is_blind levels tags 0x02 ≡ true) (sym (tags_same numbers))
     (subst (λ (j : ℕ). is_blind levels (replicate j 0x02) 0x02 ≡ true) size
-    (below (λ j. is_blind levels (replicate (3 + j) 0x02) 0x02) 6 k all less)))
+    (below (λ j. is_blind levels (replicate (3 + j) 0x02) 0x02) 6 k all less))) are
 
 -- ---- an ECPrivateKey
 
-pub ec_unseen : (n : ℕ) (version : List ℕ) → AreUnseen [] ((0x02, version) ∷ []) 0x04 n
+pub ec_unseen : (m n : ℕ) (version x y rest : List ℕ) → length version ≤ max_content_len
+    → AreUnseen m [] ((0x02, version) ∷ []) 0x04 n x y rest
 unfolding cases components container_components key_components public_components service_components signed_components
-ec_unseen n version = unseen [] ((0x02, version) ∷ []) 0x04 n (octets_shut n, refl) refl
+ec_unseen m n version x y rest few =
+    unseen [] ((0x02, version) ∷ []) 0x04 m n x y rest (octets_shut n, refl) refl ((refl, few, tt), refl)

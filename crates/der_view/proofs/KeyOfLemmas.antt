@@ -64,5 +64,5 @@ keys_alike k l a b p q parameters public_key size few =
           ∙ (after ∙ sym (drop_at l.private_key (after_key l) n (sym size)));
     } in
     rw (key_form k a p, rw (← size, both) at (key_form l b q))
-    (ec_unseen n (1 ∷ []) (length (ec_in n x)) x y [] ((refl, omega arith, tt), refl) differ
+    (ec_unseen (length (ec_in n x)) n (1 ∷ []) x y [] (omega arith) differ
     (record { few = fits; there = inl refl }))

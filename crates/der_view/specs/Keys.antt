@@ -58,12 +58,10 @@ AreLevels (level ∷ levels) before tag n x =
     AreParts level.before × (is_low level.tag ≡ true)
     × (length (key_in levels before tag n x) ≤ max_content_len) × AreLevels levels before tag n x
 
--- Inputs that differ in such a private element have the same masks, however the bytes go on, and
--- wherever they end.
-abbrev pub AreUnseen : List Level → List Part → ℕ → ℕ → Type 0
-AreUnseen levels before tag n =
-    (m : ℕ) (x y rest : List ℕ) → AreLevels levels before tag n x → DifferIn n x y
-    → IsContent m (key_in levels before tag n x) rest
+-- Inputs that differ in such a private element alone have the same masks.
+abbrev pub AreUnseen : ℕ → List Level → List Part → ℕ → ℕ → List ℕ → List ℕ → List ℕ → Type 0
+AreUnseen m levels before tag n x y rest =
+    DifferIn n x y → IsContent m (key_in levels before tag n x) rest
     → AreAlike (key_bytes m levels before tag n x rest) (key_bytes m levels before tag n y rest)
 
 -- RFC 8017 appendix A.1.2: INTEGERs with these contents

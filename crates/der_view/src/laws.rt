@@ -7,8 +7,8 @@ ghost use Rattle.sec1_der.specs.Elements.{header};
 ghost use Rattle.der_view.specs.Drawings.{has_key, is_key_of, picture_text};
 ghost use Rattle.der_view.specs.Grammar.{Component, Form};
 ghost use Rattle.der_view.specs.Headers.{max_content_len};
-ghost use Rattle.der_view.specs.Keys.{AreParts, AreUnseen, DifferIn, IsContent, IsCutIn, container};
-ghost use Rattle.der_view.specs.Keys.{container_parts, integers, key_bytes, key_in, sequence};
+ghost use Rattle.der_view.specs.Keys.{AreLevels, AreParts, AreUnseen, IsCutIn, container};
+ghost use Rattle.der_view.specs.Keys.{container_parts, integers, sequence};
 ghost use Rattle.der_view.specs.Masks.{AreAlike, mask_as, masked};
 ghost use Rattle.der_view.specs.Pictures.{picture, plan_of, rows_as, whole_as};
 ghost use Rattle.der_view.specs.RowLaws.{AllFollow, AreAt, rows_len};
@@ -46,32 +46,36 @@ pub fn pictures_are_of_masks()
 /// bytes: one of fewer is shown in a whole tree that isn't the key.
 pub fn keys_are_unseen()
     // RFC 5915 section 3: ECPrivateKey
-    ensures ec { (n : ℕ) (version : List ℕ) → AreUnseen [] ((0x02, version) ∷ []) 0x04 n }
+    ensures ec { (m n : ℕ) (version x y rest : List ℕ) → length version ≤ max_content_len
+        → AreUnseen m [] ((0x02, version) ∷ []) 0x04 n x y rest }
     // RFC 8017 appendix A.1.2: RSAPrivateKey, from the fourth number on; and the sixth of a DSA key
-    ensures number { (n : ℕ) (numbers : List (List ℕ)) → 3 ≤ length numbers → length numbers ≤ 8
-        → 8 < n → AreUnseen [] (integers numbers) 0x02 n }
+    ensures number { (m n : ℕ) (numbers : List (List ℕ)) (x y rest : List ℕ)
+        → AreParts (integers numbers) → 3 ≤ length numbers → length numbers ≤ 8 → 8 < n
+        → AreUnseen m [] (integers numbers) 0x02 n x y rest }
     // RFC 5958 section 2: ECPrivateKey in PKCS #8
-    ensures contained_ec { (n : ℕ) (version algorithm inner after : List ℕ)
-        → AreUnseen (container version algorithm after ∷ sequence ∷ []) ((0x02, inner) ∷ []) 0x04 n }
+    ensures contained_ec { (m n : ℕ) (version algorithm inner after x y rest : List ℕ)
+        → let around = container version algorithm after ∷ sequence ∷ [] in
+        AreLevels around ((0x02, inner) ∷ []) 0x04 n x
+        → AreUnseen m around ((0x02, inner) ∷ []) 0x04 n x y rest }
     // RSAPrivateKey in PKCS #8
-    ensures contained_rsa { (n : ℕ) (version algorithm after : List ℕ) (numbers : List (List ℕ))
-        → 3 ≤ length numbers → length numbers ≤ 8 → 8 < n
-        → AreUnseen (container version algorithm after ∷ sequence ∷ []) (integers numbers) 0x02 n }
+    ensures contained_rsa { (m n : ℕ) (version algorithm after : List ℕ)
+        (numbers : List (List ℕ)) (x y rest : List ℕ)
+        → let around = container version algorithm after ∷ sequence ∷ [] in
+        AreLevels around (integers numbers) 0x02 n x → 3 ≤ length numbers → length numbers ≤ 8
+        → 8 < n → AreUnseen m around (integers numbers) 0x02 n x y rest }
     // a DSA or Diffie-Hellman key in PKCS #8
-    ensures contained_number { (n : ℕ) (version algorithm after : List ℕ) → 8 < n
-        → AreUnseen (container version algorithm after ∷ []) [] 0x02 n }
+    ensures contained_number { (m n : ℕ) (version algorithm after x y rest : List ℕ)
+        → let around = container version algorithm after ∷ [] in
+        AreLevels around [] 0x02 n x → 8 < n → AreUnseen m around [] 0x02 n x y rest }
     // RFC 8410 section 7: CurvePrivateKey in PKCS #8
-    ensures contained_octets { (n : ℕ) (version algorithm after : List ℕ)
-        → AreUnseen (container version algorithm after ∷ []) [] 0x04 n }
+    ensures contained_octets { (m n : ℕ) (version algorithm after x y rest : List ℕ)
+        → let around = container version algorithm after ∷ [] in
+        AreLevels around [] 0x04 n x → AreUnseen m around [] 0x04 n x y rest }
     // any key in PKCS #8 that is cut inside the privateKey
     ensures contained_cut { (m n tag k : ℕ) (version algorithm x y rest : List ℕ)
-        → IsCutIn n tag k x → AreParts (container_parts version algorithm)
-        → DifferIn n (header tag k ++ x) (header tag k ++ y)
-        → IsContent m (key_in [] (container_parts version algorithm) 0x04 n (header tag k ++ x))
-        rest
-        → AreAlike
-        (key_bytes m [] (container_parts version algorithm) 0x04 n (header tag k ++ x) rest)
-        (key_bytes m [] (container_parts version algorithm) 0x04 n (header tag k ++ y) rest) }
+        → let before = container_parts version algorithm in
+        IsCutIn n tag k x → AreParts before
+        → AreUnseen m [] before 0x04 n (header tag k ++ x) (header tag k ++ y) rest }
 {}
 
 /// Keys with the same curve and public key, and private keys as long, have the same masks.

@@ -11,32 +11,32 @@ returns-clause-ec c = ec_unseen
 
 pub returns-clause-number : goal.returns-clause-number
 unfolding cases components container_components key_components public_components service_components signed_components
-returns-clause-number c n numbers some few long =
-    numbers_unseen [] numbers n (number_shut n long, refl) some few refl
+returns-clause-number c m n numbers x y rest are some few long =
+    numbers_unseen [] numbers m n x y rest (number_shut n long, refl) refl (are, refl) some few
 
 pub returns-clause-contained_ec : goal.returns-clause-contained_ec
 unfolding cases components container_components key_components public_components service_components signed_components
-returns-clause-contained_ec c n version algorithm inner after =
-    unseen (container version algorithm after ∷ sequence ∷ []) ((0x02, inner) ∷ []) 0x04 n
+returns-clause-contained_ec c m n version algorithm inner after x y rest =
+    unseen (container version algorithm after ∷ sequence ∷ []) ((0x02, inner) ∷ []) 0x04 m n x y rest
     (octets_shut, (sequence_shut, (octets_shut n, refl))) refl
 
 pub returns-clause-contained_rsa : goal.returns-clause-contained_rsa
 unfolding cases components container_components key_components public_components service_components signed_components
-returns-clause-contained_rsa c n version algorithm after numbers some few long =
-    numbers_unseen (container version algorithm after ∷ sequence ∷ []) numbers n
-    (octets_shut, (sequence_shut, (number_shut n long, refl))) some few refl
+returns-clause-contained_rsa c m n version algorithm after numbers x y rest are some few long =
+    numbers_unseen (container version algorithm after ∷ sequence ∷ []) numbers m n x y rest
+    (octets_shut, (sequence_shut, (number_shut n long, refl))) refl are some few
 
 pub returns-clause-contained_number : goal.returns-clause-contained_number
 unfolding cases components container_components key_components public_components service_components signed_components
-returns-clause-contained_number c n version algorithm after long =
-    unseen (container version algorithm after ∷ []) [] 0x02 n (octets_shut, (number_shut n long, refl)) refl
+returns-clause-contained_number c m n version algorithm after x y rest are long =
+    unseen (container version algorithm after ∷ []) [] 0x02 m n x y rest (octets_shut, (number_shut n long, refl)) refl are
 
 pub returns-clause-contained_octets : goal.returns-clause-contained_octets
 unfolding cases components container_components key_components public_components service_components signed_components
-returns-clause-contained_octets c n version algorithm after =
-    unseen (container version algorithm after ∷ []) [] 0x04 n (octets_shut, (octets_shut n, refl)) refl
+returns-clause-contained_octets c m n version algorithm after x y rest =
+    unseen (container version algorithm after ∷ []) [] 0x04 m n x y rest (octets_shut, (octets_shut n, refl)) refl
 
 pub returns-clause-contained_cut : goal.returns-clause-contained_cut
 unfolding cases components container_components key_components public_components service_components signed_components
-returns-clause-contained_cut c m n tag k version algorithm x y rest cut are differ is =
-    cut_unseen m n tag k (container_parts version algorithm) x y rest cut are differ is refl
+returns-clause-contained_cut c m n tag k version algorithm x y rest cut are =
+    cut_unseen m n tag k (container_parts version algorithm) x y rest cut are refl
