@@ -1,6 +1,7 @@
 -- A key is an ECPrivateKey, whole, and each of its elements follows.
-use Rattle.std.proofs.Common.{◌≡◌, ℕ, zero, suc, ◌+◌, ◌<◌, ◌≤◌, ◌&&◌, Bool, true, false, List, [], ◌∷◌, ◌++◌, length}
-use Rattle.std.proofs.Common.{refl, sym, ap, ◌∙◌, Option, Some, None, arith, eq-eqb, append_assoc, subst, drop, ◌==◌}
+use Rattle.std.proofs.Common.{◌≡◌, ℕ, zero, suc, ◌+◌, ◌<◌, ◌≤◌, Bool, true, false, List, [], ◌∷◌, ◌++◌, length, refl}
+use Rattle.std.proofs.Common.{sym, ap, ◌∙◌, Option, Some, None, arith, eq-eqb, append_assoc, subst, drop, ◌==◌}
+use Rattle.std.proofs.Math.Bool.{and-false}
 use Rattle.std.proofs.lemmas.Bool.Decides.{nat_tests}
 use Rattle.std.proofs.lemmas.List.{drop_at, length-append, take_at}
 use Rattle.std.proofs.Math.Seq.{drop-length, take-length}
@@ -130,15 +131,6 @@ element_follows depth some tag content rest c others deep low is goes next (suc 
             (rows_of strictly k false (after place bytes step.rest) step.others step.rest) (own.rows place here)
             (more.rows (after place bytes step.rest) here))
 
--- a content that isn't elements
-leaf_goes : (most depth : ℕ) (some : List Component) (step : Step) → step.follows ≡ true
-    → ((whole : Structure → List ℕ → Bool) → opened_in whole false step.header step.component.2 step.content ≡ None)
-    → Goes most depth some step
-leaf_goes most depth some step follows shut = record {
-  rest = rw shut refl;
-  rows = λ place here. rw shut (follows, tt);
-}
-
 -- a content that is a structure
 inside_goes : (most depth : ℕ) (some : List Component) (h : Header) (front : List ℕ) (g : ℕ) (p : Presence)
     (s : Structure) (name : Name) (others : List Component) (content rest : List ℕ)
@@ -152,16 +144,15 @@ inside_goes most depth some h front g p s name others content rest definite inne
 
 -- ---- an ECPrivateKey
 
+-- with a content that isn't elements
 leaf_follows : (depth : ℕ) (some : List Component) (tag : ℕ) (content rest : List ℕ) (c : Component)
     (others : List Component) → nat_lt depth 64 ≡ true → is_low tag ≡ true
     → component_at tag (der_header tag (length content)) content some ≡ Some (c, others)
-    → ((whole : Structure → List ℕ → Bool)
-    → opened_in whole false (der_header tag (length content)) c.2 content ≡ None)
+    → ((whole : Structure → List ℕ → Bool) → opened_in whole false (der_header tag (length content)) c.2 content ≡ None)
     → Follows depth others rest → Follows depth some (element tag content ++ rest)
 leaf_follows depth some tag content rest c others deep low is shut next =
     element_follows depth some tag content rest c others deep low is
-    (λ most few less. leaf_goes most depth some (step_as (der_header tag (length content)) (header tag (length content)) c
-    others true content rest) refl shut) next
+    (λ most few less. record { rest = rw shut refl; rows = λ place here. rw shut (refl, tt) }) next
 
 -- a field in which is one element
 field_follows : (some : List Component) (tag inner : ℕ) (content rest : List ℕ) (g : ℕ) (p : Presence) (s : Structure)
@@ -243,10 +234,6 @@ key_is key a is few =
 
 -- ---- the form
 
-and_none : (b : Bool) → (b && false) ≡ false
-and_none true = refl
-and_none false = refl
-
 best_none : (bytes : List ℕ) (first : Form) (others : List Form) → left_as first.0 bytes ≡ 0
     → whole_as false first.0 bytes ≡ true → best bytes first others ≡ first
 unfolding best better
@@ -258,8 +245,8 @@ best_none bytes first (second ∷ others) none whole =
     rw (
       fewer,
       whole,
-      and_none (whole_as false second.0 bytes),
-      and_none (left_as second.0 bytes == left_as first.0 bytes),
+      and-false (whole_as false second.0 bytes),
+      and-false (left_as second.0 bytes == left_as first.0 bytes),
     ) refl in
     ap (λ (form : Form). best bytes form others)
     (ap (λ (b : Bool). if b then second else first) test) ∙ best_none bytes first others none whole

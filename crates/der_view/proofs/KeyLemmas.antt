@@ -1,19 +1,22 @@
 -- Masks of elements in DER whose contents differ, of what is around them, and of private keys.
-use Rattle.std.proofs.Common.{◌≡◌, ◌==◌, ◌&&◌, ◌||◌, ℕ, zero, suc, ◌+◌, ◌<◌, ◌≤◌, Bool, true, false, List, [], ◌∷◌}
+use Rattle.std.proofs.Common.{ap₂, ◌||◌, ◌≡◌, ◌==◌, ◌&&◌, ℕ, zero, suc, ◌+◌, ◌<◌, ◌≤◌, Bool, true, false, List, [], ◌∷◌}
 use Rattle.std.proofs.Common.{◌++◌, length, take, drop, refl, sym, ap, ◌∙◌, Option, Some, None, arith, length-append}
 use Rattle.std.proofs.Common.{append_assoc, ⊎_elim, append-nil, inl}
+use Rattle.der_view.specs.Rows.{after_inside, inside_bytes, inside_loose, is_open, opened_of, rest_after, rest_of}
+use Rattle.der_view.specs.Rows.{rest_with, Step, admits, chosen, component_at, component_by, end_at, fitting, has_tag}
+use Rattle.der_view.specs.Rows.{is_followed, opened_in, others_after, step_at, step_by, step_made, step_with}
+use Rattle.std.proofs.Math.Bool.{and-false, or-true}
 use Rattle.std.proofs.lemmas.Bool.{and_parts}
 use Rattle.std.proofs.lemmas.Bool.Decides.{nat_tests}
 use Rattle.std.proofs.lemmas.List.{drop_all, drop_at, length-take, take_all, take_at}
+use Rattle.std.specs.Option.{is_some}
 use Rattle.std.specs.Prelude.{if◌then◌else◌, is_none, nat_lt, not}
 use Rattle.sec1_der.specs.Elements.{element, header, length_octets}
 use Rattle.der_view.specs.Contents.{is_small, is_whole, shown_len}
 use Rattle.der_view.specs.Grammar.{Case, Component, cases, components}
 use Rattle.der_view.specs.Headers.{max_content_len}
 use Rattle.der_view.specs.Keys.{AreLevels, AreParts, DifferIn, IsContent, Level, Part, is_low, key_in, parts_before}
-use Rattle.der_view.specs.Masks.{masked, undrawn}
-use Rattle.der_view.specs.Rows.{Step, admits, chosen, component_at, component_by, end_at, fitting, has_tag, is_followed}
-use Rattle.der_view.specs.Rows.{may_end, opened_in, others_after, step_at, step_by, step_made, step_with}
+use Rattle.der_view.specs.Masks.{masked, next_mask, step_mask, undrawn}
 use Rattle.der_view.specs.declared.grammar.Content.{Content}
 use Rattle.der_view.specs.declared.grammar.Content.TheVariants as contents
 use Rattle.der_view.specs.declared.grammar.TheConstants as elements
@@ -21,8 +24,7 @@ use Rattle.der_view.specs.declared.grammar.Structure.{Structure}
 use Rattle.der_view.specs.declared.header.Header.{Header}
 use Rattle.der_view.proofs.DerLemmas.{der_header, element_in_der, head_len}
 use Rattle.der_view.proofs.SameLemmas.{SameContent, StepsAlike, any, closed_alike, content_alike, inside_content}
-use Rattle.der_view.proofs.SameLemmas.{no_level, no_next, none_masked, same_content, step_as, steps_masked, unseen_len}
-use Rattle.der_view.proofs.SameLemmas.{unseen_same, whole_len}
+use Rattle.der_view.proofs.SameLemmas.{same_content, step_as, unseen_len, unseen_same, whole_len}
 
 -- ---- the next element
 
@@ -71,12 +73,7 @@ pub goes_on : (loose : Bool) (some : List Component) (byte : ℕ) (bytes : List 
     → end_at loose false some (byte ∷ bytes) ≡ None
 unfolding end_at
 goes_on loose some byte [] = refl
-goes_on loose some byte (next ∷ bytes) = by_test (byte == 0x00 && next == 0x00)
-  where
-    by_test : (test : Bool)
-        → ◌≡◌ {A = Option ℕ} (if test && (false && (loose || may_end some)) then Some 2 else None) None
-    by_test true = refl
-    by_test false = refl
+goes_on loose some byte (next ∷ bytes) = rw (and-false (byte == 0x00 && next == 0x00)) refl
 
 -- ---- bytes and contents that are masked alike
 
@@ -133,6 +130,41 @@ pub record AreSteps (p q : Step) : Type 0 where
   pub rest :
       (loose small : Bool) (most depth : ℕ)
       → masked loose small most depth false p.others p.rest ≡ masked loose small most depth false q.others q.rest
+
+pub undrawn_same : (x y : List ℕ) → length x ≡ length y → undrawn x ≡ undrawn y
+undrawn_same x y size = rw size refl
+
+rest_is : (loose : Bool) (most depth : ℕ) (p : Step) → is_none p.header.content_len ≡ false
+    → rest_after loose most depth p ≡ (if is_some (rest_after loose most depth p) then Some p.rest else None)
+rest_is loose most depth p definite =
+    by_opened (λ s. rest_of (inside_loose p.component.2 loose) most depth (is_open p) (components s) (inside_bytes p))
+    (opened_of loose most depth p)
+  where
+    by_rest : (o : Option (List ℕ))
+        → after_inside false p.rest o ≡ (if is_some (after_inside false p.rest o) then Some p.rest else None)
+    by_rest None = refl
+    by_rest (Some r) = refl
+
+    by_opened : (inside : Structure → Option (List ℕ)) (o : Option Structure)
+        → rest_with inside o p ≡ (if is_some (rest_with inside o p) then Some p.rest else None)
+    by_opened inside None = refl
+    by_opened inside (Some s) = rw definite (by_rest (inside s))
+
+pub masks_alike : (loose small : Bool) (most depth : ℕ) (p q : Step) (f g : List ℕ → List ℕ) → AreSteps p q
+    → f p.rest ≡ g q.rest
+    → p.head ++ (step_mask loose small most depth p ++ next_mask p.rest f (rest_after loose most depth p))
+    ≡ q.head ++ (step_mask loose small most depth q ++ next_mask q.rest g (rest_after loose most depth q))
+masks_alike loose small most depth p q f g are same =
+    let alike = are.same loose small most depth in
+    ap₂ (λ (x y : List ℕ). x ++ y) are.head (ap₂ (λ (x y : List ℕ). x ++ y) alike.mask
+    (rw (rest_is loose most depth p are.definite, rest_is loose most depth q are.also, ← alike.goes)
+    (by_test (is_some (rest_after loose most depth p)))))
+  where
+    by_test : (test : Bool)
+        → next_mask p.rest f (if test then Some p.rest else None)
+        ≡ next_mask q.rest g (if test then Some q.rest else None)
+    by_test true = same
+    by_test false = undrawn_same p.rest q.rest are.len
 
 abbrev pub SameNext : Option Step → Option Step → Type 0
 SameNext None None = Unit {0}
@@ -200,15 +232,8 @@ next_alike cut misfit some fine holds tag n x y e is =
 any_fits : (tag : ℕ) → fitting tag any ≡ Some (elements.ELEMENT, any)
 unfolding components
 any_fits tag =
-    let test : has_tag 0x00 tag ≡ true = each (0x00 == tag) in
+    let test : has_tag 0x00 tag ≡ true = or-true (0x00 == tag || false) in
     rw test refl
-  where
-    each : (test : Bool) → (test || (false && tag == 0x18) || true) ≡ true
-    each true = refl
-    each false = refl
-
-pub undrawn_same : (x y : List ℕ) → length x ≡ length y → undrawn x ≡ undrawn y
-undrawn_same x y size = rw size refl
 
 pub lens : (front x y : List ℕ) → length x ≡ length y → length (front ++ x) ≡ length (front ++ y)
 lens front x y size = length-append front x ∙ (rw size refl ∙ sym (length-append front y))
@@ -216,7 +241,7 @@ lens front x y size = length-append front x ∙ (rw size refl ∙ sym (length-ap
 pub element_alike : (fine : Content → Bool) (holds : List Component → Bool) (tag n : ℕ) (x y : List ℕ)
     → Contents fine holds tag n x y
     → Alike (λ cs. goes fine holds (fitting tag cs)) (header tag n ++ x) (header tag n ++ y)
-unfolding cases
+unfolding cases step_at
 element_alike fine holds tag n x y e = record {
   len = size;
   anything = rw (any_fits tag, e.content.anything, e.rest.anything) refl;
@@ -226,37 +251,37 @@ element_alike fine holds tag n x y e = record {
     size : length (header tag n ++ x) ≡ length (header tag n ++ y)
     size = lens (header tag n) x y e.len
 
+    next : (loose : Bool) (depth : ℕ) (cs : List Component) → goes fine holds (fitting tag cs) ≡ true
+        → SameNext (step_at loose depth cs (header tag n ++ x)) (step_at loose depth cs (header tag n ++ y))
+    next loose depth cs is = by_depth (nat_lt depth 64)
+      where
+        by_depth : (test : Bool)
+            → SameNext (if test then step_by loose loose cs (header tag n ++ x) else None)
+            (if test then step_by loose loose cs (header tag n ++ y) else None)
+        by_depth true = next_alike loose loose cs fine holds tag n x y e is
+        by_depth false = tt
+
     level : (loose small : Bool) (most depth : ℕ) (cs : List Component) (o k : Option Step)
-        → step_by loose loose cs (header tag n ++ x) ≡ o → step_by loose loose cs (header tag n ++ y) ≡ k
+        → step_at loose depth cs (header tag n ++ x) ≡ o → step_at loose depth cs (header tag n ++ y) ≡ k
         → SameNext o k
         → masked loose small (suc most) depth false cs (header tag n ++ x)
         ≡ masked loose small (suc most) depth false cs (header tag n ++ y)
     level loose small most depth cs None (Some q) one two are = absurd are
     level loose small most depth cs (Some p) None one two are = absurd are
     level loose small most depth cs None None one two are =
-        none_masked loose small most depth cs (header tag n ++ x) (header tag n ++ y)
-        (goes_on loose cs tag (length_octets n ++ x)) (goes_on loose cs tag (length_octets n ++ y))
-        (no_next loose depth cs (header tag n ++ x) one) (no_next loose depth cs (header tag n ++ y) two) size
-    level loose small most depth cs (Some p) (Some q) one two are = by_depth (nat_lt depth 64) refl
-      where
-        by_depth : (test : Bool) → nat_lt depth 64 ≡ test
-            → masked loose small (suc most) depth false cs (header tag n ++ x)
-            ≡ masked loose small (suc most) depth false cs (header tag n ++ y)
-        by_depth true few =
-            steps_masked loose small most depth cs (header tag n ++ x) (header tag n ++ y) p q few
-            (goes_on loose cs tag (length_octets n ++ x)) (goes_on loose cs tag (length_octets n ++ y)) one two are.head
-            are.definite are.also (are.same loose small most (depth + 1)) are.len (are.rest loose small most depth)
-        by_depth false deep =
-            none_masked loose small most depth cs (header tag n ++ x) (header tag n ++ y)
-            (goes_on loose cs tag (length_octets n ++ x)) (goes_on loose cs tag (length_octets n ++ y))
-            (no_level loose depth cs (header tag n ++ x) deep) (no_level loose depth cs (header tag n ++ y) deep) size
+        rw (goes_on loose cs tag (length_octets n ++ x), goes_on loose cs tag (length_octets n ++ y), one, two)
+        (undrawn_same (header tag n ++ x) (header tag n ++ y) size)
+    level loose small most depth cs (Some p) (Some q) one two are =
+        rw (goes_on loose cs tag (length_octets n ++ x), goes_on loose cs tag (length_octets n ++ y), one, two)
+        (masks_alike loose small most (depth + 1) p q (λ rest. masked loose small most depth false p.others rest)
+        (λ rest. masked loose small most depth false q.others rest) are (are.rest loose small most depth))
 
     by_most : (loose small : Bool) (most depth : ℕ) (cs : List Component) → goes fine holds (fitting tag cs) ≡ true
         → masked loose small most depth false cs (header tag n ++ x)
         ≡ masked loose small most depth false cs (header tag n ++ y)
     by_most loose small zero depth cs is = undrawn_same (header tag n ++ x) (header tag n ++ y) size
     by_most loose small (suc most) depth cs is =
-        level loose small most depth cs _ _ refl refl (next_alike loose loose cs fine holds tag n x y e is)
+        level loose small most depth cs _ _ refl refl (next loose depth cs is)
 
 -- ---- elements around it
 
@@ -432,6 +457,7 @@ Unfollowed x = (most depth : ℕ) (s : Structure) → is_followed most depth s x
 
 pub cut_unfollowed : (tag k : ℕ) (x : List ℕ) → is_low tag ≡ true → k ≤ max_content_len → length x < k
     → Unfollowed (header tag k ++ x)
+unfolding step_at
 cut_unfollowed tag k x low few short zero depth s = refl
 cut_unfollowed tag k x low few short (suc most) depth s =
     let long : nat_lt (length x) k ≡ true = grind (arith, nat_tests) in
@@ -440,8 +466,12 @@ cut_unfollowed tag k x low few short (suc most) depth s =
     let none : step_by false false (components s) (header tag k ++ x) ≡ None =
     next_is false false (components s) tag k x low few ∙ rw long refl in
     let stop : step_at false depth (components s) (header tag k ++ x) ≡ None =
-    no_next false depth (components s) (header tag k ++ x) none in
+    rw none (same (nat_lt depth 64)) in
     rw (end, stop) refl
+  where
+    same : (test : Bool) → ◌≡◌ {A = Option Step} (if test then None else None) None
+    same true = refl
+    same false = refl
 
 -- whether a content is hidden, unless it follows a structure to its end
 abbrev pub is_shut : Content → Bool

@@ -1,12 +1,12 @@
 -- Masks of inputs with private keys.
 use Rattle.std.proofs.Common.{◌≡◌, ◌&&◌, ◌||◌, ◌-◌, ◌+◌, ℕ, zero, suc, ◌<◌, ◌≤◌, inl, inr, Bool, true, false, List, []}
-use Rattle.std.proofs.Common.{◌∷◌, ◌++◌, length, take, refl, sym, ap, ap₂, ◌∙◌, Option, Some, None, arith, nat_le}
-use Rattle.std.proofs.Common.{⊎_elim, subst}
+use Rattle.std.proofs.Common.{◌∷◌, ◌++◌, length, take, refl, sym, ap, ◌∙◌, Option, Some, None, arith, nat_le, ⊎_elim}
+use Rattle.std.proofs.Common.{subst}
 use Rattle.std.proofs.lemmas.Bool.{and_parts, cases_lt}
 use Rattle.std.proofs.lemmas.Bool.Decides.{nat_tests}
 use Rattle.std.proofs.lemmas.List.{length-append, length-take}
 use Rattle.std.proofs.Math.Seq.{take-append-add}
-use Rattle.std.specs.Prelude.{if◌then◌else◌, is_none, replicate}
+use Rattle.std.specs.Prelude.{if◌then◌else◌, replicate}
 use Rattle.sec1_der.specs.Elements.{header}
 use Rattle.der_view.specs.Contents.{has_type, is_number, is_small}
 use Rattle.der_view.specs.Grammar.{Component, Form, cases, components, container_components, key_components}
@@ -14,13 +14,11 @@ use Rattle.der_view.specs.Grammar.{public_components, service_components, signed
 use Rattle.der_view.specs.Headers.{max_content_len}
 use Rattle.der_view.specs.Keys.{AreLevels, AreParts, AreUnseen, IsContent, IsCutIn, Level, Part, integers, key_bytes}
 use Rattle.der_view.specs.Keys.{key_in}
-use Rattle.der_view.specs.Masks.{AreAlike, AreAlikeAs, mask_as, mask_by_way, mask_with, next_mask, undrawn}
+use Rattle.der_view.specs.Masks.{AreAlike, AreAlikeAs, mask_as, mask_by_way, mask_with, undrawn}
 use Rattle.der_view.specs.Pictures.{best, better, form_by, is_nearer, is_retagged, is_tree, known_as, left_as, nearest}
 use Rattle.der_view.specs.Pictures.{parts_as, plan_of, root_of, root_step, whole_as}
-use Rattle.der_view.specs.Rows.{Step, after_inside, fitting, inside_bytes, inside_loose, is_open, opened_of, rest_after}
-use Rattle.der_view.specs.Rows.{rest_of, rest_with}
+use Rattle.der_view.specs.Rows.{Step, fitting}
 use Rattle.der_view.specs.declared.grammar.Content.{Content}
-use Rattle.der_view.specs.declared.grammar.Structure.{Structure}
 use Rattle.der_view.specs.declared.grammar.TheConstants as elements
 use Rattle.der_view.specs.declared.grammar.forms.TheConstants as tables
 use Rattle.der_view.specs.declared.plan.Plan.{Plan}
@@ -28,22 +26,10 @@ use Rattle.der_view.specs.declared.plan.Way.{Way}
 use Rattle.der_view.specs.declared.plan.Way.TheVariants as ways
 use Rattle.der_view.proofs.SameLemmas.{any, inside_content}
 use Rattle.der_view.proofs.KeyLemmas.{Alike, AreShut, Contents, IsShut, SameNext, Unfollowed, blind, content_unseen}
-use Rattle.der_view.proofs.KeyLemmas.{cut_unfollowed, everything, goes, key_alike, lens, next_alike, passed, same_alike}
-use Rattle.der_view.proofs.KeyLemmas.{cut_alike, is_shut, tags_of, undrawn_same, with_content}
+use Rattle.der_view.proofs.KeyLemmas.{cut_unfollowed, everything, goes, key_alike, lens, masks_alike, next_alike}
+use Rattle.der_view.proofs.KeyLemmas.{passed, same_alike, cut_alike, is_shut, tags_of, undrawn_same, with_content}
 
 -- ---- the root
-
--- what comes after a root isn't drawn
-rest_undrawn : (p : Step) (inside : Structure → Option (List ℕ)) (o : Option Structure)
-    → is_none p.header.content_len ≡ false
-    → next_mask p.rest (λ (rest : List ℕ). undrawn rest) (rest_with inside o p) ≡ undrawn p.rest
-rest_undrawn p inside None definite = refl
-rest_undrawn p inside (Some s) definite = rw definite (by_rest (inside s))
-  where
-    by_rest : (o : Option (List ℕ))
-        → next_mask p.rest (λ (rest : List ℕ). undrawn rest) (after_inside false p.rest o) ≡ undrawn p.rest
-    by_rest None = refl
-    by_rest (Some r) = refl
 
 -- a root, whose mask ends with it
 root_alike : (loose small : Bool) (bytes other : List ℕ) (o k : Option Step) → length bytes ≡ length other
@@ -52,18 +38,8 @@ root_alike loose small bytes other None None size are = rw size refl
 root_alike loose small bytes other None (Some q) size are = absurd are
 root_alike loose small bytes other (Some p) None size are = absurd are
 root_alike loose small bytes other (Some p) (Some q) size are =
-    let n : ℕ = length other in
-    let ends : next_mask p.rest (λ (rest : List ℕ). undrawn rest) (rest_after loose n 1 p)
-    ≡ next_mask q.rest (λ (rest : List ℕ). undrawn rest) (rest_after loose n 1 q) =
-    end n p are.definite ∙ (undrawn_same p.rest q.rest are.len ∙ sym (end n q are.also)) in
-    rw size (ap₂ (λ (x y : List ℕ). x ++ y) are.head
-    (ap₂ (λ (x y : List ℕ). x ++ y) (are.same loose small n 1).mask ends))
-  where
-    end : (n : ℕ) (step : Step) → is_none step.header.content_len ≡ false
-        → next_mask step.rest (λ (rest : List ℕ). undrawn rest) (rest_after loose n 1 step) ≡ undrawn step.rest
-    end n step definite =
-        rest_undrawn step (λ s. rest_of (inside_loose step.component.2 loose) n 1 (is_open step) (components s)
-        (inside_bytes step)) (opened_of loose n 1 step) definite
+    rw size (masks_alike loose small (length other) 1 p q (λ rest. undrawn rest) (λ rest. undrawn rest) are
+    (undrawn_same p.rest q.rest are.len))
 
 -- whether the content of a root is one of which this holds
 abbrev root_holds : (List Component → Bool) → Component → Bool
