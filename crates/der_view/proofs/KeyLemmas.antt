@@ -1,7 +1,7 @@
 -- Masks of elements in DER whose contents differ, of what is around them, and of private keys.
-use Rattle.std.proofs.Common.{ap₂, ◌||◌, ◌≡◌, ◌==◌, ◌&&◌, ℕ, zero, suc, ◌+◌, ◌<◌, ◌≤◌, Bool, true, false, List, [], ◌∷◌}
-use Rattle.std.proofs.Common.{◌++◌, length, take, drop, refl, sym, ap, ◌∙◌, Option, Some, None, arith, length-append}
-use Rattle.std.proofs.Common.{append_assoc, ⊎_elim, append-nil, inl}
+use Rattle.std.proofs.Common.{inr, ap₂, ◌||◌, ◌≡◌, ◌==◌, ◌&&◌, ℕ, zero, suc, ◌+◌, ◌<◌, ◌≤◌, Bool, true, false, List, []}
+use Rattle.std.proofs.Common.{◌∷◌, ◌++◌, length, take, drop, refl, sym, ap, ◌∙◌, Option, Some, None, arith}
+use Rattle.std.proofs.Common.{length-append, append_assoc, ⊎_elim, append-nil, inl}
 use Rattle.der_view.specs.Rows.{after_inside, inside_bytes, inside_loose, is_open, opened_of, rest_after, rest_of}
 use Rattle.der_view.specs.Rows.{rest_with, Step, admits, chosen, component_at, component_by, end_at, fitting, has_tag}
 use Rattle.der_view.specs.Rows.{is_followed, opened_in, others_after, step_at, step_by, step_made, step_with}
@@ -77,19 +77,23 @@ goes_on loose some byte (next ∷ bytes) = rw (and-false (byte == 0x00 && next =
 
 -- ---- bytes and contents that are masked alike
 
+-- these as these components
+abbrev pub Same : List Component → List ℕ → List Component → List ℕ → Type 0
+Same cs x ds y =
+    (loose small : Bool) (most depth : ℕ)
+    → masked loose small most depth false cs x ≡ masked loose small most depth false ds y
+
 -- as any components of which this holds
 pub record Alike (holds : List Component → Bool) (x y : List ℕ) : Type 0 where
   pub len : length x ≡ length y
   pub anything : holds any ≡ true
-  pub masks :
-      (loose small : Bool) (most depth : ℕ) (cs : List Component) → holds cs ≡ true
-      → masked loose small most depth false cs x ≡ masked loose small most depth false cs y
+  pub masks : (cs : List Component) → holds cs ≡ true → Same cs x cs y
 
 -- as any content of which this holds
 pub record Unseen (fine : Content → Bool) (header : Header) (a b : List ℕ) : Type 0 where
   pub anything : fine contents.Free ≡ true
   pub same :
-      (loose small : Bool) (most depth : ℕ) (c : Component) → fine c.2 ≡ true
+      (c : Component) → fine c.2 ≡ true → (loose small : Bool) (most depth : ℕ)
       → SameContent loose small most depth header c a b
 
 -- bytes after a header: such a content, or as much of it as is there, and such bytes
@@ -100,36 +104,15 @@ pub record Contents (fine : Content → Bool) (holds : List Component → Bool) 
   pub content : Unseen fine (der_header tag n) (take n x) (take n y)
   pub rest : Alike holds (drop n x) (drop n y)
 
-abbrev is_none_of : List Case → Bool
-is_none_of [] = true
-is_none_of (one ∷ more) = false
+-- ---- two elements with one header
 
--- whether these hold of the content of an element, which doesn't decide what comes after it, and of
--- the components after it, if it follows
-abbrev pub goes : (Content → Bool) → (List Component → Bool) → Option (Component × List Component) → Bool
-goes fine holds None = true
-goes fine holds (Some found) = is_none_of (cases found.0.3) && (fine found.0.2 && holds found.1)
-
-fixed_after : (h : Header) (c : Component) (x : List ℕ) (others : List Component) → is_none_of (cases c.3) ≡ true
-    → others_after h c x others ≡ others
-unfolding others_after
-fixed_after h c x others is = by_cases (cases c.3) is
-  where
-    by_cases : (some : List Case) → is_none_of some ≡ true
-        → chosen some (take (shown_len false h c.2 x) x) others ≡ others
-    by_cases [] known = refl
-    by_cases (one ∷ more) known = absurd (cc known)
-
--- two elements with one header
 pub record AreSteps (p q : Step) : Type 0 where
   pub head : p.head ≡ q.head
   pub definite : is_none p.header.content_len ≡ false
   pub also : is_none q.header.content_len ≡ false
   pub same : (loose small : Bool) (most depth : ℕ) → StepsAlike loose small most depth p q
   pub len : length p.rest ≡ length q.rest
-  pub rest :
-      (loose small : Bool) (most depth : ℕ)
-      → masked loose small most depth false p.others p.rest ≡ masked loose small most depth false q.others q.rest
+  pub rest : Same p.others p.rest q.others q.rest
 
 pub undrawn_same : (x y : List ℕ) → length x ≡ length y → undrawn x ≡ undrawn y
 undrawn_same x y size = rw size refl
@@ -171,19 +154,55 @@ SameNext None None = Unit {0}
 SameNext (Some p) (Some q) = AreSteps p q
 SameNext _ _ = ⊥
 
+same_if : (test : Bool) (o k u v : Option Step) → SameNext o k → SameNext u v
+    → SameNext (if test then o else u) (if test then k else v)
+same_if true o k u v one two = one
+same_if false o k u v one two = two
+
+-- ---- one element
+
+abbrev is_none_of : List Case → Bool
+is_none_of [] = true
+is_none_of (one ∷ more) = false
+
+abbrev goes_by : (Content → Bool) → (List Component → Bool) → Option (Component × List Component) → Bool
+goes_by fine holds None = true
+goes_by fine holds (Some found) = is_none_of (cases found.0.3) && (fine found.0.2 && holds found.1)
+
+-- whether these hold of the content of an element with this tag, which doesn't decide what comes
+-- after it, and of the components after it, if it follows
+abbrev pub goes : ℕ → (Content → Bool) → (List Component → Bool) → List Component → Bool
+goes tag fine holds some = goes_by fine holds (fitting tag some)
+
+fixed_after : (h : Header) (c : Component) (x : List ℕ) (others : List Component) → is_none_of (cases c.3) ≡ true
+    → others_after h c x others ≡ others
+unfolding others_after
+fixed_after h c x others is = by_cases (cases c.3) is
+  where
+    by_cases : (some : List Case) → is_none_of some ≡ true
+        → chosen some (take (shown_len false h c.2 x) x) others ≡ others
+    by_cases [] known = refl
+    by_cases (one ∷ more) known = absurd (cc known)
+
 pub next_alike : (cut misfit : Bool) (some : List Component) (fine : Content → Bool) (holds : List Component → Bool)
-    (tag n : ℕ) (x y : List ℕ) → Contents fine holds tag n x y → goes fine holds (fitting tag some) ≡ true
+    (tag n : ℕ) (x y : List ℕ) → Contents fine holds tag n x y → goes tag fine holds some ≡ true
     → SameNext (step_by cut misfit some (header tag n ++ x)) (step_by cut misfit some (header tag n ++ y))
 next_alike cut misfit some fine holds tag n x y e is =
     rw (next_is cut misfit some tag n x e.low e.few, next_is cut misfit some tag n y e.low e.few, ← e.len)
-    (by_cut (nat_lt (length x) n && not cut))
+    (same_if (nat_lt (length x) n && not cut) None None (of_x misfit (component_at tag h (take n x) some))
+    (of_y misfit (component_at tag h (take n y) some)) tt (by_fit (fitting tag some) is))
   where
     h : Header
     h = der_header tag n
 
+    of_x : Bool → Option (Component × List Component) → Option Step
+    of_x test o = made test h (header tag n) (take n x) (drop n x) o
+
+    of_y : Bool → Option (Component × List Component) → Option Step
+    of_y test o = made test h (header tag n) (take n y) (drop n y) o
+
     steps : (c : Component) (others : List Component) (follows : Bool) → fine c.2 ≡ true
-        → ((loose small : Bool) (most depth : ℕ) → masked loose small most depth false others (drop n x)
-        ≡ masked loose small most depth false others (drop n y))
+        → Same others (drop n x) others (drop n y)
         → AreSteps (step_as h (header tag n) c others follows (take n x) (drop n x))
         (step_as h (header tag n) c others follows (take n y) (drop n y))
     steps c others follows known rest = record {
@@ -191,43 +210,31 @@ next_alike cut misfit some fine holds tag n x y e is =
       definite = refl;
       also = refl;
       same = λ loose small most depth.
-          (e.content.same loose small most depth c known).alike (header tag n) others follows (drop n x) (drop n y);
+          (e.content.same c known loose small most depth).alike (header tag n) others follows (drop n x) (drop n y);
       len = e.rest.len;
       rest = rest;
     }
 
-    by_misfit : (test : Bool) → SameNext (made test h (header tag n) (take n x) (drop n x) None)
-        (made test h (header tag n) (take n y) (drop n y) None)
-    by_misfit true =
-        steps elements.ELEMENT any false e.content.anything
-        (λ loose small most depth. e.rest.masks loose small most depth any e.rest.anything)
+    by_misfit : (test : Bool) → SameNext (of_x test None) (of_y test None)
+    by_misfit true = steps elements.ELEMENT any false e.content.anything (e.rest.masks any e.rest.anything)
     by_misfit false = tt
 
-    by_fit : (o : Option (Component × List Component)) → goes fine holds o ≡ true
-        → SameNext (made misfit h (header tag n) (take n x) (drop n x) (component_by h (take n x) o))
-        (made misfit h (header tag n) (take n y) (drop n y) (component_by h (take n y) o))
+    by_fit : (o : Option (Component × List Component)) → goes_by fine holds o ≡ true
+        → SameNext (of_x misfit (component_by h (take n x) o)) (of_y misfit (component_by h (take n y) o))
     by_fit None known = by_misfit misfit
     by_fit (Some (c, others)) known =
         let fixed = and_parts (is_none_of (cases c.3)) (fine c.2 && holds others) known in
         let both = and_parts (fine c.2) (holds others) fixed.1 in
-        let same = e.content.same false false 0 0 c both.0 in
+        let same = e.content.same c both.0 false false 0 0 in
         rw (← same.admitted, fixed_after h c (take n x) others fixed.0, fixed_after h c (take n y) others fixed.0)
-        (by_test both.0 both.1 (admits h c.2 (take n x)))
+        (by_test (steps c others true both.0 (e.rest.masks others both.1)) (admits h c.2 (take n x)))
       where
-        by_test : fine c.2 ≡ true → holds others ≡ true → (test : Bool)
-            → SameNext (made misfit h (header tag n) (take n x) (drop n x) (if test then Some (c, others) else None))
-            (made misfit h (header tag n) (take n y) (drop n y) (if test then Some (c, others) else None))
-        by_test good more true =
-            steps c others true good (λ loose small most depth. e.rest.masks loose small most depth others more)
-        by_test good more false = by_misfit misfit
-
-    by_cut : (test : Bool)
-        → SameNext (if test then None
-        else made misfit h (header tag n) (take n x) (drop n x) (component_at tag h (take n x) some))
-        (if test then None
-        else made misfit h (header tag n) (take n y) (drop n y) (component_at tag h (take n y) some))
-    by_cut true = tt
-    by_cut false = by_fit (fitting tag some) is
+        by_test : AreSteps (step_as h (header tag n) c others true (take n x) (drop n x))
+            (step_as h (header tag n) c others true (take n y) (drop n y))
+            → (test : Bool) → SameNext (of_x misfit (if test then Some (c, others) else None))
+            (of_y misfit (if test then Some (c, others) else None))
+        by_test are true = are
+        by_test are false = by_misfit misfit
 
 any_fits : (tag : ℕ) → fitting tag any ≡ Some (elements.ELEMENT, any)
 unfolding components
@@ -239,27 +246,16 @@ pub lens : (front x y : List ℕ) → length x ≡ length y → length (front ++
 lens front x y size = length-append front x ∙ (rw size refl ∙ sym (length-append front y))
 
 pub element_alike : (fine : Content → Bool) (holds : List Component → Bool) (tag n : ℕ) (x y : List ℕ)
-    → Contents fine holds tag n x y
-    → Alike (λ cs. goes fine holds (fitting tag cs)) (header tag n ++ x) (header tag n ++ y)
+    → Contents fine holds tag n x y → Alike (goes tag fine holds) (header tag n ++ x) (header tag n ++ y)
 unfolding cases step_at
 element_alike fine holds tag n x y e = record {
   len = size;
   anything = rw (any_fits tag, e.content.anything, e.rest.anything) refl;
-  masks = λ loose small most depth cs is. by_most loose small most depth cs is;
+  masks = by_most;
 }
   where
     size : length (header tag n ++ x) ≡ length (header tag n ++ y)
     size = lens (header tag n) x y e.len
-
-    next : (loose : Bool) (depth : ℕ) (cs : List Component) → goes fine holds (fitting tag cs) ≡ true
-        → SameNext (step_at loose depth cs (header tag n ++ x)) (step_at loose depth cs (header tag n ++ y))
-    next loose depth cs is = by_depth (nat_lt depth 64)
-      where
-        by_depth : (test : Bool)
-            → SameNext (if test then step_by loose loose cs (header tag n ++ x) else None)
-            (if test then step_by loose loose cs (header tag n ++ y) else None)
-        by_depth true = next_alike loose loose cs fine holds tag n x y e is
-        by_depth false = tt
 
     level : (loose small : Bool) (most depth : ℕ) (cs : List Component) (o k : Option Step)
         → step_at loose depth cs (header tag n ++ x) ≡ o → step_at loose depth cs (header tag n ++ y) ≡ k
@@ -276,20 +272,22 @@ element_alike fine holds tag n x y e = record {
         (masks_alike loose small most (depth + 1) p q (λ rest. masked loose small most depth false p.others rest)
         (λ rest. masked loose small most depth false q.others rest) are (are.rest loose small most depth))
 
-    by_most : (loose small : Bool) (most depth : ℕ) (cs : List Component) → goes fine holds (fitting tag cs) ≡ true
-        → masked loose small most depth false cs (header tag n ++ x)
-        ≡ masked loose small most depth false cs (header tag n ++ y)
-    by_most loose small zero depth cs is = undrawn_same (header tag n ++ x) (header tag n ++ y) size
-    by_most loose small (suc most) depth cs is =
-        level loose small most depth cs _ _ refl refl (next loose depth cs is)
+    by_most : (cs : List Component) → goes tag fine holds cs ≡ true
+        → Same cs (header tag n ++ x) cs (header tag n ++ y)
+    by_most cs is loose small zero depth = undrawn_same (header tag n ++ x) (header tag n ++ y) size
+    by_most cs is loose small (suc most) depth =
+        level loose small most depth cs _ _ refl refl
+        (same_if (nat_lt depth 64) (step_by loose loose cs (header tag n ++ x))
+        (step_by loose loose cs (header tag n ++ y)) None None
+        (next_alike loose loose cs fine holds tag n x y e is) tt)
 
--- ---- elements around it
+-- ---- elements before it
 
 abbrev pub everything : List Component → Bool
 everything cs = true
 
 pub same_alike : (x : List ℕ) → Alike everything x x
-same_alike x = record { len = refl; anything = refl; masks = λ loose small most depth cs is. refl }
+same_alike x = record { len = refl; anything = refl; masks = λ cs is loose small most depth. refl }
 
 parts_of : (n : ℕ) (a s : List ℕ) → IsContent n a s → (take n (a ++ s) ≡ a) × (drop n (a ++ s) ≡ s)
 parts_of n a s is = ⊎_elim
@@ -303,40 +301,33 @@ pub with_content : (fine : Content → Bool) (holds : List Component → Bool) (
 with_content fine holds tag n a b s t low one two len content rest =
     let p = parts_of n a s one in
     let q = parts_of n b t two in
-    record {
-      low = low;
-      few = one.few;
-      len = len;
-      content = rw (p.0, q.0) content;
-      rest = rw (p.1, q.1) rest;
-    }
+    record { low = low; few = one.few; len = len; content = rw (p.0, q.0) content; rest = rw (p.1, q.1) rest }
 
 -- whether this holds of the components after elements with these tags, if such follow
 abbrev pub passed : (List Component → Bool) → List ℕ → List Component → Bool
-passed holds [] some = holds some
-passed holds (tag ∷ tags) some = goes (λ k. true) (λ cs. passed holds tags cs) (fitting tag some)
+passed holds [] = holds
+passed holds (tag ∷ tags) = goes tag (λ k. true) (passed holds tags)
 
 abbrev pub tags_of : List Part → List ℕ
 tags_of [] = []
 tags_of (part ∷ parts) = part.0 ∷ tags_of parts
 
 parts_alike : (parts : List Part) (holds : List Component → Bool) (s t : List ℕ) → AreParts parts → Alike holds s t
-    → Alike (λ cs. passed holds (tags_of parts) cs) (parts_before parts s) (parts_before parts t)
+    → Alike (passed holds (tags_of parts)) (parts_before parts s) (parts_before parts t)
 parts_alike [] holds s t are alike = alike
 parts_alike (part ∷ parts) holds s t (low, few, are) alike =
     let u : List ℕ = parts_before parts s in
     let v : List ℕ = parts_before parts t in
     let n : ℕ = length part.1 in
+    let there : (w : List ℕ) → IsContent n part.1 w = λ w. record { few = few; there = inl refl } in
     let rest = parts_alike parts holds s t are alike in
     rw (append_assoc (header part.0 n) part.1 u, append_assoc (header part.0 n) part.1 v)
-    (element_alike (λ k. true) (λ cs. passed holds (tags_of parts) cs) part.0 n (part.1 ++ u) (part.1 ++ v)
-    (with_content (λ k. true) (λ cs. passed holds (tags_of parts) cs) part.0 n part.1 part.1 u v low
-    (record { few = few; there = inl refl }) (record { few = few; there = inl refl }) (lens part.1 u v rest.len)
-    (record {
+    (element_alike (λ k. true) (passed holds (tags_of parts)) part.0 n (part.1 ++ u) (part.1 ++ v)
+    (with_content (λ k. true) (passed holds (tags_of parts)) part.0 n part.1 part.1 u v low (there u) (there v)
+    (lens part.1 u v rest.len) (record {
       anything = refl;
-      same = λ loose small most depth c is. same_content loose small most depth (der_header part.0 n) c part.1 refl;
-    })
-    rest))
+      same = λ c is loose small most depth. same_content loose small most depth (der_header part.0 n) c part.1 refl;
+    }) rest))
 
 -- ---- contents
 
@@ -359,50 +350,51 @@ free_len small tag n x shut made = by_len (n == length x) refl
         let none : is_whole (der_header tag n) x ≡ false = rw (made, is) refl in
         rw none refl
 
-pub content_unseen : (holds : Structure → Bool) (tag n : ℕ) (a b : List ℕ) → length a ≡ length b → IsShut tag n
-    → ((loose small : Bool) (most depth : ℕ) (s : Structure) → holds s ≡ true
-    → masked loose small most depth false (components s) a ≡ masked loose small most depth false (components s) b)
-    → ((der_header tag n).tag.constructed ≡ true → (loose small : Bool) (most depth : ℕ)
-    → masked loose small most depth false any a ≡ masked loose small most depth false any b)
-    → Unseen (λ k. inside_content holds k) (der_header tag n) a b
+-- a content that is any elements, or a structure of which this holds, or isn't shown
+abbrev pub inside : (List Component → Bool) → Content → Bool
+inside holds k = inside_content (λ s. holds (components s)) k
+
+content_unseen : (holds : List Component → Bool) (tag n : ℕ) (a b : List ℕ) → length a ≡ length b → IsShut tag n
+    → ((cs : List Component) → holds cs ≡ true → Same cs a cs b)
+    → ((der_header tag n).tag.constructed ≡ true → Same any a any b) → Unseen (inside holds) (der_header tag n) a b
 content_unseen holds tag n a b size shut inner other = record {
   anything = refl;
-  same = λ loose small most depth c is.
-      content_alike loose small most depth (der_header tag n) c a b holds
+  same = λ c is loose small most depth.
+      content_alike loose small most depth (der_header tag n) c a b (λ s. holds (components s))
       (record {
         definite = refl;
         len = size;
-        inner = λ s l known. inner l small most depth s known;
+        inner = λ s l known. inner (components s) known l small most depth;
         anything = λ l made. other made l small most depth;
         unseen = λ x len made. free_len small tag n x shut made;
       }) is;
 }
 
--- an element of any content that is masked alike
-level_alike : (holds : List Component → Bool) (tag : ℕ) (a b after : List ℕ) → is_low tag ≡ true
-    → length a ≤ max_content_len → IsShut tag (length a) → Alike holds a b
-    → Alike (λ cs. goes (λ k. inside_content (λ s. holds (components s)) k) everything (fitting tag cs))
-    (element tag a ++ after) (element tag b ++ after)
-level_alike holds tag a b after low few shut alike =
-    let n : ℕ = length a in
-    let fine : Content → Bool = λ k. inside_content (λ s. holds (components s)) k in
-    let size : length (a ++ after) ≡ length (b ++ after) =
-    omega (arith, length-append a after, length-append b after, alike.len) in
-    rw (append_assoc (header tag n) a after, append_assoc (header tag (length b)) b after, ← alike.len)
-    (element_alike fine everything tag n (a ++ after) (b ++ after)
-    (with_content fine everything tag n a b after after low (record { few = few; there = inl refl })
-    (record { few = few; there = inl (sym alike.len) }) size
-    (content_unseen (λ s. holds (components s)) tag n a b alike.len shut
-    (λ loose small most depth s is. alike.masks loose small most depth (components s) is)
-    (λ made loose small most depth. alike.masks loose small most depth any alike.anything))
-    (same_alike after)))
+-- an element of any content that is masked alike, or of as much of it as is there
+pub inside_alike : (holds : List Component → Bool) (tag n : ℕ) (a b after : List ℕ) → is_low tag ≡ true
+    → IsContent n a after → IsShut tag n → Alike holds a b
+    → Contents (inside holds) everything tag n (a ++ after) (b ++ after)
+inside_alike holds tag n a b after low is shut alike =
+    with_content (inside holds) everything tag n a b after after low is again
+    (omega (arith, length-append a after, length-append b after, alike.len))
+    (content_unseen holds tag n a b alike.len shut alike.masks (λ made. alike.masks any alike.anything))
+    (same_alike after)
+  where
+    again : IsContent n b after
+    again = record {
+      few = is.few;
+      there = ⊎_elim (λ (all : length a ≡ n). inl (sym alike.len ∙ all))
+          (λ (cut : (length a ≤ n) × (after ≡ [])).
+          let few : length a ≤ n = cut.0 in
+          inr (omega (arith, few, alike.len), cut.1)) is.there;
+    }
 
 -- ---- private elements
 
 -- an element whose content isn't seen
 last_alike : (fine : Content → Bool) (tag n : ℕ) (x y : List ℕ) → is_low tag ≡ true → DifferIn n x y
     → Unseen fine (der_header tag n) (take n x) (take n y)
-    → Alike (λ cs. goes fine everything (fitting tag cs)) (header tag n ++ x) (header tag n ++ y)
+    → Alike (goes tag fine everything) (header tag n ++ x) (header tag n ++ y)
 last_alike fine tag n x y low differ content =
     element_alike fine everything tag n x y (record {
       low = low;
@@ -413,41 +405,46 @@ last_alike fine tag n x y low differ content =
     })
 
 abbrev is_hidden : Content → Bool
-is_hidden k = inside_content (λ s. false) k
+is_hidden = inside (λ cs. false)
 
 -- elements around a primitive one, that aren't small
 abbrev pub AreShut : List Level → ℕ → ℕ → Type 0
 AreShut [] tag n = IsShut tag n × ((der_header tag n).tag.constructed ≡ false)
 AreShut (level ∷ levels) tag n = ((m : ℕ) → IsShut level.tag m) × AreShut levels tag n
 
--- whether a private element, inside these elements and after such with these tags, is hidden or isn't drawn
-abbrev pub blind : List Level → List ℕ → ℕ → List Component → Bool
-blind [] tags tag some = passed (λ cs. goes is_hidden everything (fitting tag cs)) tags some
-blind (level ∷ levels) tags tag some =
-    passed (λ cs. goes (λ k. inside_content (λ s. blind levels tags tag (components s)) k) everything
-    (fitting level.tag cs)) (tags_of level.before) some
-
 takes : (n : ℕ) (x y : List ℕ) → length x ≡ length y → length (take n x) ≡ length (take n y)
 takes n x y size = length-take n x ∙ (rw size refl ∙ sym (length-take n y))
 
+hidden_unseen : (tag n : ℕ) (x y : List ℕ) → AreShut [] tag n → length x ≡ length y
+    → Unseen is_hidden (der_header tag n) (take n x) (take n y)
+hidden_unseen tag n x y (shut, plain) size =
+    content_unseen (λ cs. false) tag n (take n x) (take n y) (takes n x y size) shut (λ cs is. absurd (cc is))
+    (λ made. absurd (cc (sym made ∙ plain)))
+
+-- whether a private element, inside these elements and after such with these tags, is hidden or isn't drawn
+abbrev pub blind : List Level → List ℕ → ℕ → List Component → Bool
+blind [] tags tag = passed (goes tag is_hidden everything) tags
+blind (level ∷ levels) tags tag =
+    passed (goes level.tag (inside (blind levels tags tag)) everything) (tags_of level.before)
+
 pub key_alike : (levels : List Level) (before : List Part) (tag n : ℕ) (x y : List ℕ) → AreLevels levels before tag n x
     → AreShut levels tag n → DifferIn n x y
-    → Alike (λ cs. blind levels (tags_of before) tag cs) (key_in levels before tag n x) (key_in levels before tag n y)
-key_alike [] before tag n x y (are, low) (shut, plain) differ =
-    parts_alike before (λ cs. goes is_hidden everything (fitting tag cs)) (header tag n ++ x) (header tag n ++ y) are
-    (last_alike is_hidden tag n x y low differ
-    (content_unseen (λ s. false) tag n (take n x) (take n y) (takes n x y differ.len) shut
-    (λ loose small most depth s is. absurd (cc is))
-    (λ made loose small most depth. absurd (cc (sym made ∙ plain)))))
+    → Alike (blind levels (tags_of before) tag) (key_in levels before tag n x) (key_in levels before tag n y)
+key_alike [] before tag n x y (are, low) shut differ =
+    parts_alike before (goes tag is_hidden everything) (header tag n ++ x) (header tag n ++ y) are
+    (last_alike is_hidden tag n x y low differ (hidden_unseen tag n x y shut differ.len))
 key_alike (level ∷ levels) before tag n x y (are, low, few, inner) (shut, more) differ =
     let a : List ℕ = key_in levels before tag n x in
     let b : List ℕ = key_in levels before tag n y in
-    parts_alike level.before
-    (λ cs. goes (λ k. inside_content (λ s. blind levels (tags_of before) tag (components s)) k) everything
-    (fitting level.tag cs))
-    (element level.tag a ++ level.after) (element level.tag b ++ level.after) are
-    (level_alike (λ cs. blind levels (tags_of before) tag cs) level.tag a b level.after low few (shut (length a))
-    (key_alike levels before tag n x y inner more differ))
+    let k : ℕ = length a in
+    let holds : List Component → Bool = blind levels (tags_of before) tag in
+    let alike = key_alike levels before tag n x y inner more differ in
+    parts_alike level.before (goes level.tag (inside holds) everything) (element level.tag a ++ level.after)
+    (element level.tag b ++ level.after) are
+    (rw (append_assoc (header level.tag k) a level.after, append_assoc (header level.tag (length b)) b level.after,
+    ← alike.len)
+    (element_alike (inside holds) everything level.tag k (a ++ level.after) (b ++ level.after)
+    (inside_alike holds level.tag k a b level.after low (record { few = few; there = inl refl }) (shut k) alike)))
 
 -- ---- a private element with one in it that doesn't end there
 
@@ -480,37 +477,25 @@ is_shut k = is_hidden k
 
 pub cut_alike : (before : List Part) (tag n : ℕ) (x y : List ℕ) → AreParts before → is_low tag ≡ true
     → AreShut [] tag n → DifferIn n x y → Unfollowed (take n x) → Unfollowed (take n y)
-    → Alike (λ cs. passed (λ ds. goes is_shut everything (fitting tag ds)) (tags_of before) cs) (key_in [] before tag n x)
-    (key_in [] before tag n y)
+    → Alike (passed (goes tag is_shut everything) (tags_of before)) (key_in [] before tag n x) (key_in [] before tag n y)
 unfolding opened_in admits
-cut_alike before tag n x y are low (shut, plain) differ one two =
-    parts_alike before (λ cs. goes is_shut everything (fitting tag cs)) (header tag n ++ x) (header tag n ++ y) are
-    (last_alike is_shut tag n x y low differ (record {
-      anything = refl;
-      same = λ loose small most depth c is. content loose small most depth c is;
-    }))
+cut_alike before tag n x y are low shut differ one two =
+    parts_alike before (goes tag is_shut everything) (header tag n ++ x) (header tag n ++ y) are
+    (last_alike is_shut tag n x y low differ (record { anything = refl; same = content }))
   where
     h : Header
     h = der_header tag n
 
-    size : length (take n x) ≡ length (take n y)
-    size = takes n x y differ.len
-
-    hidden : Unseen is_hidden h (take n x) (take n y)
-    hidden =
-        content_unseen (λ s. false) tag n (take n x) (take n y) size shut
-        (λ loose small most depth s is. absurd (cc is))
-        (λ made loose small most depth. absurd (cc (sym made ∙ plain)))
-
-    content : (loose small : Bool) (most depth : ℕ) (c : Component) → is_shut c.2 ≡ true
+    content : (c : Component) → is_shut c.2 ≡ true → (loose small : Bool) (most depth : ℕ)
         → SameContent loose small most depth h c (take n x) (take n y)
-    content loose small most depth (g, p, contents.Whole u, name) is = record {
+    content (g, p, contents.Whole u, name) is loose small most depth = record {
       admitted = refl;
       others = unseen_same h (g, p, contents.Whole u, name) (take n x) (take n y) (whole_len false h u (take n x))
           (whole_len false h u (take n y));
       alike = λ head others follows s t.
           closed_alike loose small most depth h head (g, p, contents.Whole u, name) others follows (take n x) (take n y)
           s t (rw (one most depth u) refl) (rw (two most depth u) refl) (whole_len small h u (take n x))
-          (whole_len small h u (take n y)) size;
+          (whole_len small h u (take n y)) (takes n x y differ.len);
     }
-    content loose small most depth (g, p, k, name) is = hidden.same loose small most depth (g, p, k, name) is
+    content (g, p, k, name) is loose small most depth =
+        (hidden_unseen tag n x y shut differ.len).same (g, p, k, name) is loose small most depth

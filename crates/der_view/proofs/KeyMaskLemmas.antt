@@ -1,7 +1,9 @@
 -- Masks of inputs with private keys.
-use Rattle.std.proofs.Common.{◌≡◌, ◌&&◌, ◌||◌, ◌-◌, ◌+◌, ℕ, zero, suc, ◌<◌, ◌≤◌, inl, inr, Bool, true, false, List, []}
-use Rattle.std.proofs.Common.{◌∷◌, ◌++◌, length, take, refl, sym, ap, ◌∙◌, Option, Some, None, arith, nat_le, ⊎_elim}
-use Rattle.std.proofs.Common.{subst}
+use Rattle.der_view.proofs.KeyLemmas.{inside, inside_alike, Alike, AreShut, Contents, IsShut, SameNext, Unfollowed}
+use Rattle.der_view.proofs.KeyLemmas.{blind, cut_unfollowed, everything, goes, key_alike, lens, masks_alike, next_alike}
+use Rattle.der_view.proofs.KeyLemmas.{passed, cut_alike, is_shut, tags_of, undrawn_same}
+use Rattle.std.proofs.Common.{◌≡◌, ◌&&◌, ◌||◌, ◌-◌, ◌+◌, ℕ, zero, suc, ◌<◌, ◌≤◌, Bool, true, false, List, [], ◌∷◌, ◌++◌}
+use Rattle.std.proofs.Common.{length, take, refl, sym, ap, Option, Some, None, arith, nat_le, ⊎_elim, subst}
 use Rattle.std.proofs.lemmas.Bool.{and_parts, cases_lt}
 use Rattle.std.proofs.lemmas.Bool.Decides.{nat_tests}
 use Rattle.std.proofs.lemmas.List.{length-append, length-take}
@@ -17,17 +19,12 @@ use Rattle.der_view.specs.Keys.{key_in}
 use Rattle.der_view.specs.Masks.{AreAlike, AreAlikeAs, mask_as, mask_by_way, mask_with, undrawn}
 use Rattle.der_view.specs.Pictures.{best, better, form_by, is_nearer, is_retagged, is_tree, known_as, left_as, nearest}
 use Rattle.der_view.specs.Pictures.{parts_as, plan_of, root_of, root_step, whole_as}
-use Rattle.der_view.specs.Rows.{Step, fitting}
-use Rattle.der_view.specs.declared.grammar.Content.{Content}
+use Rattle.der_view.specs.Rows.{Step}
 use Rattle.der_view.specs.declared.grammar.TheConstants as elements
 use Rattle.der_view.specs.declared.grammar.forms.TheConstants as tables
 use Rattle.der_view.specs.declared.plan.Plan.{Plan}
 use Rattle.der_view.specs.declared.plan.Way.{Way}
 use Rattle.der_view.specs.declared.plan.Way.TheVariants as ways
-use Rattle.der_view.proofs.SameLemmas.{any, inside_content}
-use Rattle.der_view.proofs.KeyLemmas.{Alike, AreShut, Contents, IsShut, SameNext, Unfollowed, blind, content_unseen}
-use Rattle.der_view.proofs.KeyLemmas.{cut_unfollowed, everything, goes, key_alike, lens, masks_alike, next_alike}
-use Rattle.der_view.proofs.KeyLemmas.{passed, same_alike, cut_alike, is_shut, tags_of, undrawn_same, with_content}
 
 -- ---- the root
 
@@ -43,7 +40,7 @@ root_alike loose small bytes other (Some p) (Some q) size are =
 
 -- whether the content of a root is one of which this holds
 abbrev root_holds : (List Component → Bool) → Component → Bool
-root_holds holds root = goes (λ k. inside_content (λ s. holds (components s)) k) everything (fitting 0x30 (root ∷ []))
+root_holds holds root = goes 0x30 (inside holds) everything (root ∷ [])
 
 abbrev forms_hold : (List Component → Bool) → List Form → Bool
 forms_hold holds [] = true
@@ -92,37 +89,17 @@ input_alike holds m a b rest is alike known =
     other : List ℕ
     other = header 0x30 m ++ (b ++ rest)
 
-    fine : Content → Bool
-    fine k = inside_content (λ s. holds (components s)) k
-
-    both : length (a ++ rest) ≡ length (b ++ rest)
-    both = omega (arith, length-append a rest, length-append b rest, alike.len)
-
-    again : IsContent m b rest
-    again = record {
-      few = is.few;
-      there = ⊎_elim (λ (all : length a ≡ m). inl (sym alike.len ∙ all))
-          (λ (cut : (length a ≤ m) × (rest ≡ [])).
-          let few : length a ≤ m = cut.0 in
-          inr (omega (arith, few, alike.len), cut.1)) is.there;
-    }
-
-    root : Contents fine everything 0x30 m (a ++ rest) (b ++ rest)
-    root =
-        with_content fine everything 0x30 m a b rest rest refl is again both
-        (content_unseen (λ s. holds (components s)) 0x30 m a b alike.len (λ x len made. absurd (cc made))
-        (λ loose small most depth s known. alike.masks loose small most depth (components s) known)
-        (λ made loose small most depth. alike.masks loose small most depth any alike.anything))
-        (same_alike rest)
+    root : Contents (inside holds) everything 0x30 m (a ++ rest) (b ++ rest)
+    root = inside_alike holds 0x30 m a b rest refl is (λ x len made. absurd (cc made)) alike
 
     size : length bytes ≡ length other
-    size = lens (header 0x30 m) (a ++ rest) (b ++ rest) both
+    size = lens (header 0x30 m) (a ++ rest) (b ++ rest) root.len
 
     as_root : (c : Component) → root_holds holds c ≡ true → (loose small : Bool)
         → mask_as loose small c bytes ≡ mask_as loose small c other
     as_root c good loose small =
         root_alike loose small bytes other (root_step c bytes) (root_step c other) size
-        (next_alike true false (c ∷ []) fine everything 0x30 m (a ++ rest) (b ++ rest) root good)
+        (next_alike true false (c ∷ []) (inside holds) everything 0x30 m (a ++ rest) (b ++ rest) root good)
 
     as_forms : (forms : List Form) → forms_hold holds forms ≡ true → AreAlikeAs forms bytes other
     as_forms [] good = tt
@@ -147,14 +124,14 @@ input_alike holds m a b rest is alike known =
 
 -- whether a private element is hidden in each form
 abbrev pub is_blind : List Level → List ℕ → ℕ → Bool
-is_blind levels tags tag = forms_hold (λ cs. blind levels tags tag cs) (tables.FIRST ∷ tables.OTHERS)
+is_blind levels tags tag = forms_hold (blind levels tags tag) (tables.FIRST ∷ tables.OTHERS)
 
 pub unseen : (levels : List Level) (before : List Part) (tag m n : ℕ) (x y rest : List ℕ) → AreShut levels tag n
     → is_blind levels (tags_of before) tag ≡ true → AreLevels levels before tag n x
     → AreUnseen m levels before tag n x y rest
 unfolding key_bytes
 unseen levels before tag m n x y rest shut known are differ is =
-    input_alike (λ cs. blind levels (tags_of before) tag cs) m (key_in levels before tag n x) (key_in levels before tag n y) rest
+    input_alike (blind levels (tags_of before) tag) m (key_in levels before tag n x) (key_in levels before tag n y) rest
     is (key_alike levels before tag n x y are shut differ) known
 
 pub octets_shut : (n : ℕ) → IsShut 0x04 n
@@ -182,12 +159,12 @@ cut_in n tag k x y is same =
     rw (← size, take-append-add front y left) (cut_unfollowed tag k (take left y) is.low is.few few)
 
 pub cut_unseen : (m n tag k : ℕ) (before : List Part) (x y rest : List ℕ) → IsCutIn n tag k x → AreParts before
-    → forms_hold (λ cs. passed (λ ds. goes is_shut everything (fitting 0x04 ds)) (tags_of before) cs)
+    → forms_hold (passed (goes 0x04 is_shut everything) (tags_of before))
     (tables.FIRST ∷ tables.OTHERS) ≡ true
     → AreUnseen m [] before 0x04 n (header tag k ++ x) (header tag k ++ y) rest
 unfolding key_bytes
 cut_unseen m n tag k before x y rest cut are known differ is =
-    input_alike (λ cs. passed (λ ds. goes is_shut everything (fitting 0x04 ds)) (tags_of before) cs) m
+    input_alike (passed (goes 0x04 is_shut everything) (tags_of before)) m
     (key_in [] before 0x04 n (header tag k ++ x)) (key_in [] before 0x04 n (header tag k ++ y)) rest is
     (cut_alike before 0x04 n (header tag k ++ x) (header tag k ++ y) are refl (octets_shut n, refl) differ
     (cut_in n tag k x x cut refl) (cut_in n tag k x y cut differ.len)) known
