@@ -1,12 +1,12 @@
 -- A key is an ECPrivateKey, whole, and each of its elements follows.
 use Rattle.std.proofs.Common.{◌≡◌, ℕ, zero, suc, ◌+◌, ◌<◌, ◌≤◌, Bool, true, false, List, [], ◌∷◌, ◌++◌, length, refl}
-use Rattle.std.proofs.Common.{sym, ap, ◌∙◌, Option, Some, None, arith, eq-eqb, append_assoc, subst, drop, ◌==◌}
+use Rattle.std.proofs.Common.{ap, ◌∙◌, Option, Some, None, arith, eq-eqb, append_assoc, drop, ◌==◌}
 use Rattle.std.proofs.Math.Bool.{and-false}
 use Rattle.std.proofs.lemmas.Bool.Decides.{nat_tests}
 use Rattle.std.proofs.lemmas.List.{drop_at, length-append, take_at}
 use Rattle.std.proofs.Math.Seq.{drop-length, take-length}
 use Rattle.std.specs.Option.{option_map}
-use Rattle.std.specs.Prelude.{if◌then◌else◌, is_none, nat_lt}
+use Rattle.std.specs.Prelude.{is_none, nat_lt}
 use Rattle.sec1.specs.Keys.{IsKeyOf, Key, field}
 use Rattle.sec1_der.specs.Elements.{element, header, length_octets}
 use Rattle.sec1_der.specs.Identifiers.{content_of}
@@ -14,12 +14,12 @@ use Rattle.sec1_der.specs.Trees.{forest, joined, leaf}
 use Rattle.der_view.specs.Grammar.{Component, Form, cases, components, key_components}
 use Rattle.der_view.specs.Headers.{max_content_len}
 use Rattle.der_view.specs.Keys.{is_low}
-use Rattle.der_view.specs.Pictures.{best, better, capped, ended_by, first_place, is_nearer, known_as, left_as, left_in}
-use Rattle.der_view.specs.Pictures.{nearest, picture, plan_of, root_step, rows_as, rows_by, strictly, whole_as}
+use Rattle.der_view.specs.Pictures.{best, better, capped, ended_by, first_place, known_as, left_as, left_in, nearest}
+use Rattle.der_view.specs.Pictures.{picture, plan_of, root_step, rows_as, rows_by, strictly, whole_as}
 use Rattle.der_view.specs.RowLaws.{AllFollow}
 use Rattle.der_view.specs.Rows.{Element, EndOfContents, NotDrawn, Row, Step, admits, after, component_at, end_at}
-use Rattle.der_view.specs.Rows.{may_end, opened_in, others_after, rest_after, rest_next, rest_of, rows_of, step_at}
-use Rattle.der_view.specs.Rows.{step_by, step_rows, next_rows}
+use Rattle.der_view.specs.Rows.{may_end, opened_in, others_after, rest_after, rest_of, rows_of, step_at, step_by}
+use Rattle.der_view.specs.Rows.{step_rows}
 use Rattle.der_view.specs.declared.grammar.Content.TheVariants as contents
 use Rattle.der_view.specs.declared.grammar.Presence.{Presence}
 use Rattle.der_view.specs.declared.grammar.Presence.TheVariants as presences
@@ -34,9 +34,8 @@ use Rattle.der_view.specs.declared.plan.Way.TheVariants as ways
 use Rattle.der_view.specs.declared.walk.Place.{Place}
 use Rattle.der_view.proofs.DerLemmas.{der_header}
 use Rattle.der_view.proofs.KeyLemmas.{goes_on, next_is}
-use Rattle.der_view.proofs.KeyOfLemmas.{inside_key}
+use Rattle.der_view.proofs.KeyMaskLemmas.{inside_key}
 use Rattle.der_view.proofs.PictureLemmas.{rows_after, whole_found}
-use Rattle.der_view.proofs.RowMaskLemmas.{row_step}
 use Rattle.der_view.proofs.SameLemmas.{step_as}
 
 -- ---- what follows to its end
@@ -100,36 +99,20 @@ element_follows depth some tag content rest c others deep low is goes next (suc 
     next_is false false some tag n x low (omega (arith, size, few))
     ∙ rw (fits, take_at content rest n refl, drop_at content rest n refl, is) refl in
     rw (append_assoc (header tag n) content rest)
-    (level most bytes step (goes_on false some tag (length_octets n ++ x)) (placed depth bytes step deep found) own more)
+    (level most bytes step (goes_on false some tag (length_octets n ++ x)) (rw deep found) own more)
   where
-    placed : (d : ℕ) (bytes : List ℕ) (step : Step) → nat_lt d 64 ≡ true → step_by false false some bytes ≡ Some step
-        → step_at false d some bytes ≡ Some step
-    placed d bytes step test known = rw test known
-
     level : (k : ℕ) (bytes : List ℕ) (step : Step) → end_at false false some bytes ≡ None
         → step_at false depth some bytes ≡ Some step → Goes k depth some step → Follow k depth step.others step.rest
         → Follow (suc k) depth some bytes
     level k bytes step end known own more = record {
-      rest =
-          let first : rest_of false (suc k) depth false some bytes
-          ≡ rest_next (λ r. rest_of false k depth false step.others r) (rest_after false k (depth + 1) step) =
-          rw (end, known) refl in
-          first ∙ (ap (λ (o : Option (List ℕ)). rest_next (λ r. rest_of false k depth false step.others r) o) own.rest
-          ∙ more.rest);
-      rows = λ place here. followed place here;
+      rest = rw (end, known, own.rest) more.rest;
+      rows = λ place here.
+          let at' : step_at false place.depth some bytes ≡ Some step = rw here known in
+          let goes' : rest_after false k (place.depth + 1) step ≡ Some step.rest = rw here own.rest in
+          rw (end, at', goes') (follow_join (step_rows strictly k place some step)
+          (rows_of strictly k false (after place bytes step.rest) step.others step.rest) (own.rows place here)
+          (more.rows (after place bytes step.rest) here));
     }
-      where
-        followed : (place : Place) → place.depth ≡ depth → AllFollow (rows_of strictly (suc k) false place some bytes)
-        followed place here =
-            let goes' : rest_after false k (place.depth + 1) step ≡ Some step.rest = rw here own.rest in
-            subst (λ (rows : List Row). AllFollow rows)
-            (sym (row_step strictly k false place some bytes step end (rw here known)
-            ∙ ap (λ (o : Option (List ℕ)). step_rows strictly k place some step
-            ++ next_rows (λ (r : List ℕ). rows_of strictly k false (after place bytes r) step.others r) o)
-            goes'))
-            (follow_join (step_rows strictly k place some step)
-            (rows_of strictly k false (after place bytes step.rest) step.others step.rest) (own.rows place here)
-            (more.rows (after place bytes step.rest) here))
 
 -- a content that is a structure
 inside_goes : (most depth : ℕ) (some : List Component) (h : Header) (front : List ℕ) (g : ℕ) (p : Presence)
@@ -202,14 +185,28 @@ key_follows key =
 not_less : (n : ℕ) → nat_lt n n ≡ false
 not_less n = grind (arith, nat_tests)
 
--- what a key's bytes are
-record IsKnown (a : List ℕ) : Type 0 where
-  whole : whole_as false tables.FIRST.0 a ≡ true
-  rows : AllFollow (rows_as strictly tables.FIRST.0 false a)
+-- ---- the form
 
-key_is : (key : Key) (a : List ℕ) → IsKeyOf key a → length a ≤ max_content_len → IsKnown a
-unfolding root_step cases admits others_after
-key_is key a is few =
+best_none : (bytes : List ℕ) (first : Form) (others : List Form) → left_as first.0 bytes ≡ 0
+    → whole_as false first.0 bytes ≡ true → best bytes first others ≡ first
+unfolding best better
+best_none bytes first [] none whole = refl
+best_none bytes first (second ∷ others) none whole =
+    let fewer : nat_lt (left_as second.0 bytes) (left_as first.0 bytes) ≡ false = grind (arith, nat_tests) in
+    rw (fewer, whole, and-false (whole_as false second.0 bytes),
+    and-false (left_as second.0 bytes == left_as first.0 bytes)) (best_none bytes first others none whole)
+
+-- ---- a key's bytes
+
+pub record IsKnown (a : List ℕ) : Type 0 where
+  pub form : (plan_of a).form ≡ Some tables.FIRST
+  pub whole : (plan_of a).is_whole ≡ true
+  pub way : (plan_of a).way ≡ ways.Strict
+  pub rows : AllFollow (picture false a)
+
+pub key_known : (key : Key) (a : List ℕ) → IsKeyOf key a → length a ≤ max_content_len → IsKnown a
+unfolding root_step cases admits others_after plan_of known_as left_as nearest picture rows_by
+key_known key a is few =
     let content : List ℕ = inside_key key in
     let m : ℕ = length content in
     let root : Component = tables.FIRST.0 in
@@ -223,51 +220,24 @@ key_is key a is few =
     let goes : Goes (length a) 0 (root ∷ []) step =
     inside_goes (length a) 0 (root ∷ []) (der_header 0x30 m) (header 0x30 m) _ _ (structures.Key of_keys.EcPrivateKey) _
     [] content [] refl (key_follows key (length a) (omega (arith, size, few)) (omega (arith, size))) in
-    record {
-      whole = whole_found false root a step begins
-          ∙ (ap (λ (o : Option (List ℕ)). ended_by step o) goes.rest ∙ eq-eqb m m refl);
-      rows = subst (λ (rows : List Row). AllFollow rows)
-          (sym (rows_after strictly root false a [] step begins goes.rest))
-          (follow_join (step_rows strictly (length a) (first_place false (length a)) (root ∷ []) step) []
-          (goes.rows (first_place false (length a)) refl) tt);
-    }
-
--- ---- the form
-
-best_none : (bytes : List ℕ) (first : Form) (others : List Form) → left_as first.0 bytes ≡ 0
-    → whole_as false first.0 bytes ≡ true → best bytes first others ≡ first
-unfolding best better
-best_none bytes first [] none whole = refl
-best_none bytes first (second ∷ others) none whole =
-    let fewer : nat_lt (left_as second.0 bytes) (left_as first.0 bytes) ≡ false = grind (arith, nat_tests) in
-    let test : is_nearer (left_as second.0 bytes) (whole_as false second.0 bytes) (left_as first.0 bytes)
-    (whole_as false first.0 bytes) ≡ false =
-    rw (
-      fewer,
-      whole,
-      and-false (whole_as false second.0 bytes),
-      and-false (left_as second.0 bytes == left_as first.0 bytes),
-    ) refl in
-    ap (λ (form : Form). best bytes form others)
-    (ap (λ (b : Bool). if b then second else first) test) ∙ best_none bytes first others none whole
-
--- so the plan
-pub record HasKeyPlan (a : List ℕ) : Type 0 where
-  pub form : (plan_of a).form ≡ Some tables.FIRST
-  pub whole : (plan_of a).is_whole ≡ true
-  pub way : (plan_of a).way ≡ ways.Strict
-  pub rows : AllFollow (picture false a)
-
-pub key_known : (key : Key) (a : List ℕ) → IsKeyOf key a → length a ≤ max_content_len → HasKeyPlan a
-unfolding plan_of known_as left_as nearest picture rows_by
-key_known key a is few =
-    let known : IsKnown a = key_is key a is few in
-    let left : left_as tables.FIRST.0 a ≡ 0 =
-    ap capped (none_left (rows_as strictly tables.FIRST.0 false a) known.rows) in
-    let near : nearest a ≡ tables.FIRST = best_none a tables.FIRST tables.OTHERS left known.whole in
-    record {
-      form = rw (near, known.whole) refl;
-      whole = rw (near, known.whole) refl;
-      way = rw (near, known.whole) refl;
-      rows = rw (near, known.whole) known.rows;
-    }
+    let whole : whole_as false root a ≡ true =
+    whole_found false root a step begins
+    ∙ (ap (λ (o : Option (List ℕ)). ended_by step o) goes.rest ∙ eq-eqb m m refl) in
+    let rows : AllFollow (rows_as strictly root false a) =
+    rw (rows_after strictly root false a [] step begins goes.rest)
+    (follow_join (step_rows strictly (length a) (first_place false (length a)) (root ∷ []) step) []
+    (goes.rows (first_place false (length a)) refl) tt) in
+    known a whole rows
+  where
+    known : (b : List ℕ) → whole_as false tables.FIRST.0 b ≡ true → AllFollow (rows_as strictly tables.FIRST.0 false b)
+        → IsKnown b
+    known b whole rows =
+        let left : left_as tables.FIRST.0 b ≡ 0 =
+        ap capped (none_left (rows_as strictly tables.FIRST.0 false b) rows) in
+        let near : nearest b ≡ tables.FIRST = best_none b tables.FIRST tables.OTHERS left whole in
+        record {
+          form = rw (near, whole) refl;
+          whole = rw (near, whole) refl;
+          way = rw (near, whole) refl;
+          rows = rw (near, whole) rows;
+        }

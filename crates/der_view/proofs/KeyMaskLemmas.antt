@@ -3,19 +3,20 @@ use Rattle.der_view.proofs.KeyLemmas.{inside, inside_alike, Alike, AreShut, Cont
 use Rattle.der_view.proofs.KeyLemmas.{blind, cut_unfollowed, everything, goes, key_alike, lens, masks_alike, next_alike}
 use Rattle.der_view.proofs.KeyLemmas.{passed, cut_alike, is_shut, tags_of, undrawn_same}
 use Rattle.std.proofs.Common.{◌≡◌, ◌&&◌, ◌||◌, ◌-◌, ◌+◌, ℕ, zero, suc, ◌<◌, ◌≤◌, Bool, true, false, List, [], ◌∷◌, ◌++◌}
-use Rattle.std.proofs.Common.{length, take, refl, sym, ap, Option, Some, None, arith, nat_le, ⊎_elim, subst}
+use Rattle.std.proofs.Common.{length, take, refl, sym, ap, Option, Some, None, arith, nat_le, ⊎_elim, subst, ◌∙◌, inl}
+use Rattle.std.proofs.Common.{append-nil}
 use Rattle.std.proofs.lemmas.Bool.{and_parts, cases_lt}
 use Rattle.std.proofs.lemmas.Bool.Decides.{nat_tests}
-use Rattle.std.proofs.lemmas.List.{length-append, length-take}
+use Rattle.std.proofs.lemmas.List.{length-append, length-take, append_assoc, drop_at}
 use Rattle.std.proofs.Math.Seq.{take-append-add}
 use Rattle.std.specs.Prelude.{if◌then◌else◌, replicate}
-use Rattle.sec1_der.specs.Elements.{header}
+use Rattle.sec1_der.specs.Elements.{header, element}
 use Rattle.der_view.specs.Contents.{has_type, is_number, is_small}
 use Rattle.der_view.specs.Grammar.{Component, Form, cases, components, container_components, key_components}
 use Rattle.der_view.specs.Grammar.{public_components, service_components, signed_components}
 use Rattle.der_view.specs.Headers.{max_content_len}
 use Rattle.der_view.specs.Keys.{AreLevels, AreParts, AreUnseen, IsContent, IsCutIn, Level, Part, integers, key_bytes}
-use Rattle.der_view.specs.Keys.{key_in}
+use Rattle.der_view.specs.Keys.{key_in, DifferIn}
 use Rattle.der_view.specs.Masks.{AreAlike, AreAlikeAs, mask_as, mask_by_way, mask_with, undrawn}
 use Rattle.der_view.specs.Pictures.{best, better, form_by, is_nearer, is_retagged, is_tree, known_as, left_as, nearest}
 use Rattle.der_view.specs.Pictures.{parts_as, plan_of, root_of, root_step, whole_as}
@@ -25,6 +26,10 @@ use Rattle.der_view.specs.declared.grammar.forms.TheConstants as tables
 use Rattle.der_view.specs.declared.plan.Plan.{Plan}
 use Rattle.der_view.specs.declared.plan.Way.{Way}
 use Rattle.der_view.specs.declared.plan.Way.TheVariants as ways
+use Rattle.std.specs.Option.{option_map}
+use Rattle.sec1.specs.Keys.{IsKeyOf, Key, field}
+use Rattle.sec1_der.specs.Identifiers.{content_of}
+use Rattle.sec1_der.specs.Trees.{forest, joined, leaf}
 
 -- ---- the root
 
@@ -54,13 +59,9 @@ unfolding best better
 best_holds holds bytes first [] one more = one
 best_holds holds bytes first (second ∷ others) one more =
     let parts = and_parts (root_holds holds second.0) (forms_hold holds others) more in
-    best_holds holds bytes (better bytes first second) others (choose parts.0 nearer) parts.1
+    best_holds holds bytes (better bytes first second) others (choose parts.0 (is_nearer (left_as second.0 bytes)
+    (whole_as false second.0 bytes) (left_as first.0 bytes) (whole_as false first.0 bytes))) parts.1
   where
-    nearer : Bool
-    nearer =
-        is_nearer (left_as second.0 bytes) (whole_as false second.0 bytes) (left_as first.0 bytes)
-        (whole_as false first.0 bytes)
-
     choose : root_holds holds second.0 ≡ true → (test : Bool)
         → root_holds holds (if test then second else first).0 ≡ true
     choose two true = two
@@ -208,3 +209,59 @@ pub ec_unseen : (m n : ℕ) (version x y rest : List ℕ) → length version ≤
 unfolding cases components container_components key_components public_components service_components signed_components
 ec_unseen m n version x y rest few =
     unseen [] ((0x02, version) ∷ []) 0x04 m n x y rest (octets_shut n, refl) refl ((refl, few, tt), refl)
+
+-- the bytes after the private key, those inside the SEQUENCE, and the same by the bytes after the private key's header
+abbrev pub after_key : Key → List ℕ
+after_key key = joined (forest (field 0 (option_map (λ arcs. leaf 0x06 (content_of arcs)) key.parameters)
+    ++ field 1 (option_map (λ bytes. leaf 0x03 (0 ∷ bytes)) key.public_key)))
+
+abbrev pub inside_key : Key → List ℕ
+inside_key key = element 0x02 (1 ∷ []) ++ (element 0x04 key.private_key ++ after_key key)
+
+abbrev ec_in : ℕ → List ℕ → List ℕ
+ec_in n x = key_in [] ((0x02, 1 ∷ []) ∷ []) 0x04 n x
+
+key_same : (key : Key) → inside_key key ≡ ec_in (length key.private_key) (key.private_key ++ after_key key)
+key_same key =
+    ap (λ (b : List ℕ). element 0x02 (1 ∷ []) ++ b)
+    (append_assoc (header 0x04 (length key.private_key)) key.private_key (after_key key))
+
+key_form : (key : Key) (a : List ℕ) → IsKeyOf key a
+    → a ≡ key_bytes (length (ec_in (length key.private_key) (key.private_key ++ after_key key))) []
+    ((0x02, 1 ∷ []) ∷ []) 0x04 (length key.private_key) (key.private_key ++ after_key key) []
+unfolding key_bytes
+key_form key a is =
+    let inside : List ℕ = ec_in (length key.private_key) (key.private_key ++ after_key key) in
+    is.tree.whole
+    ∙ (ap (λ (b : List ℕ). header 0x30 (length b) ++ b) (key_same key)
+    ∙ ap (λ (b : List ℕ). header 0x30 (length inside) ++ b) (sym (append-nil inside)))
+
+ec_len : (n : ℕ) (x : List ℕ)
+    → length (ec_in n x) ≡ length (element 0x02 (1 ∷ [])) + (length (header 0x04 n) + length x)
+ec_len n x =
+    length-append (element 0x02 (1 ∷ [])) (header 0x04 n ++ x)
+    ∙ ap (λ (j : ℕ). length (element 0x02 (1 ∷ [])) + j) (length-append (header 0x04 n) x)
+
+pub keys_alike : (k l : Key) (a b : List ℕ) → IsKeyOf k a → IsKeyOf l b → k.parameters ≡ l.parameters
+    → k.public_key ≡ l.public_key → length k.private_key ≡ length l.private_key → length a ≤ max_content_len
+    → AreAlike a b
+keys_alike k l a b p q parameters public_key size few =
+    let after : after_key k ≡ after_key l = rw (parameters, public_key) refl in
+    let n : ℕ = length k.private_key in
+    let x : List ℕ = k.private_key ++ after_key k in
+    let y : List ℕ = l.private_key ++ after_key l in
+    let xs = length-append k.private_key (after_key k) in
+    let len : length x ≡ length y = omega (arith, xs, length-append l.private_key (after_key l), ap length after, size) in
+    let both : length (ec_in n y) ≡ length (ec_in n x) = ec_len n y ∙ (rw len refl ∙ sym (ec_len n x)) in
+    let whole = ap length p.tree.whole ∙ length-append (header 0x30 (length (inside_key k))) (inside_key k) in
+    let fits : length (ec_in n x) ≤ max_content_len = omega (arith, whole, ap length (key_same k), few) in
+    let short : n ≤ max_content_len = omega (arith, ec_len n x, xs, fits) in
+    let differ : DifferIn n x y = record {
+      few = short;
+      len = len;
+      after = drop_at k.private_key (after_key k) n refl
+          ∙ (after ∙ sym (drop_at l.private_key (after_key l) n (sym size)));
+    } in
+    rw (key_form k a p, rw (← size, both) at (key_form l b q))
+    (ec_unseen (length (ec_in n x)) n (1 ∷ []) x y [] (omega arith) differ
+    (record { few = fits; there = inl refl }))

@@ -11,7 +11,6 @@ pub mod HeaderLemmas
 pub mod KeyFormLemmas
 pub mod KeyLemmas
 pub mod KeyMaskLemmas
-pub mod KeyOfLemmas
 pub mod LevelLemmas
 pub mod LineLemmas
 pub mod MaskLemmas
