@@ -1,14 +1,14 @@
 -- Masks of elements in DER whose contents differ, of what is around them, and of private keys.
-use Rattle.std.proofs.Common.{inr, ap₂, ◌||◌, ◌≡◌, ◌==◌, ◌&&◌, ℕ, zero, suc, ◌+◌, ◌<◌, ◌≤◌, Bool, true, false, List, []}
-use Rattle.std.proofs.Common.{◌∷◌, ◌++◌, length, take, drop, refl, sym, ap, ◌∙◌, Option, Some, None, arith}
-use Rattle.std.proofs.Common.{length-append, append_assoc, ⊎_elim, append-nil, inl}
+use Rattle.std.proofs.lemmas.List.{nil_from_length, drop_all, drop_at, length-take, take_all, take_at}
+use Rattle.std.proofs.Common.{ap₂, ◌||◌, ◌≡◌, ◌==◌, ◌&&◌, ℕ, zero, suc, ◌+◌, ◌<◌, ◌≤◌, Bool, true, false, List, [], ◌∷◌}
+use Rattle.std.proofs.Common.{◌++◌, length, take, drop, refl, sym, ap, ◌∙◌, Option, Some, None, arith, length-append}
+use Rattle.std.proofs.Common.{append_assoc, ⊎_elim, append-nil, inl}
 use Rattle.der_view.specs.Rows.{after_inside, inside_bytes, inside_loose, is_open, opened_of, rest_after, rest_of}
 use Rattle.der_view.specs.Rows.{rest_with, Step, admits, chosen, component_at, component_by, end_at, fitting, has_tag}
 use Rattle.der_view.specs.Rows.{is_followed, opened_in, others_after, step_at, step_by, step_made, step_with}
 use Rattle.std.proofs.Math.Bool.{and-false, or-true}
 use Rattle.std.proofs.lemmas.Bool.{and_parts}
 use Rattle.std.proofs.lemmas.Bool.Decides.{nat_tests}
-use Rattle.std.proofs.lemmas.List.{drop_all, drop_at, length-take, take_all, take_at}
 use Rattle.std.specs.Option.{is_some}
 use Rattle.std.specs.Prelude.{if◌then◌else◌, is_none, nat_lt, not}
 use Rattle.sec1_der.specs.Elements.{element, header, length_octets}
@@ -289,19 +289,29 @@ everything cs = true
 pub same_alike : (x : List ℕ) → Alike everything x x
 same_alike x = record { len = refl; anything = refl; masks = λ cs is loose small most depth. refl }
 
-parts_of : (n : ℕ) (a s : List ℕ) → IsContent n a s → (take n (a ++ s) ≡ a) × (drop n (a ++ s) ≡ s)
-parts_of n a s is = ⊎_elim
-    (λ (all : length a ≡ n). (take_at a s n all, drop_at a s n all))
-    (λ (cut : (length a ≤ n) × (s ≡ [])). rw (cut.1, append-nil a) (take_all n a cut.0, drop_all n a cut.0))
+parts_of : (n : ℕ) (a b s t : List ℕ) → IsContent n a s → length a ≡ length b → length s ≡ length t
+    → (take n (b ++ t) ≡ b) × (drop n (b ++ t) ≡ t)
+parts_of n a b s t is size same = ⊎_elim
+    (λ (all : length a ≡ n). (take_at b t n (sym size ∙ all), drop_at b t n (sym size ∙ all)))
+    (λ (cut : (length a ≤ n) × (s ≡ [])).
+    let none : t ≡ [] = nil_from_length t (sym same ∙ ap length cut.1) in
+    let few : length b ≤ n = omega (arith, cut.0, size) in
+    rw (none, append-nil b) (take_all n b few, drop_all n b few))
     is.there
 
-pub with_content : (fine : Content → Bool) (holds : List Component → Bool) (tag n : ℕ) (a b s t : List ℕ)
-    → is_low tag ≡ true → IsContent n a s → IsContent n b t → length (a ++ s) ≡ length (b ++ t)
-    → Unseen fine (der_header tag n) a b → Alike holds s t → Contents fine holds tag n (a ++ s) (b ++ t)
-with_content fine holds tag n a b s t low one two len content rest =
-    let p = parts_of n a s one in
-    let q = parts_of n b t two in
-    record { low = low; few = one.few; len = len; content = rw (p.0, q.0) content; rest = rw (p.1, q.1) rest }
+with_content : (fine : Content → Bool) (holds : List Component → Bool) (tag n : ℕ) (a b s t : List ℕ)
+    → is_low tag ≡ true → IsContent n a s → length a ≡ length b → Unseen fine (der_header tag n) a b
+    → Alike holds s t → Contents fine holds tag n (a ++ s) (b ++ t)
+with_content fine holds tag n a b s t low is size content rest =
+    let p = parts_of n a a s s is refl refl in
+    let q = parts_of n a b s t is size rest.len in
+    record {
+      low = low;
+      few = is.few;
+      len = omega (arith, length-append a s, length-append b t, size, rest.len);
+      content = rw (p.0, q.0) content;
+      rest = rw (p.1, q.1) rest;
+    }
 
 -- whether this holds of the components after elements with these tags, if such follow
 abbrev pub passed : (List Component → Bool) → List ℕ → List Component → Bool
@@ -319,15 +329,13 @@ parts_alike (part ∷ parts) holds s t (low, few, are) alike =
     let u : List ℕ = parts_before parts s in
     let v : List ℕ = parts_before parts t in
     let n : ℕ = length part.1 in
-    let there : (w : List ℕ) → IsContent n part.1 w = λ w. record { few = few; there = inl refl } in
-    let rest = parts_alike parts holds s t are alike in
     rw (append_assoc (header part.0 n) part.1 u, append_assoc (header part.0 n) part.1 v)
     (element_alike (λ k. true) (passed holds (tags_of parts)) part.0 n (part.1 ++ u) (part.1 ++ v)
-    (with_content (λ k. true) (passed holds (tags_of parts)) part.0 n part.1 part.1 u v low (there u) (there v)
-    (lens part.1 u v rest.len) (record {
+    (with_content (λ k. true) (passed holds (tags_of parts)) part.0 n part.1 part.1 u v low
+    (record { few = few; there = inl refl }) refl (record {
       anything = refl;
       same = λ c is loose small most depth. same_content loose small most depth (der_header part.0 n) c part.1 refl;
-    }) rest))
+    }) (parts_alike parts holds s t are alike)))
 
 -- ---- contents
 
@@ -375,19 +383,9 @@ pub inside_alike : (holds : List Component → Bool) (tag n : ℕ) (a b after : 
     → IsContent n a after → IsShut tag n → Alike holds a b
     → Contents (inside holds) everything tag n (a ++ after) (b ++ after)
 inside_alike holds tag n a b after low is shut alike =
-    with_content (inside holds) everything tag n a b after after low is again
-    (omega (arith, length-append a after, length-append b after, alike.len))
+    with_content (inside holds) everything tag n a b after after low is alike.len
     (content_unseen holds tag n a b alike.len shut alike.masks (λ made. alike.masks any alike.anything))
     (same_alike after)
-  where
-    again : IsContent n b after
-    again = record {
-      few = is.few;
-      there = ⊎_elim (λ (all : length a ≡ n). inl (sym alike.len ∙ all))
-          (λ (cut : (length a ≤ n) × (after ≡ [])).
-          let few : length a ≤ n = cut.0 in
-          inr (omega (arith, few, alike.len), cut.1)) is.there;
-    }
 
 -- ---- private elements
 

@@ -236,12 +236,6 @@ key_form key a is =
     ∙ (ap (λ (b : List ℕ). header 0x30 (length b) ++ b) (key_same key)
     ∙ ap (λ (b : List ℕ). header 0x30 (length inside) ++ b) (sym (append-nil inside)))
 
-ec_len : (n : ℕ) (x : List ℕ)
-    → length (ec_in n x) ≡ length (element 0x02 (1 ∷ [])) + (length (header 0x04 n) + length x)
-ec_len n x =
-    length-append (element 0x02 (1 ∷ [])) (header 0x04 n ++ x)
-    ∙ ap (λ (j : ℕ). length (element 0x02 (1 ∷ [])) + j) (length-append (header 0x04 n) x)
-
 pub keys_alike : (k l : Key) (a b : List ℕ) → IsKeyOf k a → IsKeyOf l b → k.parameters ≡ l.parameters
     → k.public_key ≡ l.public_key → length k.private_key ≡ length l.private_key → length a ≤ max_content_len
     → AreAlike a b
@@ -252,10 +246,12 @@ keys_alike k l a b p q parameters public_key size few =
     let y : List ℕ = l.private_key ++ after_key l in
     let xs = length-append k.private_key (after_key k) in
     let len : length x ≡ length y = omega (arith, xs, length-append l.private_key (after_key l), ap length after, size) in
-    let both : length (ec_in n y) ≡ length (ec_in n x) = ec_len n y ∙ (rw len refl ∙ sym (ec_len n x)) in
+    let both : length (ec_in n y) ≡ length (ec_in n x) =
+    lens (element 0x02 (1 ∷ [])) (header 0x04 n ++ y) (header 0x04 n ++ x) (lens (header 0x04 n) y x (sym len)) in
     let whole = ap length p.tree.whole ∙ length-append (header 0x30 (length (inside_key k))) (inside_key k) in
     let fits : length (ec_in n x) ≤ max_content_len = omega (arith, whole, ap length (key_same k), few) in
-    let short : n ≤ max_content_len = omega (arith, ec_len n x, xs, fits) in
+    let short : n ≤ max_content_len = omega (arith, length-append (element 0x02 (1 ∷ [])) (header 0x04 n ++ x),
+    length-append (header 0x04 n) x, xs, fits) in
     let differ : DifferIn n x y = record {
       few = short;
       len = len;
