@@ -1,6 +1,6 @@
 -- A key is an ECPrivateKey, whole, and each of its elements follows.
-use Rattle.std.proofs.Common.{◌≡◌, ℕ, zero, suc, ◌+◌, ◌<◌, ◌≤◌, Bool, true, false, List, [], ◌∷◌, ◌++◌, length, refl}
-use Rattle.std.proofs.Common.{ap, ◌∙◌, Option, Some, None, arith, eq-eqb, append_assoc, drop, ◌==◌}
+use Rattle.std.proofs.Common.{take, ◌≡◌, ℕ, zero, suc, ◌+◌, ◌<◌, ◌≤◌, Bool, true, false, List, [], ◌∷◌, ◌++◌, length}
+use Rattle.std.proofs.Common.{refl, ap, ◌∙◌, Option, Some, None, arith, eq-eqb, append_assoc, drop, ◌==◌}
 use Rattle.std.proofs.Math.Bool.{and-false}
 use Rattle.std.proofs.lemmas.Bool.Decides.{nat_tests}
 use Rattle.std.proofs.lemmas.List.{drop_at, length-append, take_at}
@@ -32,8 +32,7 @@ use Rattle.der_view.specs.declared.grammar.keys.KeyStructure.TheVariants as of_k
 use Rattle.der_view.specs.declared.header.Header.{Header}
 use Rattle.der_view.specs.declared.plan.Way.TheVariants as ways
 use Rattle.der_view.specs.declared.walk.Place.{Place}
-use Rattle.der_view.proofs.DerLemmas.{der_header}
-use Rattle.der_view.proofs.KeyLemmas.{goes_on, next_is}
+use Rattle.der_view.proofs.KeyLemmas.{der_header, goes_on, next_is}
 use Rattle.der_view.proofs.KeyMaskLemmas.{inside_key}
 use Rattle.der_view.proofs.PictureLemmas.{rows_after, whole_found}
 use Rattle.der_view.proofs.SameLemmas.{step_as}
@@ -77,9 +76,8 @@ ended depth some is (suc most) few less = record { rest = rw is refl; rows = λ 
 element_follows : (depth : ℕ) (some : List Component) (tag : ℕ) (content rest : List ℕ) (c : Component)
     (others : List Component) → nat_lt depth 64 ≡ true → is_low tag ≡ true
     → component_at tag (der_header tag (length content)) content some ≡ Some (c, others)
-    → ((most : ℕ) → length content ≤ max_content_len → length content < most
-    → Goes most depth some (step_as (der_header tag (length content)) (header tag (length content)) c others true content
-    rest))
+    → ((most : ℕ) (head : List ℕ) → length content ≤ max_content_len → length content < most
+    → Goes most depth some (step_as (der_header tag (length content)) head c others true content rest))
     → Follows depth others rest → Follows depth some (element tag content ++ rest)
 unfolding step_at
 element_follows depth some tag content rest c others deep low is goes next zero few less = absurd (omega (arith, less))
@@ -87,10 +85,11 @@ element_follows depth some tag content rest c others deep low is goes next (suc 
     let n : ℕ = length content in
     let x : List ℕ = content ++ rest in
     let bytes : List ℕ = header tag n ++ x in
-    let step : Step = step_as (der_header tag n) (header tag n) c others true content rest in
+    let head : List ℕ = take (der_header tag n).len bytes in
+    let step : Step = step_as (der_header tag n) head c others true content rest in
     let size : length (element tag content ++ rest) ≡ suc (length (length_octets n) + n + length rest) =
     omega (arith, length-append (element tag content) rest, length-append (header tag n) content) in
-    let own = goes most (omega (arith, size, few)) (omega (arith, size, less)) in
+    let own = goes most head (omega (arith, size, few)) (omega (arith, size, less)) in
     let more = next most (omega (arith, size, few)) (omega (arith, size, less)) in
     let fits : nat_lt (length x) n ≡ false =
     let long : length x ≡ n + length rest = length-append content rest in
@@ -135,7 +134,7 @@ leaf_follows : (depth : ℕ) (some : List Component) (tag : ℕ) (content rest :
     → Follows depth others rest → Follows depth some (element tag content ++ rest)
 leaf_follows depth some tag content rest c others deep low is shut next =
     element_follows depth some tag content rest c others deep low is
-    (λ most few less. record { rest = rw shut refl; rows = λ place here. rw shut (refl, tt) }) next
+    (λ most head few less. record { rest = rw shut refl; rows = λ place here. rw shut (refl, tt) }) next
 
 -- a field in which is one element
 field_follows : (some : List Component) (tag inner : ℕ) (content rest : List ℕ) (g : ℕ) (p : Presence) (s : Structure)
@@ -148,8 +147,8 @@ field_follows : (some : List Component) (tag inner : ℕ) (content rest : List �
 field_follows some tag inner content rest g p s name c others low deep is known shut next =
     let x : List ℕ = element inner content ++ [] in
     element_follows 1 some tag x rest (g, p, contents.Inside s, name) others refl low (is x)
-    (λ most few less. inside_goes most 1 some (der_header tag (length x)) (header tag (length x)) g p s name others x rest
-    refl (leaf_follows 2 (components s) inner content [] c [] refl deep known shut (ended 2 [] refl) most few less)) next
+    (λ most head few less. inside_goes most 1 some (der_header tag (length x)) head g p s name others x rest refl
+    (leaf_follows 2 (components s) inner content [] c [] refl deep known shut (ended 2 [] refl) most few less)) next
 
 abbrev ec_key : List Component
 ec_key = components (structures.Key of_keys.EcPrivateKey)
@@ -212,13 +211,14 @@ key_known key a is few =
     let root : Component = tables.FIRST.0 in
     let size : length a ≡ suc (length (length_octets m) + m) =
     omega (arith, ap length is.tree.whole, length-append (header 0x30 m) content) in
-    let step : Step = step_as (der_header 0x30 m) (header 0x30 m) root [] true content [] in
+    let head : List ℕ = take (der_header 0x30 m).len (header 0x30 m ++ content) in
+    let step : Step = step_as (der_header 0x30 m) head root [] true content [] in
     let begins : root_step root a ≡ Some step =
     ap (λ (b : List ℕ). root_step root b) is.tree.whole
     ∙ (next_is true false (root ∷ []) 0x30 m content refl (omega (arith, size, few))
     ∙ rw (not_less m, take-length content, drop-length content) refl) in
     let goes : Goes (length a) 0 (root ∷ []) step =
-    inside_goes (length a) 0 (root ∷ []) (der_header 0x30 m) (header 0x30 m) _ _ (structures.Key of_keys.EcPrivateKey) _
+    inside_goes (length a) 0 (root ∷ []) (der_header 0x30 m) head _ _ (structures.Key of_keys.EcPrivateKey) _
     [] content [] refl (key_follows key (length a) (omega (arith, size, few)) (omega (arith, size))) in
     let whole : whole_as false root a ≡ true =
     whole_found false root a step begins

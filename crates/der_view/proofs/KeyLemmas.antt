@@ -1,20 +1,21 @@
 -- Masks of elements in DER whose contents differ, of what is around them, and of private keys.
+use Rattle.std.proofs.Common.{subst, ap₂, ◌||◌, ◌≡◌, ◌==◌, ◌&&◌, ℕ, zero, suc, ◌+◌, ◌<◌, ◌≤◌, Bool, true, false, List}
+use Rattle.std.proofs.Common.{[], ◌∷◌, ◌++◌, length, take, drop, refl, sym, ap, ◌∙◌, Option, Some, None, arith}
+use Rattle.std.proofs.Common.{length-append, append_assoc, ⊎_elim, append-nil, inl, ◌-◌, ◌/◌, ◌%◌, if◌then◌else◌}
+use Rattle.std.proofs.Common.{Result, Ok, not, lt-ltb, ne_eqb}
 use Rattle.std.proofs.lemmas.List.{nil_from_length, drop_all, drop_at, length-take, take_all, take_at}
-use Rattle.std.proofs.Common.{ap₂, ◌||◌, ◌≡◌, ◌==◌, ◌&&◌, ℕ, zero, suc, ◌+◌, ◌<◌, ◌≤◌, Bool, true, false, List, [], ◌∷◌}
-use Rattle.std.proofs.Common.{◌++◌, length, take, drop, refl, sym, ap, ◌∙◌, Option, Some, None, arith, length-append}
-use Rattle.std.proofs.Common.{append_assoc, ⊎_elim, append-nil, inl}
 use Rattle.der_view.specs.Rows.{after_inside, inside_bytes, inside_loose, is_open, opened_of, rest_after, rest_of}
-use Rattle.der_view.specs.Rows.{rest_with, Step, admits, chosen, component_at, component_by, end_at, fitting, has_tag}
-use Rattle.der_view.specs.Rows.{is_followed, opened_in, others_after, step_at, step_by, step_made, step_with}
+use Rattle.der_view.specs.Rows.{rest_with, Step, admits, chosen, component_by, end_at, fitting, has_tag, is_followed}
+use Rattle.der_view.specs.Rows.{opened_in, others_after, step_at, step_by, step_made, step_with, element_at, element_by}
 use Rattle.std.proofs.Math.Bool.{and-false, or-true}
-use Rattle.std.proofs.lemmas.Bool.{and_parts}
+use Rattle.std.proofs.lemmas.Bool.{and_parts, cases_lt}
 use Rattle.std.proofs.lemmas.Bool.Decides.{nat_tests}
 use Rattle.std.specs.Option.{is_some}
-use Rattle.std.specs.Prelude.{if◌then◌else◌, is_none, nat_lt, not}
-use Rattle.sec1_der.specs.Elements.{element, header, length_octets}
+use Rattle.std.specs.Prelude.{is_none, nat_lt}
+use Rattle.sec1_der.specs.Elements.{element, header, length_octets, number_of}
 use Rattle.der_view.specs.Contents.{is_small, is_whole, shown_len}
 use Rattle.der_view.specs.Grammar.{Case, Component, cases, components}
-use Rattle.der_view.specs.Headers.{max_content_len}
+use Rattle.der_view.specs.Headers.{max_content_len, header_of, length_at, tag_of}
 use Rattle.der_view.specs.Keys.{AreLevels, AreParts, DifferIn, IsContent, Level, Part, is_low, key_in, parts_before}
 use Rattle.der_view.specs.Masks.{masked, next_mask, step_mask, undrawn}
 use Rattle.der_view.specs.declared.grammar.Content.{Content}
@@ -22,51 +23,97 @@ use Rattle.der_view.specs.declared.grammar.Content.TheVariants as contents
 use Rattle.der_view.specs.declared.grammar.TheConstants as elements
 use Rattle.der_view.specs.declared.grammar.Structure.{Structure}
 use Rattle.der_view.specs.declared.header.Header.{Header}
-use Rattle.der_view.proofs.DerLemmas.{der_header, element_in_der, head_len}
 use Rattle.der_view.proofs.SameLemmas.{SameContent, StepsAlike, any, closed_alike, content_alike, inside_content}
 use Rattle.der_view.proofs.SameLemmas.{same_content, step_as, unseen_len, unseen_same, whole_len}
+use Rattle.std.proofs.lemmas.Int.Digits.{length-digits_of_step, length-digits_of-le, number_digits_of}
+use Rattle.std.specs.Int.Digits.{digits_of}
+use Rattle.sec1_der.proofs.LengthLaws.{len_1, len_long}
+use Rattle.der_view.specs.declared.header.ElementFault.{ElementFault}
+
+-- ---- an element in DER
+
+-- the length of a content in DER
+length_in_der : (n : ℕ) (rest : List ℕ) → n ≤ max_content_len
+    → length_at (length_octets n ++ rest) ≡ Ok (Some n, length (length_octets n))
+length_in_der n rest few = ⊎_elim
+    (λ small. rw (len_1 n small, lt-ltb n 128 small) refl)
+    (λ large.
+    let d : ℕ = length (digits_of 256 n) in
+    let more : d ≡ length (digits_of 256 (n / 256)) + 1 = length-digits_of_step 256 n (omega arith) (omega arith) in
+    let most : d ≤ 4 = length-digits_of-le 256 4 n (omega arith) (omega arith) in
+    let count : 128 + d - 0x80 ≡ d = omega arith in
+    let long : nat_lt (128 + d) 0x80 ≡ false = grind (arith, nat_tests) in
+    let some : (128 + d == 0x80) ≡ false = ne_eqb (128 + d) 0x80 (λ e. omega arith) in
+    let other : (128 + d == 0xFF) ≡ false = ne_eqb (128 + d) 0xFF (λ e. omega arith) in
+    let short : nat_lt 0x84 (128 + d) ≡ false = grind (arith, nat_tests) in
+    let fits : nat_lt (length (digits_of 256 n ++ rest)) d ≡ false =
+    let size : length (digits_of 256 n ++ rest) ≡ d + length rest = length-append (digits_of 256 n) rest in
+    grind (arith, nat_tests) in
+    let front : take d (digits_of 256 n ++ rest) ≡ digits_of 256 n = take_at (digits_of 256 n) rest d refl in
+    let number : number_of (digits_of 256 n) ≡ n = number_digits_of 256 n (omega arith) in
+    let within : nat_lt max_content_len n ≡ false = grind (arith, nat_tests) in
+    let size : d + 1 ≡ suc d = omega arith in
+    rw (len_long n (digits_of 256 n) large refl, long, some, other, short, count, fits, front, number, within, size)
+    refl)
+    (cases_lt n 128)
+
+-- the header of an element of n bytes
+abbrev pub der_header : ℕ → ℕ → Header
+der_header tag n = record {
+  tag = tag_of tag (tag % 0x20);
+  tag_len = 1;
+  len = 1 + length (length_octets n);
+  content_len = Some n;
+}
+
+head_len : (tag n : ℕ) → (der_header tag n).len ≡ length (header tag n)
+head_len tag n = omega arith
+
+head_in_der : (tag n : ℕ) (x : List ℕ) → is_low tag ≡ true → n ≤ max_content_len
+    → header_of (header tag n ++ x) ≡ Ok (der_header tag n)
+head_in_der tag n x low few =
+    let parts = and_parts (not (tag == 0x00 || tag == 0x20)) (nat_lt (tag % 0x20) 0x1F) low in
+    let free : (tag == 0x00 || tag == 0x20) ≡ false = not_true (tag == 0x00 || tag == 0x20) parts.0 in
+    let small : nat_lt (tag % 0x20) 0x1F ≡ true = parts.1 in
+    rw (free, small, length_in_der n x few) refl
+  where
+    not_true : (a : Bool) → not a ≡ true → a ≡ false
+    not_true true is = cc
+    not_true false is = refl
+
+-- the element which bytes begin with
+element_in_der : (cut : Bool) (tag n : ℕ) (x : List ℕ) → is_low tag ≡ true → n ≤ max_content_len
+    → element_at cut (header tag n ++ x)
+    ≡ (if nat_lt (length x) n && not cut then None else Some (der_header tag n, take n x, drop n x))
+element_in_der cut tag n x low few =
+    let tail : drop (der_header tag n).len (header tag n ++ x) ≡ x =
+    drop_at (header tag n) x (der_header tag n).len (sym (head_len tag n)) in
+    ap (λ (r : Result Header ElementFault). element_by cut (header tag n ++ x) r) (head_in_der tag n x low few)
+    ∙ rw tail (by_len (nat_lt (length x) n) cut refl)
+  where
+    by_len : (test c : Bool) → nat_lt (length x) n ≡ test
+        → ◌≡◌ {A = Option (Header × List ℕ × List ℕ)}
+        (if test then (if c then Some (der_header tag n, x, []) else None)
+        else Some (der_header tag n, take n x, drop n x))
+        (if test && not c then None else Some (der_header tag n, take n x, drop n x))
+    by_len false c short = refl
+    by_len true false short = refl
+    by_len true true short =
+        let few : length x ≤ n = grind (arith, nat_tests) in
+        rw (take_all n x few, drop_all n x few) refl
 
 -- ---- the next element
-
--- an element with this header, content and rest, as this component, or as one of any
-abbrev made : Bool → Header → List ℕ → List ℕ → List ℕ → Option (Component × List Component) → Option Step
-made misfit h head content rest (Some found) = Some (step_as h head found.0 found.1 true content rest)
-made misfit h head content rest None =
-    if misfit then Some (step_as h head elements.ELEMENT any false content rest) else None
 
 -- of bytes that begin with a header
 pub next_is : (cut misfit : Bool) (some : List Component) (tag n : ℕ) (x : List ℕ) → is_low tag ≡ true
     → n ≤ max_content_len
     → step_by cut misfit some (header tag n ++ x)
-    ≡ (if nat_lt (length x) n && not cut then None
-    else made misfit (der_header tag n) (header tag n) (take n x) (drop n x)
-    (component_at tag (der_header tag n) (take n x) some))
+    ≡ step_with misfit tag some (header tag n ++ x)
+    (if nat_lt (length x) n && not cut then None else Some (der_header tag n, take n x, drop n x))
 unfolding step_by
 next_is cut misfit some tag n x low few =
     ap (λ (e : Option (Header × List ℕ × List ℕ)). step_with misfit tag some (header tag n ++ x) e)
-    (element_in_der cut tag n x low few) ∙ by_cut (nat_lt (length x) n && not cut)
-  where
-    h : Header
-    h = der_header tag n
-
-    head : take h.len (header tag n ++ x) ≡ header tag n
-    head = take_at (header tag n) x h.len (sym (head_len tag n))
-
-    by_component : (test : Bool) (o : Option (Component × List Component))
-        → step_made test (header tag n ++ x) (h, take n x, drop n x) o
-        ≡ made test h (header tag n) (take n x) (drop n x) o
-    by_component test (Some found) =
-        ap (λ (z : List ℕ). Some (step_as h z found.0 found.1 true (take n x) (drop n x))) head
-    by_component true None =
-        ap (λ (z : List ℕ). Some (step_as h z elements.ELEMENT any false (take n x) (drop n x))) head
-    by_component false None = refl
-
-    by_cut : (test : Bool)
-        → step_with misfit tag some (header tag n ++ x) (if test then None else Some (h, take n x, drop n x))
-        ≡ (if test then None
-        else made misfit h (header tag n) (take n x) (drop n x) (component_at tag h (take n x) some))
-    by_cut true = refl
-    by_cut false = by_component misfit (component_at tag h (take n x) some)
+    (element_in_der cut tag n x low few)
 
 -- no level ends at a header
 pub goes_on : (loose : Bool) (some : List Component) (byte : ℕ) (bytes : List ℕ)
@@ -154,11 +201,6 @@ SameNext None None = Unit {0}
 SameNext (Some p) (Some q) = AreSteps p q
 SameNext _ _ = ⊥
 
-same_if : (test : Bool) (o k u v : Option Step) → SameNext o k → SameNext u v
-    → SameNext (if test then o else u) (if test then k else v)
-same_if true o k u v one two = one
-same_if false o k u v one two = two
-
 -- ---- one element
 
 abbrev is_none_of : List Case → Bool
@@ -189,38 +231,44 @@ pub next_alike : (cut misfit : Bool) (some : List Component) (fine : Content →
     → SameNext (step_by cut misfit some (header tag n ++ x)) (step_by cut misfit some (header tag n ++ y))
 next_alike cut misfit some fine holds tag n x y e is =
     rw (next_is cut misfit some tag n x e.low e.few, next_is cut misfit some tag n y e.low e.few, ← e.len)
-    (same_if (nat_lt (length x) n && not cut) None None (of_x misfit (component_at tag h (take n x) some))
-    (of_y misfit (component_at tag h (take n y) some)) tt (by_fit (fitting tag some) is))
+    (by_cut (nat_lt (length x) n && not cut))
   where
     h : Header
     h = der_header tag n
 
-    of_x : Bool → Option (Component × List Component) → Option Step
-    of_x test o = made test h (header tag n) (take n x) (drop n x) o
+    hx : List ℕ
+    hx = take h.len (header tag n ++ x)
 
-    of_y : Bool → Option (Component × List Component) → Option Step
-    of_y test o = made test h (header tag n) (take n y) (drop n y) o
+    heads : hx ≡ take h.len (header tag n ++ y)
+    heads =
+        take_at (header tag n) x h.len (sym (head_len tag n))
+        ∙ sym (take_at (header tag n) y h.len (sym (head_len tag n)))
+
+    of : List ℕ → Bool → Option (Component × List Component) → Option Step
+    of z test o = step_made test (header tag n ++ z) (h, take n z, drop n z) o
 
     steps : (c : Component) (others : List Component) (follows : Bool) → fine c.2 ≡ true
         → Same others (drop n x) others (drop n y)
-        → AreSteps (step_as h (header tag n) c others follows (take n x) (drop n x))
-        (step_as h (header tag n) c others follows (take n y) (drop n y))
+        → AreSteps (step_as h hx c others follows (take n x) (drop n x))
+        (step_as h (take h.len (header tag n ++ y)) c others follows (take n y) (drop n y))
     steps c others follows known rest = record {
-      head = refl;
+      head = heads;
       definite = refl;
       also = refl;
       same = λ loose small most depth.
-          (e.content.same c known loose small most depth).alike (header tag n) others follows (drop n x) (drop n y);
+          subst (λ (z : List ℕ). StepsAlike loose small most depth (step_as h hx c others follows (take n x) (drop n x))
+          (step_as h z c others follows (take n y) (drop n y))) heads
+          ((e.content.same c known loose small most depth).alike hx others follows (drop n x) (drop n y));
       len = e.rest.len;
       rest = rest;
     }
 
-    by_misfit : (test : Bool) → SameNext (of_x test None) (of_y test None)
+    by_misfit : (test : Bool) → SameNext (of x test None) (of y test None)
     by_misfit true = steps elements.ELEMENT any false e.content.anything (e.rest.masks any e.rest.anything)
     by_misfit false = tt
 
     by_fit : (o : Option (Component × List Component)) → goes_by fine holds o ≡ true
-        → SameNext (of_x misfit (component_by h (take n x) o)) (of_y misfit (component_by h (take n y) o))
+        → SameNext (of x misfit (component_by h (take n x) o)) (of y misfit (component_by h (take n y) o))
     by_fit None known = by_misfit misfit
     by_fit (Some (c, others)) known =
         let fixed = and_parts (is_none_of (cases c.3)) (fine c.2 && holds others) known in
@@ -229,12 +277,18 @@ next_alike cut misfit some fine holds tag n x y e is =
         rw (← same.admitted, fixed_after h c (take n x) others fixed.0, fixed_after h c (take n y) others fixed.0)
         (by_test (steps c others true both.0 (e.rest.masks others both.1)) (admits h c.2 (take n x)))
       where
-        by_test : AreSteps (step_as h (header tag n) c others true (take n x) (drop n x))
-            (step_as h (header tag n) c others true (take n y) (drop n y))
-            → (test : Bool) → SameNext (of_x misfit (if test then Some (c, others) else None))
-            (of_y misfit (if test then Some (c, others) else None))
+        by_test : AreSteps (step_as h hx c others true (take n x) (drop n x))
+            (step_as h (take h.len (header tag n ++ y)) c others true (take n y) (drop n y))
+            → (test : Bool) → SameNext (of x misfit (if test then Some (c, others) else None))
+            (of y misfit (if test then Some (c, others) else None))
         by_test are true = are
         by_test are false = by_misfit misfit
+
+    by_cut : (test : Bool)
+        → SameNext (step_with misfit tag some (header tag n ++ x) (if test then None else Some (h, take n x, drop n x)))
+        (step_with misfit tag some (header tag n ++ y) (if test then None else Some (h, take n y, drop n y)))
+    by_cut true = tt
+    by_cut false = by_fit (fitting tag some) is
 
 any_fits : (tag : ℕ) → fitting tag any ≡ Some (elements.ELEMENT, any)
 unfolding components
@@ -276,10 +330,13 @@ element_alike fine holds tag n x y e = record {
         → Same cs (header tag n ++ x) cs (header tag n ++ y)
     by_most cs is loose small zero depth = undrawn_same (header tag n ++ x) (header tag n ++ y) size
     by_most cs is loose small (suc most) depth =
-        level loose small most depth cs _ _ refl refl
-        (same_if (nat_lt depth 64) (step_by loose loose cs (header tag n ++ x))
-        (step_by loose loose cs (header tag n ++ y)) None None
-        (next_alike loose loose cs fine holds tag n x y e is) tt)
+        level loose small most depth cs _ _ refl refl (by_depth (nat_lt depth 64))
+      where
+        by_depth : (test : Bool)
+            → SameNext (if test then step_by loose loose cs (header tag n ++ x) else None)
+            (if test then step_by loose loose cs (header tag n ++ y) else None)
+        by_depth true = next_alike loose loose cs fine holds tag n x y e is
+        by_depth false = tt
 
 -- ---- elements before it
 

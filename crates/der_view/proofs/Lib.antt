@@ -2,7 +2,6 @@ pub mod ArcLemmas
 pub mod BlockLemmas
 pub mod CharacterLemmas
 pub mod CurveLemmas
-pub mod DerLemmas
 pub mod DrawingLemmas
 pub mod EncodedLemmas
 pub mod FaultLemmas
