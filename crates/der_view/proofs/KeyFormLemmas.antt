@@ -192,8 +192,12 @@ unfolding best better
 best_none bytes first [] none whole = refl
 best_none bytes first (second ∷ others) none whole =
     let fewer : nat_lt (left_as second.0 bytes) (left_as first.0 bytes) ≡ false = grind (arith, nat_tests) in
-    rw (fewer, whole, and-false (whole_as false second.0 bytes),
-    and-false (left_as second.0 bytes == left_as first.0 bytes)) (best_none bytes first others none whole)
+    rw (
+      fewer,
+      whole,
+      and-false (whole_as false second.0 bytes),
+      and-false (left_as second.0 bytes == left_as first.0 bytes),
+    ) (best_none bytes first others none whole)
 
 -- ---- a key's bytes
 

@@ -496,8 +496,11 @@ key_alike (level ∷ levels) before tag n x y (are, low, few, inner) (shut, more
     let alike = key_alike levels before tag n x y inner more differ in
     parts_alike level.before (goes level.tag (inside holds) everything) (element level.tag a ++ level.after)
     (element level.tag b ++ level.after) are
-    (rw (append_assoc (header level.tag k) a level.after, append_assoc (header level.tag (length b)) b level.after,
-    ← alike.len)
+    (rw (
+      append_assoc (header level.tag k) a level.after,
+      append_assoc (header level.tag (length b)) b level.after,
+      ← alike.len,
+    )
     (element_alike (inside holds) everything level.tag k (a ++ level.after) (b ++ level.after)
     (inside_alike holds level.tag k a b level.after low (record { few = few; there = inl refl }) (shut k) alike)))
 

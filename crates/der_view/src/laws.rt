@@ -5,23 +5,22 @@ ghost use Rattle.std.specs.Prelude.{IsSomeAnd, length};
 ghost use Rattle.sec1.specs.Keys.{IsKeyOf, Key};
 ghost use Rattle.sec1_der.specs.Elements.{header};
 ghost use Rattle.der_view.specs.Drawings.{has_key, is_key_of, picture_text};
-ghost use Rattle.der_view.specs.Grammar.{Component, Form};
+ghost use Rattle.der_view.specs.Grammar.{Component};
 ghost use Rattle.der_view.specs.Headers.{max_content_len};
 ghost use Rattle.der_view.specs.Keys.{AreLevels, AreParts, AreUnseen, IsCutIn, container};
 ghost use Rattle.der_view.specs.Keys.{container_parts, integers, sequence};
-ghost use Rattle.der_view.specs.Masks.{AreAlike, mask_as, masked};
+ghost use Rattle.der_view.specs.Masks.{AreAlike, mask_as};
 ghost use Rattle.der_view.specs.Pictures.{picture, plan_of, rows_as, whole_as};
 ghost use Rattle.der_view.specs.RowLaws.{AllFollow, AreAt, rows_len};
-ghost use Rattle.der_view.specs.Rows.{How};
 ghost use Rattle.der_view.specs.Sources.{Der, has_begin, is_text, sources_of};
 ghost use Rattle.der_view.specs.declared.plan.Way.TheVariants as ways;
-ghost use Rattle.der_view.specs.declared.walk.Place.{Place};
 
 use crate::drawing::is_key;
 use crate::grammar::{Name, Secrecy};
 
 /// The rows of bytes are those of their mask, in which each byte that isn't shown is 0, and each
 /// that isn't drawn FF; and so is whether they follow.
+#[tactic(auto, using(crate::proofs::PictureMaskLemmas::rows_of_mask, crate::proofs::PictureMaskLemmas::whole_of_mask, crate::proofs::PictureMaskLemmas::mask_as_len))]
 pub fn rows_are_of_mask()
     ensures rows { (loose small is_public : Bool) (root : Component) (bytes : List ℕ)
         → rows_as (record { loose = loose; small = small; given = [] }) root is_public
@@ -34,6 +33,7 @@ pub fn rows_are_of_mask()
 {}
 
 /// Bytes that have the same masks have the same plan and the same picture.
+#[tactic(auto, using(crate::proofs::PictureMaskLemmas::picture_alike, crate::proofs::PictureMaskLemmas::plan_alike))]
 pub fn pictures_are_of_masks()
     ensures picture { (a b : List ℕ) → AreAlike a b → picture false a ≡ picture false b }
     ensures plan { (a b : List ℕ) → AreAlike a b → plan_of a ≡ plan_of b }
@@ -101,6 +101,7 @@ pub fn keys_are_known()
 {}
 
 /// Each byte is in one row, and the rows are in order: each begins where those before it end.
+#[tactic(auto, using(crate::proofs::RowLenLemmas::picture_at, crate::proofs::RowLenLemmas::picture_len))]
 pub fn rows_are_bytes()
     ensures len { (all : Bool) (bytes : List ℕ) → rows_len (picture all bytes) ≡ length bytes }
     ensures order { (all : Bool) (bytes : List ℕ) → AreAt 0 (picture all bytes) }
