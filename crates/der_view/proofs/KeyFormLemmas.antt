@@ -1,6 +1,6 @@
 -- A key is an ECPrivateKey, whole, and each of its elements follows.
-use Rattle.std.proofs.Common.{take, ◌≡◌, ℕ, zero, suc, ◌+◌, ◌<◌, ◌≤◌, Bool, true, false, List, [], ◌∷◌, ◌++◌, length}
-use Rattle.std.proofs.Common.{refl, ap, ◌∙◌, Option, Some, None, arith, eq-eqb, append_assoc, drop, ◌==◌}
+use Rattle.std.proofs.Common.{le-ltb, take, ◌≡◌, ℕ, zero, suc, ◌+◌, ◌<◌, ◌≤◌, Bool, true, false, List, [], ◌∷◌, ◌++◌}
+use Rattle.std.proofs.Common.{length, refl, ap, ◌∙◌, Option, Some, None, arith, eq-eqb, append_assoc, drop, ◌==◌}
 use Rattle.std.proofs.Math.Bool.{and-false}
 use Rattle.std.proofs.lemmas.Bool.Decides.{nat_tests}
 use Rattle.std.proofs.lemmas.List.{drop_at, length-append, take_at}
@@ -91,9 +91,7 @@ element_follows depth some tag content rest c others deep low is goes next (suc 
     omega (arith, length-append (element tag content) rest, length-append (header tag n) content) in
     let own = goes most head (omega (arith, size, few)) (omega (arith, size, less)) in
     let more = next most (omega (arith, size, few)) (omega (arith, size, less)) in
-    let fits : nat_lt (length x) n ≡ false =
-    let long : length x ≡ n + length rest = length-append content rest in
-    grind (arith, nat_tests) in
+    let fits : nat_lt (length x) n ≡ false = le-ltb (length x) n (omega (arith, length-append content rest)) in
     let found : step_by false false some bytes ≡ Some step =
     next_is false false some tag n x low (omega (arith, size, few))
     ∙ rw (fits, take_at content rest n refl, drop_at content rest n refl, is) refl in
@@ -181,9 +179,6 @@ key_follows key =
     (leaf_follows 1 (drop 1 ec_key) 0x04 key.private_key _ _ (drop 2 ec_key) refl refl refl (λ whole. refl)
     (fields_follow key.parameters key.public_key))
 
-not_less : (n : ℕ) → nat_lt n n ≡ false
-not_less n = grind (arith, nat_tests)
-
 -- ---- the form
 
 best_none : (bytes : List ℕ) (first : Form) (others : List Form) → left_as first.0 bytes ≡ 0
@@ -217,10 +212,11 @@ key_known key a is few =
     omega (arith, ap length is.tree.whole, length-append (header 0x30 m) content) in
     let head : List ℕ = take (der_header 0x30 m).len (header 0x30 m ++ content) in
     let step : Step = step_as (der_header 0x30 m) head root [] true content [] in
+    let short : nat_lt m m ≡ false = le-ltb m m (omega arith) in
     let begins : root_step root a ≡ Some step =
     ap (λ (b : List ℕ). root_step root b) is.tree.whole
     ∙ (next_is true false (root ∷ []) 0x30 m content refl (omega (arith, size, few))
-    ∙ rw (not_less m, take-length content, drop-length content) refl) in
+    ∙ rw (short, take-length content, drop-length content) refl) in
     let goes : Goes (length a) 0 (root ∷ []) step =
     inside_goes (length a) 0 (root ∷ []) (der_header 0x30 m) head _ _ (structures.Key of_keys.EcPrivateKey) _
     [] content [] refl (key_follows key (length a) (omega (arith, size, few)) (omega (arith, size))) in

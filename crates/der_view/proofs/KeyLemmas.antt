@@ -1,6 +1,6 @@
 -- Masks of elements in DER whose contents differ, of what is around them, and of private keys.
-use Rattle.std.proofs.Common.{subst, ap₂, ◌||◌, ◌≡◌, ◌==◌, ◌&&◌, ℕ, zero, suc, ◌+◌, ◌<◌, ◌≤◌, Bool, true, false, List}
-use Rattle.std.proofs.Common.{[], ◌∷◌, ◌++◌, length, take, drop, refl, sym, ap, ◌∙◌, Option, Some, None, arith}
+use Rattle.std.proofs.Common.{le-ltb, subst, ap₂, ◌||◌, ◌≡◌, ◌==◌, ◌&&◌, ℕ, zero, suc, ◌+◌, ◌<◌, ◌≤◌, Bool, true, false}
+use Rattle.std.proofs.Common.{List, [], ◌∷◌, ◌++◌, length, take, drop, refl, sym, ap, ◌∙◌, Option, Some, None, arith}
 use Rattle.std.proofs.Common.{length-append, append_assoc, ⊎_elim, append-nil, inl, ◌-◌, ◌/◌, ◌%◌, if◌then◌else◌}
 use Rattle.std.proofs.Common.{Result, Ok, not, lt-ltb, ne_eqb}
 use Rattle.std.proofs.lemmas.List.{nil_from_length, drop_all, drop_at, length-take, take_all, take_at}
@@ -47,8 +47,7 @@ length_in_der n rest few = ⊎_elim
     let other : (128 + d == 0xFF) ≡ false = ne_eqb (128 + d) 0xFF (λ e. omega arith) in
     let short : nat_lt 0x84 (128 + d) ≡ false = grind (arith, nat_tests) in
     let fits : nat_lt (length (digits_of 256 n ++ rest)) d ≡ false =
-    let size : length (digits_of 256 n ++ rest) ≡ d + length rest = length-append (digits_of 256 n) rest in
-    grind (arith, nat_tests) in
+    le-ltb (length (digits_of 256 n ++ rest)) d (omega (arith, length-append (digits_of 256 n) rest)) in
     let front : take d (digits_of 256 n ++ rest) ≡ digits_of 256 n = take_at (digits_of 256 n) rest d refl in
     let number : number_of (digits_of 256 n) ≡ n = number_digits_of 256 n (omega arith) in
     let within : nat_lt max_content_len n ≡ false = grind (arith, nat_tests) in

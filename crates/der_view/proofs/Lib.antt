@@ -10,6 +10,7 @@ pub mod HeaderLemmas
 pub mod KeyFormLemmas
 pub mod KeyLemmas
 pub mod KeyMaskLemmas
+pub mod LawLemmas
 pub mod LevelLemmas
 pub mod LineLemmas
 pub mod MaskLemmas
