@@ -137,7 +137,8 @@ leaf_follows depth some tag content rest c others deep low is shut next =
 -- a field in which is one element
 field_follows : (some : List Component) (tag inner : ℕ) (content rest : List ℕ) (g : ℕ) (p : Presence) (s : Structure)
     (name : Name) (c : Component) (others : List Component) → is_low tag ≡ true → is_low inner ≡ true
-    → ((x : List ℕ) → component_at tag (der_header tag (length x)) x some ≡ Some ((g, p, contents.Inside s, name), others))
+    → ((x : List ℕ)
+    → component_at tag (der_header tag (length x)) x some ≡ Some ((g, p, contents.Inside s, name), others))
     → component_at inner (der_header inner (length content)) content (components s) ≡ Some (c, [])
     → ((whole : Structure → List ℕ → Bool)
     → opened_in whole false (der_header inner (length content)) c.2 content ≡ None)

@@ -289,21 +289,17 @@ next_alike cut misfit some fine holds tag n x y e is =
     by_cut true = tt
     by_cut false = by_fit (fitting tag some) is
 
-any_fits : (tag : ℕ) → fitting tag any ≡ Some (elements.ELEMENT, any)
-unfolding components
-any_fits tag =
-    let test : has_tag 0x00 tag ≡ true = or-true (0x00 == tag || false) in
-    rw test refl
-
 pub lens : (front x y : List ℕ) → length x ≡ length y → length (front ++ x) ≡ length (front ++ y)
 lens front x y size = length-append front x ∙ (rw size refl ∙ sym (length-append front y))
 
 pub element_alike : (fine : Content → Bool) (holds : List Component → Bool) (tag n : ℕ) (x y : List ℕ)
     → Contents fine holds tag n x y → Alike (goes tag fine holds) (header tag n ++ x) (header tag n ++ y)
-unfolding cases step_at
+unfolding cases components step_at
 element_alike fine holds tag n x y e = record {
   len = size;
-  anything = rw (any_fits tag, e.content.anything, e.rest.anything) refl;
+  anything =
+      let test : has_tag 0x00 tag ≡ true = or-true (0x00 == tag || false) in
+      rw (test, e.content.anything, e.rest.anything) refl;
   masks = by_most;
 }
   where
@@ -445,18 +441,19 @@ inside_alike holds tag n a b after low is shut alike =
 
 -- ---- private elements
 
--- an element whose content isn't seen
-last_alike : (fine : Content → Bool) (tag n : ℕ) (x y : List ℕ) → is_low tag ≡ true → DifferIn n x y
-    → Unseen fine (der_header tag n) (take n x) (take n y)
-    → Alike (goes tag fine everything) (header tag n ++ x) (header tag n ++ y)
-last_alike fine tag n x y low differ content =
-    element_alike fine everything tag n x y (record {
+-- elements, and one whose content isn't seen
+private_alike : (fine : Content → Bool) (before : List Part) (tag n : ℕ) (x y : List ℕ) → AreParts before
+    → is_low tag ≡ true → DifferIn n x y → Unseen fine (der_header tag n) (take n x) (take n y)
+    → Alike (passed (goes tag fine everything) (tags_of before)) (key_in [] before tag n x) (key_in [] before tag n y)
+private_alike fine before tag n x y are low differ content =
+    parts_alike before (goes tag fine everything) (header tag n ++ x) (header tag n ++ y) are
+    (element_alike fine everything tag n x y (record {
       low = low;
       few = differ.few;
       len = differ.len;
       content = content;
       rest = rw differ.after (same_alike (drop n y));
-    })
+    }))
 
 abbrev is_hidden : Content → Bool
 is_hidden = inside (λ cs. false)
@@ -485,8 +482,7 @@ pub key_alike : (levels : List Level) (before : List Part) (tag n : ℕ) (x y : 
     → AreShut levels tag n → DifferIn n x y
     → Alike (blind levels (tags_of before) tag) (key_in levels before tag n x) (key_in levels before tag n y)
 key_alike [] before tag n x y (are, low) shut differ =
-    parts_alike before (goes tag is_hidden everything) (header tag n ++ x) (header tag n ++ y) are
-    (last_alike is_hidden tag n x y low differ (hidden_unseen tag n x y shut differ.len))
+    private_alike is_hidden before tag n x y are low differ (hidden_unseen tag n x y shut differ.len)
 key_alike (level ∷ levels) before tag n x y (are, low, few, inner) (shut, more) differ =
     let a : List ℕ = key_in levels before tag n x in
     let b : List ℕ = key_in levels before tag n y in
@@ -534,11 +530,11 @@ is_shut k = is_hidden k
 
 pub cut_alike : (before : List Part) (tag n : ℕ) (x y : List ℕ) → AreParts before → is_low tag ≡ true
     → AreShut [] tag n → DifferIn n x y → Unfollowed (take n x) → Unfollowed (take n y)
-    → Alike (passed (goes tag is_shut everything) (tags_of before)) (key_in [] before tag n x) (key_in [] before tag n y)
+    → Alike (passed (goes tag is_shut everything) (tags_of before)) (key_in [] before tag n x)
+    (key_in [] before tag n y)
 unfolding opened_in admits
 cut_alike before tag n x y are low shut differ one two =
-    parts_alike before (goes tag is_shut everything) (header tag n ++ x) (header tag n ++ y) are
-    (last_alike is_shut tag n x y low differ (record { anything = refl; same = content }))
+    private_alike is_shut before tag n x y are low differ (record { anything = refl; same = content })
   where
     h : Header
     h = der_header tag n

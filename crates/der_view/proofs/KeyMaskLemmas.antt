@@ -245,7 +245,8 @@ keys_alike k l a b p q parameters public_key size few =
     let x : List ℕ = k.private_key ++ after_key k in
     let y : List ℕ = l.private_key ++ after_key l in
     let xs = length-append k.private_key (after_key k) in
-    let len : length x ≡ length y = omega (arith, xs, length-append l.private_key (after_key l), ap length after, size) in
+    let len : length x ≡ length y =
+    omega (arith, xs, length-append l.private_key (after_key l), ap length after, size) in
     let both : length (ec_in n y) ≡ length (ec_in n x) =
     lens (element 0x02 (1 ∷ [])) (header 0x04 n ++ y) (header 0x04 n ++ x) (lens (header 0x04 n) y x (sym len)) in
     let whole = ap length p.tree.whole ∙ length-append (header 0x30 (length (inside_key k))) (inside_key k) in

@@ -29,7 +29,8 @@ returns-clause-contained_rsa c m n version algorithm after numbers x y rest are 
 pub returns-clause-contained_number : goal.returns-clause-contained_number
 unfolding cases components container_components key_components public_components service_components signed_components
 returns-clause-contained_number c m n version algorithm after x y rest are long =
-    unseen (container version algorithm after ∷ []) [] 0x02 m n x y rest (octets_shut, (number_shut n long, refl)) refl are
+    unseen (container version algorithm after ∷ []) [] 0x02 m n x y rest
+    (octets_shut, (number_shut n long, refl)) refl are
 
 pub returns-clause-contained_octets : goal.returns-clause-contained_octets
 unfolding cases components container_components key_components public_components service_components signed_components
