@@ -1,20 +1,20 @@
 -- Masks of elements in DER whose contents differ, of what is around them, and of private keys.
-use Rattle.std.proofs.Common.{le-ltb, subst, ap₂, ◌||◌, ◌≡◌, ◌==◌, ◌&&◌, ℕ, zero, suc, ◌+◌, ◌<◌, ◌≤◌, Bool, true, false}
-use Rattle.std.proofs.Common.{List, [], ◌∷◌, ◌++◌, length, take, drop, refl, sym, ap, ◌∙◌, Option, Some, None, arith}
-use Rattle.std.proofs.Common.{length-append, append_assoc, ⊎_elim, append-nil, inl, ◌-◌, ◌/◌, ◌%◌, if◌then◌else◌}
-use Rattle.std.proofs.Common.{Result, Ok, not, lt-ltb, ne_eqb}
+use Rattle.std.proofs.lemmas.Bool.{cases_Bool, and_parts, cases_lt}
+use Rattle.std.proofs.Common.{eqb-true, le-ltb, subst, ap₂, ◌||◌, ◌≡◌, ◌==◌, ◌&&◌, ℕ, zero, suc, ◌+◌, ◌<◌, ◌≤◌, Bool}
+use Rattle.std.proofs.Common.{true, false, List, [], ◌∷◌, ◌++◌, length, take, drop, refl, sym, ap, ◌∙◌, Option, Some}
+use Rattle.std.proofs.Common.{None, arith, length-append, append_assoc, ⊎_elim, append-nil, inl, ◌-◌, ◌/◌, ◌%◌}
+use Rattle.std.proofs.Common.{if◌then◌else◌, Result, Ok, not, lt-ltb, ne_eqb}
 use Rattle.std.proofs.lemmas.List.{nil_from_length, drop_all, drop_at, length-take, take_all, take_at}
 use Rattle.der_view.specs.Rows.{after_inside, inside_bytes, inside_loose, is_open, opened_of, rest_after, rest_of}
-use Rattle.der_view.specs.Rows.{rest_with, Step, admits, chosen, component_by, end_at, fitting, has_tag, is_followed}
-use Rattle.der_view.specs.Rows.{opened_in, others_after, step_at, step_by, step_made, step_with, element_at, element_by}
+use Rattle.der_view.specs.Rows.{rest_with, Step, admits, component_by, end_at, fitting, has_tag, is_followed, opened_in}
+use Rattle.der_view.specs.Rows.{others_after, step_at, step_by, step_made, step_with, element_at, element_by}
 use Rattle.std.proofs.Math.Bool.{and-false, or-true}
-use Rattle.std.proofs.lemmas.Bool.{and_parts, cases_lt}
 use Rattle.std.proofs.lemmas.Bool.Decides.{nat_tests}
 use Rattle.std.specs.Option.{is_some}
 use Rattle.std.specs.Prelude.{is_none, nat_lt}
 use Rattle.sec1_der.specs.Elements.{element, header, length_octets, number_of}
 use Rattle.der_view.specs.Contents.{is_small, is_whole, shown_len}
-use Rattle.der_view.specs.Grammar.{Case, Component, cases, components}
+use Rattle.der_view.specs.Grammar.{Component, cases, components}
 use Rattle.der_view.specs.Headers.{max_content_len, header_of, length_at, tag_of}
 use Rattle.der_view.specs.Keys.{AreLevels, AreParts, DifferIn, IsContent, Level, Part, is_low, key_in, parts_before}
 use Rattle.der_view.specs.Masks.{masked, next_mask, step_mask, undrawn}
@@ -202,28 +202,19 @@ SameNext _ _ = ⊥
 
 -- ---- one element
 
-abbrev is_none_of : List Case → Bool
-is_none_of [] = true
-is_none_of (one ∷ more) = false
-
 abbrev goes_by : (Content → Bool) → (List Component → Bool) → Option (Component × List Component) → Bool
 goes_by fine holds None = true
-goes_by fine holds (Some found) = is_none_of (cases found.0.3) && (fine found.0.2 && holds found.1)
+goes_by fine holds (Some found) = length (cases found.0.3) == 0 && (fine found.0.2 && holds found.1)
 
 -- whether these hold of the content of an element with this tag, which doesn't decide what comes
 -- after it, and of the components after it, if it follows
 abbrev pub goes : ℕ → (Content → Bool) → (List Component → Bool) → List Component → Bool
 goes tag fine holds some = goes_by fine holds (fitting tag some)
 
-fixed_after : (h : Header) (c : Component) (x : List ℕ) (others : List Component) → is_none_of (cases c.3) ≡ true
+fixed_after : (h : Header) (c : Component) (x : List ℕ) (others : List Component) → (length (cases c.3) == 0) ≡ true
     → others_after h c x others ≡ others
 unfolding others_after
-fixed_after h c x others is = by_cases (cases c.3) is
-  where
-    by_cases : (some : List Case) → is_none_of some ≡ true
-        → chosen some (take (shown_len false h c.2 x) x) others ≡ others
-    by_cases [] known = refl
-    by_cases (one ∷ more) known = absurd (cc known)
+fixed_after h c x others is = rw (nil_from_length (cases c.3) (eqb-true (length (cases c.3)) 0 is)) refl
 
 pub next_alike : (cut misfit : Bool) (some : List Component) (fine : Content → Bool) (holds : List Component → Bool)
     (tag n : ℕ) (x y : List ℕ) → Contents fine holds tag n x y → goes tag fine holds some ≡ true
@@ -270,7 +261,7 @@ next_alike cut misfit some fine holds tag n x y e is =
         → SameNext (of x misfit (component_by h (take n x) o)) (of y misfit (component_by h (take n y) o))
     by_fit None known = by_misfit misfit
     by_fit (Some (c, others)) known =
-        let fixed = and_parts (is_none_of (cases c.3)) (fine c.2 && holds others) known in
+        let fixed = and_parts (length (cases c.3) == 0) (fine c.2 && holds others) known in
         let both = and_parts (fine c.2) (holds others) fixed.1 in
         let same = e.content.same c both.0 false false 0 0 in
         rw (← same.admitted, fixed_after h c (take n x) others fixed.0, fixed_after h c (take n y) others fixed.0)
@@ -400,15 +391,13 @@ IsShut tag n =
 free_len : (small : Bool) (tag n : ℕ) (x : List ℕ) → IsShut tag n → (der_header tag n).tag.constructed ≡ false
     → shown_len small (der_header tag n) contents.Free x ≡ 0
 unfolding shown_len
-free_len small tag n x shut made = by_len (n == length x) refl
-  where
-    by_len : (test : Bool) → (n == length x) ≡ test → shown_len small (der_header tag n) contents.Free x ≡ 0
-    by_len true is =
-        let len : length x ≡ n = grind (arith, nat_tests) in
-        unseen_len small (der_header tag n) x (shut x len made)
-    by_len false is =
-        let none : is_whole (der_header tag n) x ≡ false = rw (made, is) refl in
-        rw none refl
+free_len small tag n x shut made = ⊎_elim
+    (λ (is : (n == length x) ≡ true).
+    unseen_len small (der_header tag n) x (shut x (sym (eqb-true n (length x) is)) made))
+    (λ (is : (n == length x) ≡ false).
+    let none : is_whole (der_header tag n) x ≡ false = rw (made, is) refl in
+    rw none refl)
+    (cases_Bool (n == length x))
 
 -- a content that is any elements, or a structure of which this holds, or isn't shown
 abbrev pub inside : (List Component → Bool) → Content → Bool

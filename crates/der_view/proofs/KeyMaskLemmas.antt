@@ -1,10 +1,10 @@
 -- Masks of inputs with private keys.
+use Rattle.std.proofs.Common.{◌∙◌, ◌≡◌, ◌&&◌, ◌||◌, ◌-◌, ◌+◌, ℕ, zero, suc, ◌<◌, ◌≤◌, Bool, true, false, List, [], ◌∷◌}
+use Rattle.std.proofs.Common.{◌++◌, length, take, refl, sym, ap, Option, Some, None, arith, nat_le, ⊎_elim, subst, inl}
+use Rattle.std.proofs.Common.{append-nil}
 use Rattle.der_view.proofs.KeyLemmas.{inside, inside_alike, Alike, AreShut, Contents, IsShut, SameNext, Unfollowed}
 use Rattle.der_view.proofs.KeyLemmas.{blind, cut_unfollowed, everything, goes, key_alike, lens, masks_alike, next_alike}
 use Rattle.der_view.proofs.KeyLemmas.{passed, cut_alike, is_shut, tags_of, undrawn_same}
-use Rattle.std.proofs.Common.{◌≡◌, ◌&&◌, ◌||◌, ◌-◌, ◌+◌, ℕ, zero, suc, ◌<◌, ◌≤◌, Bool, true, false, List, [], ◌∷◌, ◌++◌}
-use Rattle.std.proofs.Common.{length, take, refl, sym, ap, Option, Some, None, arith, nat_le, ⊎_elim, subst, ◌∙◌, inl}
-use Rattle.std.proofs.Common.{append-nil}
 use Rattle.std.proofs.lemmas.Bool.{and_parts, cases_lt}
 use Rattle.std.proofs.lemmas.Bool.Decides.{nat_tests}
 use Rattle.std.proofs.lemmas.List.{length-append, length-take, append_assoc, drop_at}
@@ -198,9 +198,9 @@ numbers_unseen levels numbers m n x y rest shut all are some few =
     let size : 3 + k ≡ length numbers = omega (arith, some) in
     let less : k < 6 = omega (arith, few) in
     unseen levels (integers numbers) 0x02 m n x y rest shut
-    (subst (λ (tags : List ℕ). is_blind levels tags 0x02 ≡ true) (sym (tags_same numbers))
-    (subst (λ (j : ℕ). is_blind levels (replicate j 0x02) 0x02 ≡ true) size
-    (below (λ j. is_blind levels (replicate (3 + j) 0x02) 0x02) 6 k all less))) are
+    (subst (λ (tags : List ℕ). is_blind levels tags 0x02 ≡ true)
+    (ap (λ (j : ℕ). replicate j 0x02) size ∙ sym (tags_same numbers))
+    (below (λ j. is_blind levels (replicate (3 + j) 0x02) 0x02) 6 k all less)) are
 
 -- ---- an ECPrivateKey
 
