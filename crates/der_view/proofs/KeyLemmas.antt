@@ -1,5 +1,5 @@
 -- Masks of elements in DER whose contents differ, of what is around them, and of private keys.
-use Rattle.std.proofs.lemmas.Bool.{cases_Bool, and_parts, cases_lt}
+use Rattle.std.proofs.lemmas.Bool.{not-true, cases_Bool, and_parts, cases_lt}
 use Rattle.std.proofs.Common.{eqb-true, le-ltb, subst, ap₂, ◌||◌, ◌≡◌, ◌==◌, ◌&&◌, ℕ, zero, suc, ◌+◌, ◌<◌, ◌≤◌, Bool}
 use Rattle.std.proofs.Common.{true, false, List, [], ◌∷◌, ◌++◌, length, take, drop, refl, sym, ap, ◌∙◌, Option, Some}
 use Rattle.std.proofs.Common.{None, arith, length-append, append_assoc, ⊎_elim, append-nil, inl, ◌-◌, ◌/◌, ◌%◌}
@@ -72,13 +72,9 @@ head_in_der : (tag n : ℕ) (x : List ℕ) → is_low tag ≡ true → n ≤ max
     → header_of (header tag n ++ x) ≡ Ok (der_header tag n)
 head_in_der tag n x low few =
     let parts = and_parts (not (tag == 0x00 || tag == 0x20)) (nat_lt (tag % 0x20) 0x1F) low in
-    let free : (tag == 0x00 || tag == 0x20) ≡ false = not_true (tag == 0x00 || tag == 0x20) parts.0 in
+    let free : (tag == 0x00 || tag == 0x20) ≡ false = not-true (tag == 0x00 || tag == 0x20) parts.0 in
     let small : nat_lt (tag % 0x20) 0x1F ≡ true = parts.1 in
     rw (free, small, length_in_der n x few) refl
-  where
-    not_true : (a : Bool) → not a ≡ true → a ≡ false
-    not_true true is = cc
-    not_true false is = refl
 
 -- the element which bytes begin with
 element_in_der : (cut : Bool) (tag n : ℕ) (x : List ℕ) → is_low tag ≡ true → n ≤ max_content_len
