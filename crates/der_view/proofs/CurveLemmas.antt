@@ -1,5 +1,6 @@
 -- The curve of an identifier.
-use Rattle.std.proofs.Common.{◌≡◌, ℕ, List, [], ◌∷◌, Bool, false, true, refl}
+use Rattle.std.proofs.lemmas.Bool.{cases_Bool}
+use Rattle.std.proofs.Common.{⊎_elim, ◌≡◌, ℕ, List, [], ◌∷◌, Bool, true, refl}
 use Rattle.std.specs.Prelude.{find, Some, None}
 use Rattle.std.specs.Str.{bytes_eq}
 use Rattle.std.proofs.lemmas.Slice.Eq.{bytes_eq-Decides}
@@ -16,13 +17,10 @@ unfolding has_content curve_by
 curve_by-some curve content same =
     let own : curve_by (curve_content curve) ≡ Some curve = find-has_content curve in rw same at own
 
-is-false : (test : Bool) → (test ≡ true → ⊥) → test ≡ false
-is-false true never = absurd (never refl)
-is-false false never = refl
-
-none-found : (p : Curve → Bool) (curves : List Curve) → ((curve : Curve) → p curve ≡ false) → find p curves ≡ None
+none-found : (p : Curve → Bool) (curves : List Curve) → ((curve : Curve) → p curve ≡ true → ⊥) → find p curves ≡ None
 none-found p [] none = refl
-none-found p (curve ∷ curves) none = rw (none curve) (none-found p curves none)
+none-found p (curve ∷ curves) none = ⊎_elim (λ e. absurd (none curve e)) (λ e. rw e (none-found p curves none))
+    (cases_Bool (p curve))
 
 -- no curve is found if none has this content
 pub curve_by-none : (content : List ℕ) → ((curve : Curve) → curve_content curve ≡ content → ⊥)
@@ -30,5 +28,4 @@ pub curve_by-none : (content : List ℕ) → ((curve : Curve) → curve_content 
 unfolding curve_by
 curve_by-none content none =
     none-found (λ curve. bytes_eq (curve_content curve) content) ALL
-    (λ curve. is-false (bytes_eq (curve_content curve) content)
-    (λ same. none curve ((bytes_eq-Decides (curve_content curve) content).0 same)))
+    (λ curve same. none curve ((bytes_eq-Decides (curve_content curve) content).0 same))

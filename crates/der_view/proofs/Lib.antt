@@ -2,7 +2,6 @@ pub mod ArcLemmas
 pub mod BlockLemmas
 pub mod CharacterLemmas
 pub mod CurveLemmas
-pub mod DerLemmas
 pub mod DrawingLemmas
 pub mod EncodedLemmas
 pub mod FaultLemmas
@@ -11,7 +10,7 @@ pub mod HeaderLemmas
 pub mod KeyFormLemmas
 pub mod KeyLemmas
 pub mod KeyMaskLemmas
-pub mod KeyOfLemmas
+pub mod LawLemmas
 pub mod LevelLemmas
 pub mod LineLemmas
 pub mod MaskLemmas

@@ -5,24 +5,22 @@ ghost use Rattle.std.specs.Prelude.{IsSomeAnd, length};
 ghost use Rattle.sec1.specs.Keys.{IsKeyOf, Key};
 ghost use Rattle.sec1_der.specs.Elements.{header};
 ghost use Rattle.der_view.specs.Drawings.{has_key, is_key_of, picture_text};
-ghost use Rattle.der_view.specs.Grammar.{Component, Form};
+ghost use Rattle.der_view.specs.Grammar.{Component};
 ghost use Rattle.der_view.specs.Headers.{max_content_len};
-ghost use Rattle.der_view.specs.Keys.{AreLevels, AreParts, DifferIn, IsContent, IsCutIn};
-ghost use Rattle.der_view.specs.Keys.{container, container_parts, integers, key_bytes, key_in};
-ghost use Rattle.der_view.specs.Keys.{sequence};
-ghost use Rattle.der_view.specs.Masks.{AreAlike, mask_as, masked};
+ghost use Rattle.der_view.specs.Keys.{AreLevels, AreParts, AreUnseen, IsCutIn, container};
+ghost use Rattle.der_view.specs.Keys.{container_parts, integers, sequence};
+ghost use Rattle.der_view.specs.Masks.{AreAlike, mask_as};
 ghost use Rattle.der_view.specs.Pictures.{picture, plan_of, rows_as, whole_as};
 ghost use Rattle.der_view.specs.RowLaws.{AllFollow, AreAt, rows_len};
-ghost use Rattle.der_view.specs.Rows.{How};
 ghost use Rattle.der_view.specs.Sources.{Der, has_begin, is_text, sources_of};
 ghost use Rattle.der_view.specs.declared.plan.Way.TheVariants as ways;
-ghost use Rattle.der_view.specs.declared.walk.Place.{Place};
 
 use crate::drawing::is_key;
 use crate::grammar::{Name, Secrecy};
 
 /// The rows of bytes are those of their mask, in which each byte that isn't shown is 0, and each
 /// that isn't drawn FF; and so is whether they follow.
+#[tactic(auto, using(crate::proofs::LawLemmas::mask_laws))]
 pub fn rows_are_of_mask()
     ensures rows { (loose small is_public : Bool) (root : Component) (bytes : List ℕ)
         → rows_as (record { loose = loose; small = small; given = [] }) root is_public
@@ -35,6 +33,7 @@ pub fn rows_are_of_mask()
 {}
 
 /// Bytes that have the same masks have the same plan and the same picture.
+#[tactic(auto, using(crate::proofs::LawLemmas::mask_laws))]
 pub fn pictures_are_of_masks()
     ensures picture { (a b : List ℕ) → AreAlike a b → picture false a ≡ picture false b }
     ensures plan { (a b : List ℕ) → AreAlike a b → plan_of a ≡ plan_of b }
@@ -48,58 +47,35 @@ pub fn pictures_are_of_masks()
 pub fn keys_are_unseen()
     // RFC 5915 section 3: ECPrivateKey
     ensures ec { (m n : ℕ) (version x y rest : List ℕ) → length version ≤ max_content_len
-        → DifferIn n x y → IsContent m (key_in [] ((0x02, version) ∷ []) 0x04 n x) rest
-        → AreAlike (key_bytes m [] ((0x02, version) ∷ []) 0x04 n x rest)
-        (key_bytes m [] ((0x02, version) ∷ []) 0x04 n y rest) }
+        → AreUnseen m [] ((0x02, version) ∷ []) 0x04 n x y rest }
     // RFC 8017 appendix A.1.2: RSAPrivateKey, from the fourth number on; and the sixth of a DSA key
     ensures number { (m n : ℕ) (numbers : List (List ℕ)) (x y rest : List ℕ)
         → AreParts (integers numbers) → 3 ≤ length numbers → length numbers ≤ 8 → 8 < n
-        → DifferIn n x y
-        → IsContent m (key_in [] (integers numbers) 0x02 n x) rest
-        → AreAlike (key_bytes m [] (integers numbers) 0x02 n x rest)
-        (key_bytes m [] (integers numbers) 0x02 n y rest) }
+        → AreUnseen m [] (integers numbers) 0x02 n x y rest }
     // RFC 5958 section 2: ECPrivateKey in PKCS #8
     ensures contained_ec { (m n : ℕ) (version algorithm inner after x y rest : List ℕ)
-        → AreLevels (container version algorithm after ∷ sequence ∷ []) ((0x02, inner) ∷ []) 0x04
-        n x → DifferIn n x y
-        → IsContent m (key_in (container version algorithm after ∷ sequence ∷ [])
-        ((0x02, inner) ∷ []) 0x04 n x) rest
-        → AreAlike (key_bytes m (container version algorithm after ∷ sequence ∷ [])
-        ((0x02, inner) ∷ []) 0x04 n x rest)
-        (key_bytes m (container version algorithm after ∷ sequence ∷ [])
-        ((0x02, inner) ∷ []) 0x04 n y rest) }
+        → let around = container version algorithm after ∷ sequence ∷ [] in
+        AreLevels around ((0x02, inner) ∷ []) 0x04 n x
+        → AreUnseen m around ((0x02, inner) ∷ []) 0x04 n x y rest }
     // RSAPrivateKey in PKCS #8
     ensures contained_rsa { (m n : ℕ) (version algorithm after : List ℕ)
         (numbers : List (List ℕ)) (x y rest : List ℕ)
-        → AreLevels (container version algorithm after ∷ sequence ∷ []) (integers numbers) 0x02 n x
-        → 3 ≤ length numbers → length numbers ≤ 8 → 8 < n → DifferIn n x y
-        → IsContent m (key_in (container version algorithm after ∷ sequence ∷ [])
-        (integers numbers) 0x02 n x) rest
-        → AreAlike (key_bytes m (container version algorithm after ∷ sequence ∷ [])
-        (integers numbers) 0x02 n x rest)
-        (key_bytes m (container version algorithm after ∷ sequence ∷ [])
-        (integers numbers) 0x02 n y rest) }
+        → let around = container version algorithm after ∷ sequence ∷ [] in
+        AreLevels around (integers numbers) 0x02 n x → 3 ≤ length numbers → length numbers ≤ 8
+        → 8 < n → AreUnseen m around (integers numbers) 0x02 n x y rest }
     // a DSA or Diffie-Hellman key in PKCS #8
     ensures contained_number { (m n : ℕ) (version algorithm after x y rest : List ℕ)
-        → AreLevels (container version algorithm after ∷ []) [] 0x02 n x → 8 < n → DifferIn n x y
-        → IsContent m (key_in (container version algorithm after ∷ []) [] 0x02 n x) rest
-        → AreAlike (key_bytes m (container version algorithm after ∷ []) [] 0x02 n x rest)
-        (key_bytes m (container version algorithm after ∷ []) [] 0x02 n y rest) }
+        → let around = container version algorithm after ∷ [] in
+        AreLevels around [] 0x02 n x → 8 < n → AreUnseen m around [] 0x02 n x y rest }
     // RFC 8410 section 7: CurvePrivateKey in PKCS #8
     ensures contained_octets { (m n : ℕ) (version algorithm after x y rest : List ℕ)
-        → AreLevels (container version algorithm after ∷ []) [] 0x04 n x → DifferIn n x y
-        → IsContent m (key_in (container version algorithm after ∷ []) [] 0x04 n x) rest
-        → AreAlike (key_bytes m (container version algorithm after ∷ []) [] 0x04 n x rest)
-        (key_bytes m (container version algorithm after ∷ []) [] 0x04 n y rest) }
+        → let around = container version algorithm after ∷ [] in
+        AreLevels around [] 0x04 n x → AreUnseen m around [] 0x04 n x y rest }
     // any key in PKCS #8 that is cut inside the privateKey
     ensures contained_cut { (m n tag k : ℕ) (version algorithm x y rest : List ℕ)
-        → IsCutIn n tag k x → AreParts (container_parts version algorithm)
-        → DifferIn n (header tag k ++ x) (header tag k ++ y)
-        → IsContent m (key_in [] (container_parts version algorithm) 0x04 n (header tag k ++ x))
-        rest
-        → AreAlike
-        (key_bytes m [] (container_parts version algorithm) 0x04 n (header tag k ++ x) rest)
-        (key_bytes m [] (container_parts version algorithm) 0x04 n (header tag k ++ y) rest) }
+        → let before = container_parts version algorithm in
+        IsCutIn n tag k x → AreParts before
+        → AreUnseen m [] before 0x04 n (header tag k ++ x) (header tag k ++ y) rest }
 {}
 
 /// Keys with the same curve and public key, and private keys as long, have the same masks.
@@ -125,6 +101,7 @@ pub fn keys_are_known()
 {}
 
 /// Each byte is in one row, and the rows are in order: each begins where those before it end.
+#[tactic(auto, using(crate::proofs::LawLemmas::mask_laws))]
 pub fn rows_are_bytes()
     ensures len { (all : Bool) (bytes : List ℕ) → rows_len (picture all bytes) ≡ length bytes }
     ensures order { (all : Bool) (bytes : List ℕ) → AreAt 0 (picture all bytes) }
