@@ -1,16 +1,12 @@
 -- The rows of bytes, one element at a time.
-use Rattle.std.proofs.Common.{◌≡◌, ◌<◌, ◌-◌, ◌+◌, ◌≤◌, ℕ, zero, suc, List, [], ◌∷◌, ◌++◌, refl, arith, Bool, true}
-use Rattle.std.proofs.Common.{false}
-use Rattle.std.proofs.Common.{Some, None, drop, subst}
+use Rattle.std.proofs.Common.{◌≡◌, ◌<◌, ◌-◌, ◌+◌, ◌≤◌, ℕ, zero, suc, List, ◌∷◌, [], ◌++◌, refl, arith, Bool, true}
+use Rattle.std.proofs.Common.{false, Some, None, sub-one}
 use Rattle.std.proofs.lemmas.Bool.Decides.{nat_tests}
 use Rattle.std.specs.Prelude.{nat_lt}
 use Rattle.der_view.specs.Grammar.{Component, components}
-use Rattle.der_view.specs.Rows.{Element, How, NotDrawn, Step, after, end_at, end_rows, given_part, inside}
-use Rattle.der_view.specs.Rows.{inside_rules}
-use Rattle.der_view.specs.Rows.{inside_bytes, is_open, next_rows, opened_of, rest_after, rest_next, rest_of, rows_of}
-use Rattle.der_view.specs.Rows.{step_at}
-use Rattle.der_view.specs.Rows.{step_by}
-use Rattle.der_view.specs.Rows.{step_rows, view}
+use Rattle.der_view.specs.Rows.{Element, How, NotDrawn, Step, after, end_at, end_rows, given_part, inside, inside_bytes}
+use Rattle.der_view.specs.Rows.{inside_rules, is_open, next_rows, opened_of, rest_after, rest_next, rest_of, rows_of}
+use Rattle.der_view.specs.Rows.{step_at, step_by, step_rows, view}
 use Rattle.der_view.specs.declared.grammar.Structure.{Structure}
 use Rattle.der_view.specs.declared.walk.Place.{Place}
 
@@ -30,11 +26,9 @@ step_here loose depth some bytes few =
 
 -- ---- the bytes after a level
 
-pub rest_end : (loose : Bool) (most depth : ℕ) (marked : Bool) (some : List Component) (bytes : List ℕ) (n : ℕ)
-    → 0 < most → end_at loose marked some bytes ≡ Some n
-    → rest_of loose most depth marked some bytes ≡ Some (drop n bytes)
-rest_end loose zero depth marked some bytes n positive is = absurd (omega (arith, positive))
-rest_end loose (suc most) depth marked some bytes n positive is = rw is refl
+pub rest_none : (loose : Bool) (most depth : ℕ) (marked : Bool) (some : List Component) (bytes : List ℕ) → most ≡ 0
+    → rest_of loose most depth marked some bytes ≡ None
+rest_none loose most depth marked some bytes none = rw none refl
 
 pub rest_stop : (loose : Bool) (most depth : ℕ) (marked : Bool) (some : List Component) (bytes : List ℕ)
     → end_at loose marked some bytes ≡ None → step_at loose depth some bytes ≡ None
@@ -48,14 +42,7 @@ pub rest_step : (loose : Bool) (most depth : ℕ) (marked : Bool) (some : List C
     ≡ rest_next (λ rest. rest_of loose (most - 1) depth marked step.others rest)
     (rest_after loose (most - 1) (depth + 1) step)
 rest_step loose zero depth marked some bytes step positive is at = absurd (omega (arith, positive))
-rest_step loose (suc most) depth marked some bytes step positive is at =
-    let one : suc most - 1 ≡ most = omega arith in
-    rw (one, is, at) refl
-
-pub rest_none : (loose : Bool) (most depth : ℕ) (marked : Bool) (some : List Component) (bytes : List ℕ) → most ≡ 0
-    → rest_of loose most depth marked some bytes ≡ None
-rest_none loose zero depth marked some bytes none = refl
-rest_none loose (suc most) depth marked some bytes none = absurd (omega (arith, none))
+rest_step loose (suc most) depth marked some bytes step positive is at = rw (is, at) (rw sub-one refl)
 
 -- ---- rows
 
@@ -63,8 +50,7 @@ pub rows_none : (how : How) (most : ℕ) (marked : Bool) (place : Place) (some :
     → most ≡ 0 → rows_of how most marked place some bytes
     ≡ NotDrawn place some (place.end - place.offset)
     (given_part how.given place.offset (place.end - place.offset)) ∷ []
-rows_none how zero marked place some bytes none = refl
-rows_none how (suc most) marked place some bytes none = absurd (omega (arith, none))
+rows_none how most marked place some bytes none = rw none refl
 
 -- of an element whose content is rows: its own, and those inside it
 pub opened_rows : (how : How) (most : ℕ) (place : Place) (some : List Component) (step : Step) (structure : Structure)
@@ -97,9 +83,4 @@ pub rows_step : (how : How) (most : ℕ) (marked : Bool) (place : Place) (some :
     ++ next_rows (λ (rest : List ℕ). rows_of how (most - 1) marked (after place bytes rest) step.others rest)
     (rest_after how.loose (most - 1) (place.depth + 1) step)
 rows_step how zero marked place some bytes step positive is at = absurd (omega (arith, positive))
-rows_step how (suc most) marked place some bytes step positive is at =
-    let one : most ≡ suc most - 1 = omega arith in
-    subst (λ (n : ℕ). rows_of how (suc most) marked place some bytes
-    ≡ step_rows how n place some step
-    ++ next_rows (λ (rest : List ℕ). rows_of how n marked (after place bytes rest) step.others rest)
-    (rest_after how.loose n (place.depth + 1) step)) one (rw (is, at) refl)
+rows_step how (suc most) marked place some bytes step positive is at = rw (is, at) (simp sub-one refl)
