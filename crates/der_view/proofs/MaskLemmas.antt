@@ -1,15 +1,15 @@
 -- The rows of bytes are those of their mask: what is shown of a content, and what is inside it.
 use Rattle.std.proofs.Common.{◌≡◌, ◌&&◌, ◌||◌, not, ℕ, zero, suc, ◌+◌, ◌≤◌, Bool, true, false, List, [], ◌∷◌, ◌++◌}
-use Rattle.std.proofs.Common.{length, take, drop, refl, sym, ap, ◌∙◌, Option, Some, None, arith, ◌==◌, length-drop}
-use Rattle.std.proofs.lemmas.Bool.{and_parts, and_right}
+use Rattle.std.proofs.Common.{length, take, drop, refl, sym, ap, ◌∙◌, Option, Some, None, arith, ◌⊎◌, inl, inr, ◌==◌}
+use Rattle.std.proofs.lemmas.Bool.{and_parts, and_right, cond_both}
 use Rattle.std.specs.Option.{is_some}
 use Rattle.std.specs.Prelude.{if◌then◌else◌, is_none, nat_lt}
 use Rattle.der_view.specs.Contents.{has_type, is_number, is_string, is_minimal, is_primitive, is_shown, is_small}
 use Rattle.der_view.specs.Contents.{is_time, is_valid, is_whole, is_wide_text, shown_in, shown_len}
 use Rattle.der_view.specs.Grammar.{Component, components, identifiers}
 use Rattle.der_view.specs.Masks.{masked, masked_content, undrawn, zeros}
-use Rattle.der_view.specs.Rows.{How, Step, admits, are_bits, end_at, front_len, has_bits, is_followed, is_of, opened_in}
-use Rattle.der_view.specs.Rows.{rest_by, rest_next, rest_of, rows_of, step_at}
+use Rattle.der_view.specs.Rows.{How, Step, admits, are_bits, end_at, front_len, has_bits, is_followed, is_of, may_end}
+use Rattle.der_view.specs.Rows.{opened_in, rest_by, rest_next, rest_of, rows_of, step_at}
 use Rattle.der_view.specs.declared.grammar.Content.{Content}
 use Rattle.der_view.specs.declared.grammar.Content.TheVariants as contents
 use Rattle.der_view.specs.declared.grammar.TheConstants as tables
@@ -48,19 +48,18 @@ zeros_text : (a : ℕ) (x : List ℕ) → (is_wide_text (zeros (a ∷ x)) ≡ fa
 zeros_text a [] = (refl, refl)
 zeros_text a (b ∷ x) = (refl, refl)
 
+chosen : (test a b c d : Bool) → (if test then a else b) ≡ false → (a ≡ false → c ≡ false) → (b ≡ false → d ≡ false)
+    → (if test then c else d) ≡ false
+chosen true a b c d is one two = one is
+chosen false a b c d is one two = two is
+
 zeros_valid : (tag : Tag) (a : ℕ) (x : List ℕ) → is_valid tag (a ∷ x) ≡ false → is_valid tag (zeros (a ∷ x)) ≡ false
 unfolding is_valid
-zeros_valid tag a x is =
-    rw ((zeros_text a x).0, (zeros_text a x).1, and_right _ false refl, and_right _ false refl)
-    (chain (has_type tag 28) (is_number tag) (is_string tag) (has_type tag 30) (has_type tag 23) (has_type tag 24)
-    (is_minimal (a ∷ x)) _ _ _ _ _ is (zeros_minimal a x))
-  where
-    chain : (a b c d e f m n t w y z : Bool)
-        → (if a then false else (if b then m else (if c then t else (if d then w else (if e then y else
-        (if f then z else true)))))) ≡ false → (m ≡ false → n ≡ false)
-        → (if a then false else (if b then n else (if c then false else (if d then false else (if e then false else
-        (if f then false else true)))))) ≡ false
-    chain a b c d e f m n t w y z is same = grind arith
+zeros_valid tag a x is = chosen (has_type tag 28) _ _ _ _ is (λ e. refl) (λ e.
+    chosen (is_number tag) _ _ _ _ e (zeros_minimal a x) (λ e. chosen (is_string tag) _ _ _ _ e (λ e. refl) (λ e.
+    chosen (has_type tag 30) _ _ _ _ e (λ e. (zeros_text a x).0) (λ e. chosen (has_type tag 23) _ _ _ _ e
+    (λ e. and_right _ _ (zeros_text a x).1) (λ e. chosen (has_type tag 24) _ _ _ _ e
+    (λ e. and_right _ _ (zeros_text a x).1) (λ e. e))))))
 
 zeros_small : (tag : Tag) (a : ℕ) (x : List ℕ) → is_small tag (a ∷ x) ≡ false → is_small tag (zeros (a ∷ x)) ≡ false
 unfolding is_small
@@ -94,30 +93,27 @@ take_masked (suc n) [] = refl
 take_masked (suc n) (a ∷ x) = ap (λ (y : List ℕ). a ∷ y) (take_masked n x)
 
 -- all or nothing of it
-plain_again : (small : Bool) (tag : Tag) (k : Content) (x : List ℕ) (test : Bool) → is_shown small tag k x ≡ test
-    → (if is_shown small tag k (masked_content (if test then length x else 0) x)
-    then length (masked_content (if test then length x else 0) x) else 0) ≡ (if test then length x else 0)
-plain_again small tag k x true is = rw (all_masked x, is) refl
-plain_again small tag k [] false is = none_shown (is_shown small tag k [])
-plain_again small tag k (a ∷ x) false is = rw (zeros_shown small tag k a x is) refl
+plain_again : (small : Bool) (tag : Tag) (k : Content) (x : List ℕ)
+    → (if is_shown small tag k x then length x else 0) ≡ 0
+    → (if is_shown small tag k (zeros x) then length (zeros x) else 0) ≡ 0
+plain_again small tag k [] is = is
+plain_again small tag k (a ∷ x) is = rw (zeros_shown small tag k a x (grind arith)) refl
 
 shown_again : (small : Bool) (tag : Tag) (k : Content) (x : List ℕ)
     → shown_in small tag k (masked_content (shown_in small tag k x) x) ≡ shown_in small tag k x
 unfolding shown_in
 shown_again small tag contents.Point x = rw masked_len refl
-shown_again small tag k x = plain_again small tag k x (is_shown small tag k x) refl
+shown_again small tag k x =
+    cond_both (is_shown small tag k x) (length x) 0
+    (λ n. (if is_shown small tag k (masked_content n x) then length (masked_content n x) else 0) ≡ n)
+    (λ is. rw (all_masked x, is) refl) (λ is. plain_again small tag k x (rw is refl))
 
 len_again : (small : Bool) (header : Header) (k : Content) (x : List ℕ)
     → shown_len small header k (masked_content (shown_len small header k x) x) ≡ shown_len small header k x
 unfolding shown_len
-len_again small header k x = by_test (is_whole header x) refl
-  where
-    by_test : (test : Bool) → is_whole header x ≡ test
-        → (if is_whole header (masked_content (if test then shown_in small header.tag k x else 0) x)
-        then shown_in small header.tag k (masked_content (if test then shown_in small header.tag k x else 0) x) else 0)
-        ≡ (if test then shown_in small header.tag k x else 0)
-    by_test true is = rw (masked_len (shown_in small header.tag k x) x, is) (shown_again small header.tag k x)
-    by_test false is = rw (masked_len 0 x, is) refl
+len_again small header k x = rw masked_len (cond_both (is_whole header x) (shown_in small header.tag k x) 0
+    (λ n. (if is_whole header x then shown_in small header.tag k (masked_content n x) else 0) ≡ n)
+    (λ is. rw is (shown_again small header.tag k x)) (λ is. rw is refl))
 
 pub content_shown : (small : Bool) (header : Header) (k : Content) (x : List ℕ)
     → IsMasked small header k x (masked_content (shown_len small header k x) x)
@@ -202,59 +198,67 @@ elements_rows : (header : Header) (k : Content) (test : Bool) (s : Structure)
     → IsRows header k
 unfolding shown_len
 elements_rows header k test s is =
-    let (elements, _) = some_if (is_none header.content_len || (header.tag.constructed && test)) _ _ is in
-    let plain : is_primitive header ≡ false = closed header.tag.constructed header.content_len elements in
+    let elements = (some_if (is_none header.content_len || (header.tag.constructed && test)) _ _ is).0 in
+    let plain : is_primitive header ≡ false = grind arith in
     record {
       shown = λ small x. rw plain refl;
       alike = λ x y. plain_admits header plain k x y;
       free = λ e c x y. plain_admits header plain c x y;
     }
-  where
-    closed : (constructed : Bool) (o : Option ℕ) → (is_none o || (constructed && test)) ≡ true
-        → (not constructed && is_some o) ≡ false
-    closed true o is = refl
-    closed false None is = refl
-    closed false (Some n) is = absurd (cc is)
-
-pub opened_rows : (whole : Structure → List ℕ → Bool) (loose : Bool) (header : Header) (k : Content) (x : List ℕ)
-    (s : Structure) → opened_in whole loose header k x ≡ Some s → IsRows header k
-unfolding opened_in shown_len shown_in admits is_shown
-opened_rows whole loose header (contents.Inside t) x s is =
-    record { shown = λ small y. none_shown (is_whole header y); alike = λ y z. refl; free = λ e. absurd (cc e) }
-opened_rows whole loose header (contents.Whole t) x s is =
-    record { shown = λ small y. none_shown (is_whole header y); alike = λ y z. refl; free = λ e. absurd (cc e) }
-opened_rows whole loose header (contents.Bits t) x s is =
-    record { shown = λ small y. none_shown (is_whole header y); alike = λ y z. refl; free = λ e. absurd (cc e) }
-opened_rows whole loose header contents.Free x s is = elements_rows header contents.Free true s is
-opened_rows whole loose header k x s is = elements_rows header k loose s is
-
-pub opened_same : (whole : Structure → List ℕ → Bool) (loose : Bool) (header : Header) (k : Content) (x m : List ℕ)
-    → ((s : Structure) → k ≡ contents.Whole s → whole s m ≡ whole s x)
-    → ((s : Structure) → k ≡ contents.Bits s → are_bits whole s m ≡ are_bits whole s x)
-    → opened_in whole loose header k m ≡ opened_in whole loose header k x
-unfolding opened_in
-opened_same whole loose header (contents.Whole t) x m same bits = rw (same t refl) refl
-opened_same whole loose header (contents.Bits t) x m same bits = rw (bits t refl) refl
-opened_same whole loose header k x m same bits = refl
 
 definite : (o : Option ℕ) (test : Bool)
     → ◌≡◌ {A = Option Structure} (if is_none o || test then Some structures.Any else None) None → is_none o ≡ false
-definite None test is = absurd (cc is)
-definite (Some n) test is = refl
+definite o test is = grind arith
 
 primitive : (constructed : Bool) (o : Option ℕ) → (not constructed && is_some o) ≡ true → is_none o ≡ false
-primitive true o is = absurd (cc is)
-primitive false None is = absurd (cc is)
-primitive false (Some n) is = refl
+primitive constructed o is = grind arith
 
--- a content that is no rows has a definite length
-pub closed_content : (whole : Structure → List ℕ → Bool) (loose : Bool) (header : Header) (k : Content) (x : List ℕ)
-    → opened_in whole loose header k x ≡ None → admits header k x ≡ true → is_none header.content_len ≡ false
-unfolding opened_in admits
-closed_content whole loose header (contents.Inside t) x is fits = absurd (cc is)
-closed_content whole loose header (contents.Whole t) x is fits = primitive _ header.content_len fits
-closed_content whole loose header (contents.Bits t) x is fits = primitive _ header.content_len fits
-closed_content whole loose header k x is fits = definite header.content_len _ is
+module _ (whole : Structure → List ℕ → Bool) (loose : Bool) (header : Header) where
+  pub opened_rows : (k : Content) (x : List ℕ) (s : Structure) → opened_in whole loose header k x ≡ Some s
+      → IsRows header k
+  unfolding opened_in shown_len shown_in admits is_shown
+  opened_rows (contents.Inside t) x s is =
+      record { shown = λ small y. none_shown (is_whole header y); alike = λ y z. refl; free = λ e. absurd (cc e) }
+  opened_rows (contents.Whole t) x s is =
+      record { shown = λ small y. none_shown (is_whole header y); alike = λ y z. refl; free = λ e. absurd (cc e) }
+  opened_rows (contents.Bits t) x s is =
+      record { shown = λ small y. none_shown (is_whole header y); alike = λ y z. refl; free = λ e. absurd (cc e) }
+  opened_rows contents.Free x s is = elements_rows header contents.Free true s is
+  opened_rows k x s is = elements_rows header k loose s is
+
+  pub opened_same : (k : Content) (x m : List ℕ)
+      → ((s : Structure) → k ≡ contents.Whole s → whole s m ≡ whole s x)
+      → ((s : Structure) → k ≡ contents.Bits s → are_bits whole s m ≡ are_bits whole s x)
+      → opened_in whole loose header k m ≡ opened_in whole loose header k x
+  unfolding opened_in
+  opened_same (contents.Whole t) x m same bits = rw (same t refl) refl
+  opened_same (contents.Bits t) x m same bits = rw (bits t refl) refl
+  opened_same k x m same bits = refl
+
+  -- a content that is no rows has a definite length
+  pub closed_content : (k : Content) (x : List ℕ) → opened_in whole loose header k x ≡ None → admits header k x ≡ true
+      → is_none header.content_len ≡ false
+  unfolding opened_in admits
+  closed_content (contents.Inside t) x is fits = absurd (cc is)
+  closed_content (contents.Whole t) x is fits = primitive _ header.content_len fits
+  closed_content (contents.Bits t) x is fits = primitive _ header.content_len fits
+  closed_content k x is fits = definite header.content_len _ is
+
+  -- the bytes before the elements of a content are there
+  pub front_within : (k : Content) (x : List ℕ) (s : Structure) → opened_in whole loose header k x ≡ Some s
+      → front_len k ≤ length x
+  unfolding opened_in
+  front_within (contents.Bits t) [] s is = absurd (cc is)
+  front_within (contents.Bits t) (a ∷ x) s is = omega arith
+  front_within k x s is = omega arith
+
+-- an indefinite content has none
+pub front_open : (header : Header) (k : Content) (x : List ℕ) → admits header k x ≡ true
+    → is_none header.content_len ≡ true → front_len k ≡ 0
+unfolding admits
+front_open header (contents.Bits t) x fits is =
+    absurd (cc (sym is ∙ primitive header.tag.constructed header.content_len fits))
+front_open header k x fits is = refl
 
 -- a content whose mask has zeros is taken for the same component: no identifier begins with 0
 zeros_other : (family : Family) (x : List ℕ) → is_of (identifiers family) (zeros x) ≡ false
@@ -291,42 +295,49 @@ zeros_misfit header k x is = is
 pub kept_misfits : (small : Bool) (header : Header) (k : Content) (x : List ℕ) → admits header k x ≡ false
     → admits header k (masked_content (shown_len small header contents.Free x) x) ≡ false
 unfolding shown_len shown_in
-kept_misfits small header k x is = by_whole (is_whole header x) (is_shown small header.tag contents.Free x)
+kept_misfits small header k x is = cond_both (is_whole header x) _ 0 Misfits
+    (λ _. cond_both (is_shown small header.tag contents.Free x) (length x) 0 Misfits (λ _. rw all_masked is)
+    (λ _. zeros_misfit header k x is)) (λ _. zeros_misfit header k x is)
   where
-    by_whole : (whole seen : Bool)
-        → admits header k (masked_content (if whole then (if seen then length x else 0) else 0) x) ≡ false
-    by_whole true true = rw all_masked is
-    by_whole true false = zeros_misfit header k x is
-    by_whole false seen = zeros_misfit header k x is
+    Misfits : ℕ → Type 0
+    Misfits n = admits header k (masked_content n x) ≡ false
 
 -- ---- the bytes after a level
 
--- none are left where no end-of-contents ends it
-closed_end : (loose : Bool) (some : List Component) (bytes : List ℕ) (n : ℕ) → end_at loose false some bytes ≡ Some n
-    → length (drop n bytes) ≡ 0
+-- at the end of the bytes, or at an end-of-contents
+abbrev pub IsEnd : Bool → List ℕ → ℕ → Type 0
+IsEnd marked bytes n = ((n ≡ 0) × (bytes ≡ [])) ⊎ ((n ≡ 2) × (2 ≤ length bytes) × (marked ≡ true))
+
+pub end_found : (loose marked : Bool) (some : List Component) (bytes : List ℕ) (n : ℕ)
+    → end_at loose marked some bytes ≡ Some n → IsEnd marked bytes n
 unfolding end_at
-closed_end loose some [] n is = omega (arith, length-drop {A = ℕ} n [])
-closed_end loose some (a ∷ []) n is = absurd (cc is)
-closed_end loose some (a ∷ b ∷ bytes) n is =
-    absurd (cc (rw (and_right (a == 0x00 && b == 0x00) false refl) at is))
+end_found loose marked some [] n is =
+    let found = (some_if (loose || (not marked && may_end some)) (Some 0) n is).1 in
+    inl (cc, refl)
+end_found loose marked some (a ∷ []) n is = absurd (cc is)
+end_found loose marked some (a ∷ b ∷ bytes) n is =
+    let (test, found) = some_if ((a == 0x00 && b == 0x00) && (marked && (loose || may_end some))) (Some 2) n is in
+    inr (cc, omega arith, (and_parts marked _ (and_parts (a == 0x00 && b == 0x00) _ test).1).0)
 
 closed_by : (bytes : List ℕ) (after : Step → Option (List ℕ)) (next : List Component → List ℕ → Option (List ℕ))
     (o : Option ℕ) (step : Option Step) → ((n : ℕ) → o ≡ Some n → length (drop n bytes) ≡ 0)
     → ((cs : List Component) (rest : List ℕ) → left (next cs rest) ≡ 0) → left (rest_by bytes after next o step) ≡ 0
 closed_by bytes after next (Some n) step end each = end n refl
 closed_by bytes after next None None end each = refl
-closed_by bytes after next None (Some step) end each = by_rest (after step)
-  where
-    by_rest : (o : Option (List ℕ)) → left (rest_next (λ rest. next step.others rest) o) ≡ 0
-    by_rest None = refl
-    by_rest (Some rest) = each step.others rest
+closed_by bytes after next None (Some step) end each =
+    elim (after step) as (λ o. left (rest_next (λ rest. next step.others rest) o) ≡ 0)
+    [ None ↦ refl | Some rest ↦ each step.others rest ]
 
 none_left : (loose : Bool) (most depth : ℕ) (some : List Component) (bytes : List ℕ)
     → left (rest_of loose most depth false some bytes) ≡ 0
 none_left loose zero depth some bytes = refl
 none_left loose (suc most) depth some bytes =
-    closed_by bytes _ _ (end_at loose false some bytes) (step_at loose depth some bytes) (closed_end loose some bytes)
-    (λ cs rest. none_left loose most depth cs rest)
+    closed_by bytes _ _ (end_at loose false some bytes) (step_at loose depth some bytes)
+    (λ n is. nothing n (end_found loose false some bytes n is)) (none_left loose most depth)
+  where
+    nothing : (n : ℕ) → IsEnd false bytes n → length (drop n bytes) ≡ 0
+    nothing n (inl (none, empty)) = rw (none, empty) refl
+    nothing n (inr (two, few, other)) = absurd (cc other)
 
 pub rest_closed : (loose : Bool) (most depth : ℕ) (some : List Component) (bytes r : List ℕ)
     → rest_of loose most depth false some bytes ≡ Some r → r ≡ []
@@ -368,24 +379,6 @@ pub zeros_bits : (most depth : ℕ) (s : Structure) (x : List ℕ)
 zeros_bits most depth s [] = refl
 zeros_bits most depth s (a ∷ []) = refl
 zeros_bits most depth s (a ∷ b ∷ x) = zeros_never most depth s b x
-
--- ---- bytes before the elements of a content
-
--- they are there
-pub front_within : (whole : Structure → List ℕ → Bool) (loose : Bool) (header : Header) (k : Content) (x : List ℕ)
-    (s : Structure) → opened_in whole loose header k x ≡ Some s → front_len k ≤ length x
-unfolding opened_in
-front_within whole loose header (contents.Bits t) [] s is = absurd (cc is)
-front_within whole loose header (contents.Bits t) (a ∷ x) s is = omega arith
-front_within whole loose header k x s is = omega arith
-
--- an indefinite content has none
-pub front_open : (header : Header) (k : Content) (x : List ℕ) → admits header k x ≡ true
-    → is_none header.content_len ≡ true → front_len k ≡ 0
-unfolding admits
-front_open header (contents.Bits t) x fits is =
-    absurd (cc (sym is ∙ primitive header.tag.constructed header.content_len fits))
-front_open header k x fits is = refl
 
 -- a number of unused bits before others
 pub bits_same : (x r : List ℕ) → length r ≡ length (drop 1 x) → has_bits (take 1 x ++ r) ≡ has_bits x

@@ -3,20 +3,20 @@ use Rattle.std.proofs.Common.{◌≡◌, not, ℕ, ◌-◌, Bool, true, false, L
 use Rattle.std.proofs.Common.{Option, Some, None}
 use Rattle.std.proofs.lemmas.Bool.{cond_both}
 use Rattle.der_view.specs.Grammar.{Component, Form}
-use Rattle.der_view.specs.Masks.{AreAlike, AreAlikeAs, mask_as, mask_by_way, mask_with, next_mask, step_mask, undrawn}
+use Rattle.der_view.specs.Masks.{AreAlike, AreAlikeAs, mask_as, mask_by_way, mask_with, next_mask, undrawn}
 use Rattle.der_view.specs.Pictures.{best, better, complete_by, cut_by, ended_by, first_place, is_complete, is_cut}
 use Rattle.der_view.specs.Pictures.{is_public, is_retagged, is_tree, known_as, left_as, nearest, parts_as, picture}
 use Rattle.der_view.specs.Pictures.{plan_as, plan_of, rest_rows, root_of, root_step, rows_as, rows_by, rows_by_way}
 use Rattle.der_view.specs.Pictures.{rows_from, strictly, whole_as, whole_by}
-use Rattle.der_view.specs.Rows.{Row, Step, is_open, next_rows, rest_after, step_by, step_rows}
+use Rattle.der_view.specs.Rows.{Row, Step, next_rows, rest_after, step_by, step_rows}
 use Rattle.der_view.specs.declared.grammar.TheConstants as elements
 use Rattle.der_view.specs.declared.grammar.forms.TheConstants as tables
 use Rattle.der_view.specs.declared.plan.Plan.{Plan}
 use Rattle.der_view.specs.declared.plan.Way.{Way}
 use Rattle.der_view.specs.declared.plan.Way.TheVariants as ways
-use Rattle.der_view.proofs.MaskLemmas.{again, step_again, tail_len}
-use Rattle.der_view.proofs.RestLemmas.{BeginsMasked, begins_masked}
-use Rattle.der_view.proofs.RowMaskLemmas.{element_same, hidden, masks_rest}
+use Rattle.der_view.specs.declared.walk.Place.{Place}
+use Rattle.der_view.proofs.MaskLemmas.{again, tail_len}
+use Rattle.der_view.proofs.RowMaskLemmas.{BeginsMasked, begins_masked, element_same, hidden, masks_rest, next_step}
 use Rattle.der_view.proofs.StepLemmas.{BeginsWith, step_found, undrawn_len, undrawn_no_step}
 
 -- ---- the root
@@ -29,86 +29,78 @@ rest_mask_len : (step : Step) (o : Option (List ℕ)) → length (rest_mask step
 rest_mask_len step None = undrawn_len step.rest
 rest_mask_len step (Some rest) = undrawn_len rest
 
-abbrev root_like : Bool → Bool → ℕ → Step → Step
-root_like loose small most step =
-    step_again (is_open step) step (step_mask loose small most 1 step) (rest_mask step (rest_after loose most 1 step))
+module _ (loose small : Bool) (root : Component) (bytes : List ℕ) where
+  abbrev root_like : Step → Step
+  root_like step = next_step loose small (length bytes) 1 step (rest_mask step (rest_after loose (length bytes) 1 step))
 
--- what is known of a root and its mask
-record IsRoot (loose small : Bool) (root : Component) (bytes : List ℕ) (step : Step) : Type 0 where
-  begins : BeginsWith true false (root ∷ []) bytes step
-  masked : BeginsMasked true false loose small (length bytes) 1 (root ∷ []) bytes step
-      (root_like loose small (length bytes) step) (step_mask loose small (length bytes) 1 step)
-      (rest_mask step (rest_after loose (length bytes) 1 step))
+  -- what is known of a root and its mask
+  record IsRoot (step : Step) : Type 0 where
+    begins : BeginsWith true false (root ∷ []) bytes step
+    masked : BeginsMasked true false loose small (length bytes) 1 (root ∷ []) bytes step
+        (rest_mask step (rest_after loose (length bytes) 1 step))
 
--- what is the same of a root and its mask is the same of bytes and theirs
-of_mask : {A : Type 0} (f : ℕ → Option Step → A) (loose small : Bool) (root : Component) (bytes : List ℕ)
-    → ((step : Step) → IsRoot loose small root bytes step
-    → f (length bytes) (Some (root_like loose small (length bytes) step)) ≡ f (length bytes) (Some step))
-    → f (length (mask_as loose small root bytes)) (root_step root (mask_as loose small root bytes))
-    ≡ f (length bytes) (root_step root bytes)
-unfolding root_step mask_as
-of_mask f loose small root bytes same = by_root (step_by true false (root ∷ []) bytes) refl
-  where
-    by_root : (o : Option Step) → step_by true false (root ∷ []) bytes ≡ o
-        → f (length (mask_with loose small bytes o)) (step_by true false (root ∷ []) (mask_with loose small bytes o))
-        ≡ f (length bytes) o
-    by_root None is = rw (undrawn_len bytes, undrawn_no_step true false (root ∷ []) bytes) refl
-    by_root (Some step) is =
-        let begins = step_found true false (root ∷ []) bytes step is in
-        let b = begins_masked true false loose small (length bytes) 1 (root ∷ []) bytes step _ begins
-        (λ l k d cs x. masks_rest small (length bytes) l k d cs x)
-        (rest_mask_len step (rest_after loose (length bytes) 1 step)) in
-        rw (b.len, b.is) (same step (record { begins = begins; masked = b }))
+  -- what is the same of a root and its mask is the same of bytes and theirs
+  of_mask : {A : Type 0} (f : ℕ → Option Step → A)
+      → ((step : Step) → IsRoot step → f (length bytes) (Some (root_like step)) ≡ f (length bytes) (Some step))
+      → f (length (mask_as loose small root bytes)) (root_step root (mask_as loose small root bytes))
+      ≡ f (length bytes) (root_step root bytes)
+  unfolding root_step mask_as
+  of_mask f same = by_root (step_by true false (root ∷ []) bytes) refl
+    where
+      by_root : (o : Option Step) → step_by true false (root ∷ []) bytes ≡ o
+          → f (length (mask_with loose small bytes o)) (step_by true false (root ∷ []) (mask_with loose small bytes o))
+          ≡ f (length bytes) o
+      by_root None is = rw (undrawn_len bytes, undrawn_no_step true false (root ∷ []) bytes) refl
+      by_root (Some step) is =
+          let begins = step_found true false (root ∷ []) bytes step is in
+          let b = begins_masked true false loose small (length bytes) 1 (root ∷ []) bytes step _ begins
+          (masks_rest small (length bytes)) (rest_mask_len step (rest_after loose (length bytes) 1 step)) in
+          rw (b.len, b.is) (same step (record { begins = begins; masked = b }))
 
-pub mask_as_len : (loose small : Bool) (root : Component) (bytes : List ℕ)
-    → length (mask_as loose small root bytes) ≡ length bytes
-mask_as_len loose small root bytes = of_mask (λ n o. n) loose small root bytes (λ step r. refl)
+  pub mask_as_len : length (mask_as loose small root bytes) ≡ length bytes
+  mask_as_len = of_mask (λ n o. n) (λ step r. refl)
 
-pub rows_of_mask : (loose small is_public : Bool) (root : Component) (bytes : List ℕ)
-    → rows_as (hidden loose small) root is_public (mask_as loose small root bytes)
-    ≡ rows_as (hidden loose small) root is_public bytes
-unfolding rows_as
-rows_of_mask loose small is_public root bytes =
-    of_mask (λ n o. rows_from (hidden loose small) root (first_place is_public n) n o) loose small root bytes (λ step r.
-    ap (λ (rows : List Row). rows ++ tail (rest_after loose (length bytes) 1 (root_like loose small (length bytes) step)))
-    (element_same loose small (length bytes) (first_place is_public (length bytes)) (root ∷ []) step _
-    (λ l k d cs x. masks_rest small (length bytes) l k d cs x) r.begins.element.last (rest_mask_len step _)
-    r.masked.masks) ∙ ap (λ (rows : List Row). step_rows (hidden loose small) (length bytes)
-    (first_place is_public (length bytes)) (root ∷ []) step ++ rows) (ap tail r.masked.masks.after
-    ∙ after_same step (rest_after loose (length bytes) 1 step)))
-  where
-    tail : Option (List ℕ) → List Row
-    tail o = next_rows (λ rest. rest_rows (hidden loose small)
-        (record (first_place is_public (length bytes)) { offset = length bytes - length rest }) rest) o
+  pub rows_of_mask : (public : Bool) → rows_as (hidden loose small) root public (mask_as loose small root bytes)
+      ≡ rows_as (hidden loose small) root public bytes
+  unfolding rows_as
+  rows_of_mask public = of_mask (λ n o. rows_from (hidden loose small) root (first_place public n) n o) (λ step r.
+      ap (λ (rows : List Row). rows ++ tail (rest_after loose (length bytes) 1 (root_like step)))
+      (element_same loose small (length bytes) place (root ∷ []) step _ (masks_rest small (length bytes))
+      r.begins.element.last (rest_mask_len step _) r.masked.masks)
+      ∙ ap (λ (rows : List Row). step_rows (hidden loose small) (length bytes) place (root ∷ []) step ++ rows)
+      (ap tail r.masked.masks.after ∙ after_same step (rest_after loose (length bytes) 1 step)))
+    where
+      place : Place
+      place = first_place public (length bytes)
 
-    after_same : (step : Step) (o : Option (List ℕ)) → tail (again (rest_mask step o) o) ≡ tail o
-    after_same step None = refl
-    after_same step (Some []) = refl
-    after_same step (Some (byte ∷ rest)) = rw (undrawn_len rest) refl
+      tail : Option (List ℕ) → List Row
+      tail o = next_rows (λ rest. rest_rows (hidden loose small)
+          (record place { offset = length bytes - length rest }) rest) o
 
-complete_same : (loose small : Bool) (root : Component) (bytes : List ℕ) (step : Step)
-    → IsRoot loose small root bytes step
-    → is_complete (root_like loose small (length bytes) step) ≡ is_complete step
-complete_same loose small root bytes step r =
-    let masks = r.masked.masks in
-    ap₂ (λ (x : Step) (n : ℕ). complete_by x.header.content_len n) masks.like masks.stays.len
+      after_same : (step : Step) (o : Option (List ℕ)) → tail (again (rest_mask step o) o) ≡ tail o
+      after_same step None = refl
+      after_same step (Some []) = refl
+      after_same step (Some (byte ∷ rest)) = rw (undrawn_len rest) refl
 
-pub whole_of_mask : (loose small : Bool) (root : Component) (bytes : List ℕ)
-    → whole_as loose root (mask_as loose small root bytes) ≡ whole_as loose root bytes
-unfolding whole_as
-whole_of_mask loose small root bytes = of_mask (λ n o. whole_by loose n o) loose small root bytes (λ step r.
-    rw r.masked.masks.after (ended_same step (root_like loose small (length bytes) step)
-    (rest_after loose (length bytes) 1 step) (complete_same loose small root bytes step r)))
-  where
-    ended_same : (step next : Step) (o : Option (List ℕ)) → is_complete next ≡ is_complete step
-        → ended_by next (again (rest_mask step o) o) ≡ ended_by step o
-    ended_same step next None same = refl
-    ended_same step next (Some []) same = same
-    ended_same step next (Some (byte ∷ rest)) same = refl
+  complete_same : (step : Step) → IsRoot step → is_complete (root_like step) ≡ is_complete step
+  complete_same step r =
+      let masks = r.masked.masks in
+      ap₂ (λ (x : Step) (n : ℕ). complete_by x.header.content_len n) masks.like masks.stays.len
+
+  pub whole_of_mask : whole_as loose root (mask_as loose small root bytes) ≡ whole_as loose root bytes
+  unfolding whole_as
+  whole_of_mask = of_mask (λ n o. whole_by loose n o) (λ step r. rw r.masked.masks.after
+      (ended_same step (root_like step) (rest_after loose (length bytes) 1 step) (complete_same step r)))
+    where
+      ended_same : (step next : Step) (o : Option (List ℕ)) → is_complete next ≡ is_complete step
+          → ended_by next (again (rest_mask step o) o) ≡ ended_by step o
+      ended_same step next (Some []) same = same
+      ended_same step next None same = refl
+      ended_same step next (Some (byte ∷ rest)) same = refl
 
 cut_of_mask : (bytes : List ℕ) → is_cut (mask_as false false elements.ELEMENT bytes) ≡ is_cut bytes
 unfolding is_cut
-cut_of_mask bytes = of_mask (λ n o. cut_by o) false false elements.ELEMENT bytes
+cut_of_mask bytes = of_mask false false elements.ELEMENT bytes (λ n o. cut_by o)
     (λ step r. ap (λ (b : Bool). not b) (complete_same false false elements.ELEMENT bytes step r))
 
 -- ---- bytes that are alike
@@ -119,12 +111,12 @@ alike : {A : Type 0} (f : List ℕ → A) (loose small : Bool) (root : Component
     → mask_as loose small root a ≡ mask_as loose small root b → f a ≡ f b
 alike f loose small root a b of same = sym (of a) ∙ (ap f same ∙ of b)
 
-rows_alike : (loose small is_public : Bool) (root : Component) (a b : List ℕ)
+rows_alike : (loose small public : Bool) (root : Component) (a b : List ℕ)
     → mask_as loose small root a ≡ mask_as loose small root b
-    → rows_as (hidden loose small) root is_public a ≡ rows_as (hidden loose small) root is_public b
-rows_alike loose small is_public root a b =
-    alike (λ x. rows_as (hidden loose small) root is_public x) loose small root a b
-    (rows_of_mask loose small is_public root)
+    → rows_as (hidden loose small) root public a ≡ rows_as (hidden loose small) root public b
+rows_alike loose small public root a b =
+    alike (λ x. rows_as (hidden loose small) root public x) loose small root a b
+    (λ x. rows_of_mask loose small root x public)
 
 -- of bytes as a form
 record SameAs (root : Component) (a b : List ℕ) : Type 0 where
@@ -151,7 +143,8 @@ unfolding best better
 best_alike a b first [] one same = (refl, one)
 best_alike a b first (second ∷ others) one (two, same) =
     let chosen : mask_as false false (better b first second).0 a ≡ mask_as false false (better b first second).0 b =
-    cond_both _ second first (λ form. mask_as false false form.0 a ≡ mask_as false false form.0 b) (λ _. two) (λ _. one) in
+    cond_both _ second first (λ form. mask_as false false form.0 a ≡ mask_as false false form.0 b) (λ _. two)
+    (λ _. one) in
     let next = best_alike a b (better b first second) others chosen same in (
       ap (λ (form : Form). best a form others) (better_alike a b first second (same_as first.0 a b one)
           (same_as second.0 a b two)) ∙ next.0,

@@ -1,63 +1,132 @@
 -- What is after a level, and its rows, are those of its mask.
-use Rattle.std.proofs.Common.{◌≡◌, ℕ, zero, suc, ◌+◌, Bool, true, false, List, [], ◌++◌, length, take, drop, refl, sym}
-use Rattle.std.proofs.Common.{ap, ◌∙◌, Option, Some, None, arith, append_assoc, append-nil, length-append}
+use Rattle.std.proofs.Common.{◌≡◌, ◌&&◌, ◌||◌, ◌==◌, not, ℕ, zero, suc, ◌+◌, ◌<◌, ◌≤◌, Bool, true, false, List, [], ◌∷◌}
+use Rattle.std.proofs.Common.{◌++◌, length, take, drop, refl, sym, ap, ◌∙◌, Option, Some, None, arith, append_assoc}
+use Rattle.std.proofs.Common.{append-nil, length-append, length-drop}
 use Rattle.std.proofs.lemmas.List.{drop_at, length-replicate, length-take-le}
 use Rattle.std.specs.Prelude.{nat_lt, replicate}
 use Rattle.der_view.specs.Grammar.{Component, components}
 use Rattle.der_view.specs.Masks.{content_mask, masked, next_mask, step_mask, undrawn}
 use Rattle.der_view.specs.Rows.{How, Row, Step, after, after_inside, end_at, front_len, inside, inside_bytes}
-use Rattle.der_view.specs.Rows.{inside_loose, is_followed, is_open, next_rows, opened_of, rest_after, rest_next}
-use Rattle.der_view.specs.Rows.{rest_of, rows_of, step_at, step_by, step_rows}
+use Rattle.der_view.specs.Rows.{inside_loose, is_followed, is_open, may_end, next_rows, opened_of, rest_after}
+use Rattle.der_view.specs.Rows.{rest_next, rest_of, rows_of, step_at, step_by, step_rows}
 use Rattle.der_view.specs.declared.grammar.Structure.{Structure}
 use Rattle.der_view.specs.declared.walk.Place.{Place}
-use Rattle.der_view.proofs.LevelLemmas.{MasksStep, closed_left}
+use Rattle.der_view.proofs.LevelLemmas.{MasksStep, closed_left, opened_masks}
 pub use Rattle.der_view.proofs.MaskLemmas.{hidden}
-use Rattle.der_view.proofs.MaskLemmas.{MasksRest, again, front_within, left, no_len, some_if, step_again, tail_len}
-use Rattle.der_view.proofs.MaskLemmas.{undrawn_at}
-use Rattle.der_view.proofs.RestLemmas.{begins_masked, end_again, undrawn_end}
-use Rattle.der_view.proofs.StepLemmas.{no_bytes, step_found, undrawn_len}
+use Rattle.der_view.proofs.MaskLemmas.{IsTaken, MasksRest, again, front_within, left, no_len, some_if, step_again}
+use Rattle.der_view.proofs.MaskLemmas.{tail_len, undrawn_at}
+use Rattle.der_view.proofs.StepLemmas.{BeginsWith, no_bytes, step_found, undrawn_len}
 
--- what is inside elements and levels of so many elements
+-- ---- where a level ends
+
+-- at the same place, with as many other bytes after it
+record EndsAgain (loose marked : Bool) (some : List Component) (bytes : List ℕ) (n : ℕ) (r : List ℕ) : Type 0 where
+  is : end_at loose marked some (take n bytes ++ r) ≡ Some n
+  rest : drop n (take n bytes ++ r) ≡ r
+  len : length (take n bytes ++ r) ≡ length bytes
+
+end_again : (loose marked : Bool) (some : List Component) (bytes r : List ℕ) (n : ℕ)
+    → end_at loose marked some bytes ≡ Some n → length r ≡ length (drop n bytes)
+    → EndsAgain loose marked some bytes n r
+unfolding end_at
+end_again loose marked some [] r n is size =
+    let (test, same) = some_if (loose || (not marked && may_end some)) (Some 0) n is in
+    let none : ◌≡◌ {A = ℕ} 0 n = cc in
+    rw (← none, no_bytes r (omega (arith, size, length-drop {A = ℕ} n [])))
+    (record { is = rw test refl; rest = refl; len = refl })
+end_again loose marked some (a ∷ []) r n is size = absurd (cc is)
+end_again loose marked some (a ∷ b ∷ bytes) r n is size =
+    let (test, same) = some_if ((a == 0x00 && b == 0x00) && (marked && (loose || may_end some))) (Some 2) n is in
+    let two : ◌≡◌ {A = ℕ} n 2 = cc in
+    rw two (record { is = rw test refl; rest = refl; len = omega (arith, rw two at size) })
+
+-- by its first bytes
+end_front : (loose marked : Bool) (some : List Component) (n : ℕ) (bytes more : List ℕ) → 1 < n → n ≤ length bytes
+    → end_at loose marked some (take n bytes ++ more) ≡ end_at loose marked some bytes
+unfolding end_at
+end_front loose marked some (suc (suc n)) (a ∷ b ∷ bytes) more two few = refl
+end_front loose marked some n bytes more two few = absurd (omega (arith, two, few))
+
+undrawn_end : (loose marked : Bool) (some : List Component) (bytes : List ℕ) → end_at loose marked some bytes ≡ None
+    → end_at loose marked some (undrawn bytes) ≡ None
+unfolding end_at
+undrawn_end loose marked some [] is = is
+undrawn_end loose marked some (a ∷ []) is = refl
+undrawn_end loose marked some (a ∷ b ∷ bytes) is = refl
+
+-- ---- the next element
+
+pub taken : (cut misfit : Bool) (some : List Component) (bytes : List ℕ) (step : Step)
+    → BeginsWith cut misfit some bytes step → IsTaken step
+taken cut misfit some bytes step b = record { admitted = b.admitted; free = b.free; last = b.element.last }
+
+-- levels of so many elements
 abbrev pub Inner : Bool → ℕ → Type 0
 Inner small most =
     (loose marked : Bool) (depth : ℕ) (some : List Component) (bytes : List ℕ)
     → MasksRest loose small most depth marked some bytes
 
--- ---- one element
+-- an element of a mask, with these bytes after its content
+abbrev pub next_step : Bool → Bool → ℕ → ℕ → Step → List ℕ → Step
+next_step loose small most depth step t = step_again (is_open step) step (step_mask loose small most depth step) t
+
+abbrev pub next_bytes : Bool → Bool → ℕ → ℕ → Step → List ℕ → List ℕ
+next_bytes loose small most depth step t = step.head ++ (step_mask loose small most depth step ++ t)
+
+-- bytes that begin with an element, and those of its mask
+pub record BeginsMasked (cut misfit loose small : Bool) (most depth : ℕ) (some : List Component) (bytes : List ℕ)
+    (step : Step) (t : List ℕ) : Type 0 where
+  pub masks : MasksStep loose small most depth step (next_step loose small most depth step t)
+      (step_mask loose small most depth step) t
+  pub is : step_by cut misfit some (next_bytes loose small most depth step t)
+      ≡ Some (next_step loose small most depth step t)
+  pub len : length (next_bytes loose small most depth step t) ≡ length bytes
+  pub end : (l marked : Bool) → end_at l marked some (next_bytes loose small most depth step t)
+      ≡ end_at l marked some bytes
+
+pub begins_masked : (cut misfit loose small : Bool) (most depth : ℕ) (some : List Component) (bytes : List ℕ)
+    (step : Step) (t : List ℕ) → BeginsWith cut misfit some bytes step → Inner small most
+    → length t ≡ tail_len step (rest_after loose most depth step)
+    → BeginsMasked cut misfit loose small most depth some bytes step t
+begins_masked cut misfit loose small most depth some bytes step t b inner size =
+    let m : List ℕ = step_mask loose small most depth step in
+    let next : Step = next_step loose small most depth step t in
+    let masks = opened_masks loose small most depth step t (taken cut misfit some bytes step b) inner size in
+    let h = b.element in
+    let head = ap length b.head ∙ length-take-le step.header.len bytes h.within in
+    let parts = ap length masks.parts ∙ length-append next.content next.rest in
+    record {
+      masks = masks;
+      is = ap (λ (x : List ℕ). step_by cut misfit some (step.head ++ x)) masks.parts
+          ∙ (b.again next.content next.rest masks.stays masks.rest_len ∙ ap (λ (x : Step). Some x) (sym masks.like));
+      len = length-append step.head (m ++ t) ∙ omega (arith, head, parts, masks.stays.len, masks.rest_len, h.len);
+      end = λ l marked. ap (λ (x : List ℕ). end_at l marked some (x ++ (m ++ t))) b.head
+          ∙ end_front l marked some step.header.len bytes (m ++ t) h.some h.within;
+    }
 
 pub element_same : (loose small : Bool) (most : ℕ) (place : Place) (some : List Component) (step : Step) (t : List ℕ)
     → Inner small most → (step.header.content_len ≡ None → step.rest ≡ [])
     → length t ≡ tail_len step (rest_after loose most (place.depth + 1) step)
-    → MasksStep loose small most (place.depth + 1) step
-    (step_again (is_open step) step (step_mask loose small most (place.depth + 1) step) t)
+    → MasksStep loose small most (place.depth + 1) step (next_step loose small most (place.depth + 1) step t)
     (step_mask loose small most (place.depth + 1) step) t
-    → step_rows (hidden loose small) most place some
-    (step_again (is_open step) step (step_mask loose small most (place.depth + 1) step) t)
+    → step_rows (hidden loose small) most place some (next_step loose small most (place.depth + 1) step t)
     ≡ step_rows (hidden loose small) most place some step
 element_same loose small most place some step t inner last size masks =
     by_opened (opened_of loose most (place.depth + 1) step) (is_open step) refl refl masks
   where
-    inside' : Bool
-    inside' = inside_loose step.component.2 loose
-
-    bytes : List ℕ
-    bytes = inside_bytes step
-
-    mask_at : Bool → Structure → List ℕ
-    mask_at b s = masked inside' small most (place.depth + 1) b (components s) bytes
+    within : (b : Bool) (s : Structure) → MasksRest (inside_loose step.component.2 loose) small most (place.depth + 1) b
+        (components s) (inside_bytes step)
+    within b s = inner (inside_loose step.component.2 loose) b (place.depth + 1) (components s) (inside_bytes step)
 
     mask : Bool → Option Structure → List ℕ
-    mask b o = content_mask small (mask_at b) o step
+    mask b o = content_mask small (λ s. masked (inside_loose step.component.2 loose) small most (place.depth + 1) b
+        (components s) (inside_bytes step)) o step
 
     back : (s : Structure) (x : List ℕ) → opened_of loose most (place.depth + 1) step ≡ Some s
         → drop (front_len step.component.2) (take (front_len step.component.2) step.content ++ x) ≡ x
-    back s x is =
-        drop_at _ x _ (length-take-le (front_len step.component.2) step.content
-        (front_within (λ u y. is_followed most (place.depth + 1) u y) loose step.header step.component.2 step.content s is))
-
-    tail : (o : Option (List ℕ)) → step.rest ≡ [] → tail_len step (after_inside true step.rest o) ≡ left o
-    tail None none = ap length none
-    tail (Some r) none = refl
+    back s x is = drop_at _ x _ (length-take-le (front_len step.component.2) step.content
+        (front_within (λ u y. is_followed most (place.depth + 1) u y) loose step.header step.component.2 step.content s
+        is))
 
     by_opened : (o : Option Structure) (b : Bool) → opened_of loose most (place.depth + 1) step ≡ o → is_open step ≡ b
         → MasksStep loose small most (place.depth + 1) step (step_again b step (mask b o) t) (mask b o) t
@@ -66,17 +135,15 @@ element_same loose small most place some step t inner last size masks =
     by_opened None true is e known = rw (known.opened ∙ is, is, known.stays.len, known.shown) refl
     by_opened None false is e known = rw (known.opened ∙ is, is, known.stays.len, known.shown) refl
     by_opened (Some s) false is e known =
-        let within = inner inside' false (place.depth + 1) (components s) bytes in
-        let none = closed_left inside' most (place.depth + 1) (components s) bytes in
-        let rows = rw append-nil at (within.rows [] (sym none) (inside place step)) in
-        rw (known.opened ∙ is, is, known.stays.len, known.shown, e, back s (mask_at false s) is, rows) refl
+        let none = sym (closed_left _ most (place.depth + 1) (components s) (inside_bytes step)) in
+        let rows = rw append-nil at ((within false s).rows [] none (inside place step)) in
+        rw (known.opened ∙ is, is, known.stays.len, known.shown, e, back s _ is, rows) refl
     by_opened (Some s) true is e known =
-        let within = inner inside' true (place.depth + 1) (components s) bytes in
-        let size' : length t ≡ left (rest_of inside' most (place.depth + 1) true (components s) bytes) =
-        size ∙ rw (is, e) (tail _ (last (no_len step.header.content_len e))) in
-        let rows = within.rows t size' (inside place step) in
-        rw (known.opened ∙ is, is, known.stays.len, known.shown, e, append_assoc, back s (mask_at true s ++ t) is, rows)
-        refl
+        let tail = elim (rest_of (inside_loose step.component.2 loose) most (place.depth + 1) true (components s)
+        (inside_bytes step)) as (λ o. tail_len step (after_inside true step.rest o) ≡ left o)
+        [ None ↦ ap length (last (no_len step.header.content_len e)) | Some r ↦ refl ] in
+        let rows = (within true s).rows t (size ∙ rw (is, e) tail) (inside place step) in
+        rw (known.opened ∙ is, is, known.stays.len, known.shown, e, append_assoc, back s _ is, rows) refl
 
 -- ---- levels
 
@@ -88,6 +155,12 @@ pub row_step : (how : How) (most : ℕ) (marked : Bool) (place : Place) (some : 
     ++ next_rows (λ (rest : List ℕ). rows_of how most marked (after place bytes rest) step.others rest)
     (rest_after how.loose most (place.depth + 1) step)
 row_step how most marked place some bytes step is at = rw (is, at) refl
+
+pub mask_stop : (loose small : Bool) (most depth : ℕ) (marked : Bool) (some : List Component) (bytes : List ℕ)
+    → end_at loose marked some bytes ≡ None → step_at loose depth some bytes ≡ None
+    → (masked loose small (suc most) depth marked some bytes ≡ undrawn bytes)
+    × (rest_of loose (suc most) depth marked some bytes ≡ None)
+mask_stop loose small most depth marked some bytes is at = (rw (is, at) refl, rw (is, at) refl)
 
 module _ (loose small : Bool) (most depth : ℕ) (marked : Bool) (some : List Component) (bytes : List ℕ)
     (inner : Inner small most) where
@@ -111,9 +184,9 @@ module _ (loose small : Bool) (most depth : ℕ) (marked : Bool) (some : List Co
       ++ rows_after bytes step o (record place { depth = depth })
 
   -- an element and any bytes after it
-  step_has : (step : Step) (t : List ℕ) → end_at loose marked some bytes ≡ None → step_at loose depth some bytes ≡ Some step
-      → length t ≡ tail_len step (rest_after loose most (depth + 1) step)
-      → Has (step.head ++ (step_mask loose small most (depth + 1) step ++ t))
+  step_has : (step : Step) (t : List ℕ) → end_at loose marked some bytes ≡ None
+      → step_at loose depth some bytes ≡ Some step → length t ≡ tail_len step (rest_after loose most (depth + 1) step)
+      → Has (next_bytes loose small most (depth + 1) step t)
       (rest_next_of step (again t (rest_after loose most (depth + 1) step)))
       (rows_next_of step (again t (rest_after loose most (depth + 1) step)))
   unfolding step_at
@@ -121,8 +194,8 @@ module _ (loose small : Bool) (most depth : ℕ) (marked : Bool) (some : List Co
       let (few, found) = some_if (nat_lt depth 64) (step_by loose loose some bytes) step at in
       let begins = step_found loose loose some bytes step found in
       let b = begins_masked loose loose loose small most (depth + 1) some bytes step t begins inner size in
-      let other : List ℕ = step.head ++ (step_mask loose small most (depth + 1) step ++ t) in
-      let next : Step = step_again (is_open step) step (step_mask loose small most (depth + 1) step) t in
+      let other : List ℕ = next_bytes loose small most (depth + 1) step t in
+      let next : Step = next_step loose small most (depth + 1) step t in
       let end : end_at loose marked some other ≡ None = b.end loose marked ∙ is in
       let next_is : step_at loose depth some other ≡ Some next = rw few b.is in
       let others : next.others ≡ step.others = ap (λ (x : Step). x.others) b.masks.like in
@@ -130,37 +203,37 @@ module _ (loose small : Bool) (most depth : ℕ) (marked : Bool) (some : List Co
         len = b.len;
         rest = rw (end, next_is, b.masks.after, others) refl;
         rows = λ place.
-            row_step (hidden loose small) most marked (record place { depth = depth }) some other next end next_is
-            ∙ (ap (λ (rows : List Row). rows
-            ++ rows_after other next (rest_after loose most (depth + 1) next) (record place { depth = depth }))
-            (element_same loose small most (record place { depth = depth }) some step t inner begins.element.last size
-            b.masks) ∙ rw (b.masks.after, others, b.len) refl);
+            let at_depth : Place = record place { depth = depth } in
+            row_step (hidden loose small) most marked at_depth some other next end next_is ∙ (ap (λ (rows : List Row).
+            rows ++ rows_after other next (rest_after loose most (depth + 1) next) at_depth)
+            (element_same loose small most at_depth some step t inner begins.element.last size b.masks)
+            ∙ rw (b.masks.after, others, b.len) refl);
       }
 
   -- an element, and what comes after it of the level
   next_has : (step : Step) (r : List ℕ) (o : Option (List ℕ)) → end_at loose marked some bytes ≡ None
       → step_at loose depth some bytes ≡ Some step → rest_after loose most (depth + 1) step ≡ o
       → length r ≡ left (rest_next_of step o)
-      → Has (step.head ++ (step_mask loose small most (depth + 1) step
-      ++ (next_mask step.rest (λ rest. masked loose small most depth marked step.others rest) o ++ r)))
+      → Has (next_bytes loose small most (depth + 1) step
+      (next_mask step.rest (λ rest. masked loose small most depth marked step.others rest) o ++ r))
       (again r (rest_next_of step o)) (rows_next_of step o)
   next_has step r None is at e size =
-      let t : List ℕ = undrawn step.rest ++ r in
-      let len : length t ≡ length step.rest =
-      omega (arith, length-append (undrawn step.rest) r, undrawn_len step.rest, size) in
-      rw e at (step_has step t is at (rw e len))
+      let join = length-append (undrawn step.rest) r in
+      let len : length (undrawn step.rest ++ r) ≡ length step.rest = omega (arith, undrawn_len step.rest, size) in
+      rw e at (step_has step (undrawn step.rest ++ r) is at (rw e len))
   next_has step r (Some rest) is at e size =
       let known = inner loose marked depth step.others rest in
       let t : List ℕ = masked loose small most depth marked step.others rest ++ r in
-      let len : length t ≡ length rest =
-      omega (arith, length-append (masked loose small most depth marked step.others rest) r, known.len, size) in
+      let join = length-append (masked loose small most depth marked step.others rest) r in
+      let len : length t ≡ length rest = omega (arith, known.len, size) in
       let has = rw e at (step_has step t is at (rw e len)) in
       record {
         len = has.len;
         rest = has.rest ∙ known.same r size;
-        rows = λ place. has.rows place ∙ rw len (ap (λ (rows : List Row).
-            step_rows (hidden loose small) most (record place { depth = depth }) some step ++ rows)
-            (known.rows r size (after (record place { depth = depth }) bytes rest)));
+        rows = λ place.
+            let at_depth : Place = record place { depth = depth } in
+            has.rows place ∙ rw len (ap (λ (rows : List Row). step_rows (hidden loose small) most at_depth some step
+            ++ rows) (known.rows r size (after at_depth bytes rest)));
       }
 
   level_has : (o : Option ℕ) (q : Option Step) → end_at loose marked some bytes ≡ o → step_at loose depth some bytes ≡ q
@@ -172,10 +245,9 @@ module _ (loose small : Bool) (most depth : ℕ) (marked : Bool) (some : List Co
       let ends = end_again loose marked some bytes r n is (rw is at size) in
       rw is (record { len = ends.len; rest = rw (ends.is, ends.rest) refl; rows = λ place. rw ends.is refl })
   level_has None None is at r size =
-      let none : r ≡ [] = no_bytes r (rw (is, at) at size) in
       let end = undrawn_end loose marked some bytes is in
       let stop = undrawn_at loose depth some bytes in
-      rw (is, at, none, append-nil (undrawn bytes))
+      rw (is, at, no_bytes r (rw (is, at) at size), append-nil (undrawn bytes))
       (record { len = undrawn_len bytes; rest = rw (end, stop) refl; rows = λ place. rw (end, stop) refl })
   level_has None (Some step) is at r size =
       rw (is, at, append_assoc, append_assoc)
@@ -193,9 +265,8 @@ module _ (loose small : Bool) (most depth : ℕ) (marked : Bool) (some : List Co
         rows = λ x size place. (has x size).rows place;
       }
 
-pub masks_rest : (small : Bool) (most : ℕ) (loose marked : Bool) (depth : ℕ) (some : List Component) (bytes : List ℕ)
-    → MasksRest loose small most depth marked some bytes
+pub masks_rest : (small : Bool) (most : ℕ) → Inner small most
 masks_rest small zero loose marked depth some bytes =
     record { len = omega (arith, undrawn_len bytes); same = λ r size. refl; rows = λ r size place. refl }
 masks_rest small (suc most) loose marked depth some bytes =
-    masks_next loose small most depth marked some bytes (λ l k d cs x. masks_rest small most l k d cs x)
+    masks_next loose small most depth marked some bytes (masks_rest small most)

@@ -1,21 +1,21 @@
 -- Masks of elements with contents that differ.
-use Rattle.std.proofs.Common.{◌≡◌, ◌&&◌, ◌||◌, ℕ, suc, ◌+◌, Bool, true, false, List, [], ◌++◌, length, take, refl, sym}
-use Rattle.std.proofs.Common.{ap, ◌∙◌, Option, Some, None, append-nil}
+use Rattle.std.proofs.Common.{◌≡◌, ◌&&◌, ◌||◌, ℕ, suc, ◌+◌, Bool, true, false, List, [], ◌++◌, length, take, refl, sym, ap}
+use Rattle.std.proofs.Common.{◌∙◌, Option, Some, None, append-nil, arith}
 use Rattle.std.proofs.lemmas.Bool.{and_parts}
 use Rattle.std.specs.Option.{is_some}
 use Rattle.std.specs.Prelude.{if◌then◌else◌, is_none, nat_lt}
 use Rattle.der_view.specs.Contents.{is_small, is_shown, is_whole, shown_in, shown_len}
 use Rattle.der_view.specs.Grammar.{Component, components}
 use Rattle.der_view.specs.Masks.{masked, next_mask, step_mask}
-use Rattle.der_view.specs.Rows.{Step, admits, after_inside, end_at, front_len, inside_loose, is_followed, opened_in}
-use Rattle.der_view.specs.Rows.{opened_of, others_after, rest_after, rest_of, step_at, step_by, step_with}
+use Rattle.der_view.specs.Rows.{Step, admits, after_inside, end_at, front_len, inside_bytes, inside_loose, is_followed}
+use Rattle.der_view.specs.Rows.{opened_in, opened_of, others_after, rest_after, rest_of, step_at, step_by, step_with}
 use Rattle.der_view.specs.declared.grammar.Content.{Content}
 use Rattle.der_view.specs.declared.grammar.Content.TheVariants as contents
 use Rattle.der_view.specs.declared.grammar.Structure.{Structure}
 use Rattle.der_view.specs.declared.grammar.Structure.TheVariants as structures
 use Rattle.der_view.specs.declared.header.Header.{Header}
 use Rattle.der_view.proofs.LevelLemmas.{chosen_same, closed_left}
-use Rattle.der_view.proofs.MaskLemmas.{again, no_choice, none_shown}
+use Rattle.der_view.proofs.MaskLemmas.{again, no_choice, none_shown, opened_same, some_if}
 use Rattle.der_view.proofs.RowMaskLemmas.{masks_rest}
 
 -- any elements
@@ -96,11 +96,8 @@ module _ (loose small : Bool) (most depth : ℕ) where
       ≡ is_some (rest_of loose most depth false some x)
   mask_goes some x =
       let known = (masks_rest small most loose false depth some x).same [] (sym (closed_left loose most depth some x)) in
-      rw (rw append-nil at known) (some_again (rest_of loose most depth false some x))
-    where
-      some_again : (o : Option (List ℕ)) → is_some (again [] o) ≡ is_some o
-      some_again None = refl
-      some_again (Some r) = refl
+      rw (rw append-nil at known) (elim (rest_of loose most depth false some x) as
+      (λ o. is_some (again [] o) ≡ is_some o) [ None ↦ refl | Some r ↦ refl ])
 
   goes_alike : (some : List Component) (a b : List ℕ)
       → masked loose small most depth false some a ≡ masked loose small most depth false some b
@@ -110,6 +107,44 @@ module _ (loose small : Bool) (most depth : ℕ) where
 after_some : (rest : List ℕ) (o : Option (List ℕ)) → is_some (after_inside false rest o) ≡ is_some o
 after_some rest None = refl
 after_some rest (Some r) = refl
+
+-- contents inside an element
+module _ (loose small : Bool) (most depth : ℕ) (header : Header) (holds : Structure → Bool) (a b : List ℕ)
+    (are : AreInside small most depth holds header a b) where
+  any_alike : (free : Bool) (u : Structure)
+      → (if is_none header.content_len || (header.tag.constructed && free) then Some structures.Any else None) ≡ Some u
+      → (l : Bool) → masked l small most depth false (components u) a ≡ masked l small most depth false (components u) b
+  any_alike free u at l =
+      let (made, same) = some_if (header.tag.constructed && free) (Some structures.Any) u (rw are.definite at at) in
+      let any_is : structures.Any ≡ u = cc in
+      rw (← any_is) (are.anything l (and_parts header.tag.constructed free made).0)
+
+  inner_alike : (s u : Structure) → holds s ≡ true → s ≡ u
+      → (l : Bool) → masked l small most depth false (components u) a ≡ masked l small most depth false (components u) b
+  inner_alike s u is same l = rw (← same) (are.inner s l is)
+
+  -- those that are rows, and those that aren't
+  opened_alike : (k : Content) (u : Structure) → inside_content holds k ≡ true
+      → opened_in (λ v x. is_followed most depth v x) loose header k b ≡ Some u
+      → ((l : Bool) → masked l small most depth false (components u) a ≡ masked l small most depth false (components u) b)
+      × (front_len k ≡ 0)
+  unfolding opened_in
+  opened_alike contents.Hidden u is at = (any_alike loose u at, refl)
+  opened_alike contents.Free u is at = (any_alike true u at, refl)
+  opened_alike (contents.Inside s) u is at = (inner_alike s u is (cc), refl)
+  opened_alike (contents.Whole s) u is at =
+      let (_, same) = some_if (is_followed most depth s b) (Some s) u at in
+      (inner_alike s u is (cc), refl)
+  opened_alike k u is at = absurd (cc is)
+
+  shut_alike : (k : Content) (x : List ℕ) → inside_content holds k ≡ true
+      → opened_in (λ v y. is_followed most depth v y) loose header k b ≡ None
+      → length x ≡ length a → shown_len small header k x ≡ 0
+  unfolding opened_in
+  shut_alike contents.Free x is at size =
+      let plain : header.tag.constructed ≡ false = grind arith in
+      are.unseen x size plain
+  shut_alike k x is at size = inside_len small holds header k x is (λ e. absurd (cc e))
 
 module _ (loose small : Bool) (most depth : ℕ) (header : Header) where
   -- elements with these contents, as this component
@@ -148,73 +183,35 @@ module _ (loose small : Bool) (most depth : ℕ) (header : Header) where
   closed_alike head c others follows a b s t one two p q size =
       record { mask = rw (one, two, p, q, size) refl; goes = rw (one, two) refl }
 
-  elements_alike : (c : Component) (a b : List ℕ) (holds : Structure → Bool) (free : Bool)
-      → AreInside small most depth holds header a b
-      → ((whole : Structure → List ℕ → Bool) (y : List ℕ) → opened_in whole loose header c.2 y
-      ≡ (if is_none header.content_len || (header.tag.constructed && free) then Some structures.Any else None))
-      → ((header.tag.constructed && free) ≡ false → (x : List ℕ) → length x ≡ length a
-      → shown_len small header c.2 x ≡ 0)
-      → inside_loose c.2 loose ≡ loose → front_len c.2 ≡ 0 → AlikeAs c a b
-  elements_alike c a b holds free are is shut same front = by_test (header.tag.constructed && free) refl
-    where
-      by : (test : Bool) → (header.tag.constructed && free) ≡ test → (x : List ℕ)
-          → opened c x ≡ (if test then Some structures.Any else None)
-      by test e x = is _ x ∙ rw (are.definite, e) refl
-
-      by_test : (test : Bool) → (header.tag.constructed && free) ≡ test → AlikeAs c a b
-      by_test true e =
-          rows_alike c a b structures.Any are.definite front (by true e a) (by true e b)
-          (rw same (are.anything loose (and_parts header.tag.constructed free e).0))
-      by_test false e = λ head others follows s t. closed_alike head c others follows a b s t
-          (by false e a) (by false e b) (shut e a refl) (shut e b (sym are.len)) are.len
-
-  -- what is inside a content is alike
-  inside_alike : (c : Component) (a b : List ℕ) (holds : Structure → Bool)
-      → AreInside small most depth holds header a b → inside_content holds c.2 ≡ true
-      → (admits header c.2 a ≡ admits header c.2 b) × AlikeAs c a b
-  unfolding opened_in admits
-  inside_alike (g, p, contents.Hidden, n) a b holds are is = (
-    refl,
-    elements_alike (g, p, contents.Hidden, n) a b holds loose are (λ whole y. refl)
-        (λ test x size. inside_len small holds header contents.Hidden x is (λ e. absurd (cc e))) refl refl,
-  )
-  inside_alike (g, p, contents.Free, n) a b holds are is = (
-    refl,
-    elements_alike (g, p, contents.Free, n) a b holds true are (λ whole y. refl)
-        (λ test x size. are.unseen x size (plain header.tag.constructed test)) refl refl,
-  )
-    where
-      plain : (constructed : Bool) → (constructed && true) ≡ false → constructed ≡ false
-      plain true test = absurd (cc test)
-      plain false test = refl
-  inside_alike (g, p, contents.Inside u, n) a b holds are is =
-      (refl, rows_alike (g, p, contents.Inside u, n) a b u are.definite refl refl refl (are.inner u loose is))
-  inside_alike (g, p, contents.Whole u, n) a b holds are is = (
-    refl,
-    by_test (is_followed most depth u b) (goes_alike false small most depth (components u) a b (are.inner u false is))
-        refl,
-  )
-    where
-      by_test : (test : Bool) → is_followed most depth u a ≡ is_followed most depth u b
-          → is_followed most depth u b ≡ test → AlikeAs (g, p, contents.Whole u, n) a b
-      by_test true one two =
-          rows_alike (g, p, contents.Whole u, n) a b u are.definite refl (rw (one, two) refl) (rw two refl)
-          (are.inner u false is)
-      by_test false one two = λ head others follows s t.
-          closed_alike head (g, p, contents.Whole u, n) others follows a b s t (rw (one, two) refl) (rw two refl)
-          (whole_len small header u a) (whole_len small header u b) are.len
-  inside_alike (g, p, k, n) a b holds are is = absurd (cc is)
-
   pub content_alike : (c : Component) (a b : List ℕ) (holds : Structure → Bool)
       → AreInside small most depth holds header a b → inside_content holds c.2 ≡ true → SameContent c a b
-  content_alike c a b holds are is =
-      let both = inside_alike c a b holds are is in
-      record {
-        admitted = both.0;
-        others = unseen_same header c a b (inside_len false holds header c.2 a is (λ e. refl))
-            (inside_len false holds header c.2 b is (λ e. refl));
-        alike = both.1;
-      }
+  unfolding admits
+  content_alike c a b holds are is = record {
+    admitted = admitted c.2 is;
+    others = unseen_same header c a b (inside_len false holds header c.2 a is (λ e. refl))
+        (inside_len false holds header c.2 b is (λ e. refl));
+    alike = by_opened (opened c b) refl;
+  }
+    where
+      admitted : (k : Content) → inside_content holds k ≡ true → admits header k a ≡ admits header k b
+      admitted contents.Hidden is' = refl
+      admitted contents.Free is' = refl
+      admitted (contents.Inside s) is' = refl
+      admitted (contents.Whole s) is' = refl
+      admitted k is' = absurd (cc is')
+
+      same : opened c a ≡ opened c b
+      same = opened_same (λ v x. is_followed most depth v x) loose header c.2 b a
+          (λ s e. goes_alike false small most depth (components s) a b
+          (are.inner s false (rw e at is))) (λ s e. absurd (cc (rw e at is)))
+
+      by_opened : (o : Option Structure) → opened c b ≡ o → AlikeAs c a b
+      by_opened None at = λ head others follows s t. closed_alike head c others follows a b s t (same ∙ at) at
+          (shut_alike loose small most depth header holds a b are c.2 a is at refl)
+          (shut_alike loose small most depth header holds a b are c.2 b is at (sym are.len)) are.len
+      by_opened (Some u) at =
+          let both = opened_alike loose small most depth header holds a b are c.2 u is at in
+          rows_alike c a b u are.definite both.1 (same ∙ at) at (both.0 (inside_loose c.2 loose))
 
   -- one content alone
   pub same_content : (c : Component) (a : List ℕ) → is_none header.content_len ≡ false → SameContent c a a
@@ -252,16 +249,13 @@ rest_is : (loose : Bool) (most depth : ℕ) (step : Step) → is_none step.heade
     → rest_after loose most depth step ≡ (if is_some (rest_after loose most depth step) then Some step.rest else None)
 rest_is loose most depth step definite = by_opened (opened_of loose most depth step) refl
   where
-    by_rest : (o : Option (List ℕ)) → after_inside false step.rest o
-        ≡ (if is_some (after_inside false step.rest o) then Some step.rest else None)
-    by_rest None = refl
-    by_rest (Some rest) = refl
-
     by_opened : (o : Option Structure) → opened_of loose most depth step ≡ o
         → rest_after loose most depth step
         ≡ (if is_some (rest_after loose most depth step) then Some step.rest else None)
     by_opened None is = rw is refl
-    by_opened (Some u) is = rw (is, definite) (by_rest _)
+    by_opened (Some u) is = rw (is, definite) (elim (rest_of (inside_loose step.component.2 loose) most depth false
+        (components u) (inside_bytes step)) as (λ o. after_inside false step.rest o
+        ≡ (if is_some (after_inside false step.rest o) then Some step.rest else None)) [ None ↦ refl | Some r ↦ refl ])
 
 pub steps_masked : (loose small : Bool) (most depth : ℕ) (some : List Component) (bytes other : List ℕ) (p q : Step)
     → nat_lt depth 64 ≡ true → end_at loose false some bytes ≡ None → end_at loose false some other ≡ None
@@ -272,18 +266,10 @@ pub steps_masked : (loose small : Bool) (most depth : ℕ) (some : List Componen
     → masked loose small (suc most) depth false some bytes ≡ masked loose small (suc most) depth false some other
 unfolding step_at
 steps_masked loose small most depth some bytes other p q few e f one two heads d1 d2 alike size same =
-    rw (
-      e,
-      f,
-      few,
-      one,
-      two,
-      alike.mask,
-      rest_is loose most (depth + 1) p d1,
-      rest_is loose most (depth + 1) q d2,
-      alike.goes,
-      heads,
-    ) (ap (λ (x : List ℕ). q.head ++ (step_mask loose small most (depth + 1) q ++ x))
+    let p_rest = rest_is loose most (depth + 1) p d1 in
+    let q_rest = rest_is loose most (depth + 1) q d2 in
+    rw (e, f, few, one, two, alike.mask, p_rest, q_rest, alike.goes, heads)
+    (ap (λ (x : List ℕ). q.head ++ (step_mask loose small most (depth + 1) q ++ x))
     (by_test (is_some (rest_after loose most (depth + 1) q))))
   where
     next : Step → Bool → List ℕ

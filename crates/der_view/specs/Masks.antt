@@ -1,6 +1,5 @@
 -- Bytes in which each that isn't shown is 0, and each that isn't drawn FF.
-use Rattle.std.specs.Prelude.{◌≡◌, ◌+◌, ℕ, zero, suc, Bool, false, true, List, [], ◌∷◌, ◌++◌}
-use Rattle.std.specs.Prelude.{length}
+use Rattle.std.specs.Prelude.{◌≡◌, ◌+◌, ℕ, zero, suc, Bool, false, true, List, [], ◌∷◌, ◌++◌, length}
 use Rattle.std.specs.Prelude.{take, drop, replicate, Option, Some, None}
 use Rattle.der_view.specs.Contents.{shown_len}
 use Rattle.der_view.specs.Grammar.{Component, Form, components}
