@@ -118,20 +118,15 @@ len_again small header k x = rw masked_len (cond_both (is_whole header x) (shown
 pub content_shown : (small : Bool) (header : Header) (k : Content) (x : List ℕ)
     → IsMasked small header k x (masked_content (shown_len small header k x) x)
 content_shown small header k x =
-    let n : ℕ = shown_len small header k x in
-    record {
-      len = masked_len n x;
-      shown = ap (λ (j : ℕ). take j (masked_content n x)) (len_again small header k x) ∙ take_masked n x;
-    }
+    let m : List ℕ = masked_content (shown_len small header k x) x in
+    record { len = masked_len _ x; shown = ap (λ (n : ℕ). take n m) (len_again small header k x) ∙ take_masked _ x }
 
 -- of an element with a component the same is shown anywhere
 pub surely_shown : (small : Bool) (header : Header) (k : Content) (x : List ℕ)
     → take (shown_len false header k (masked_content (shown_len small header k x) x))
     (masked_content (shown_len small header k x) x) ≡ take (shown_len false header k x) x
 unfolding shown_len shown_in is_shown
-surely_shown small header contents.Free x =
-    let m : List ℕ = masked_content (shown_len small header contents.Free x) x in
-    rw (none_shown (is_whole header m), none_shown (is_whole header x)) refl
+surely_shown small header contents.Free x = rw (none_shown, none_shown) refl
 surely_shown small header k x = (content_shown small header k x).shown
 
 -- ---- what is inside an element
@@ -153,12 +148,10 @@ pub record MasksRest (loose small : Bool) (most depth : ℕ) (marked : Bool) (so
     : Type 0 where
   pub len : length (masked loose small most depth marked some bytes) + left (rest_of loose most depth marked some bytes)
       ≡ length bytes
-  pub same :
-      (r : List ℕ) → length r ≡ left (rest_of loose most depth marked some bytes)
+  pub same : (r : List ℕ) → length r ≡ left (rest_of loose most depth marked some bytes)
       → rest_of loose most depth marked some (masked loose small most depth marked some bytes ++ r)
       ≡ again r (rest_of loose most depth marked some bytes)
-  pub rows :
-      (r : List ℕ) → length r ≡ left (rest_of loose most depth marked some bytes) → (place : Place)
+  pub rows : (r : List ℕ) → length r ≡ left (rest_of loose most depth marked some bytes) → (place : Place)
       → rows_of (hidden loose small) most marked (record place { depth = depth }) some
       (masked loose small most depth marked some bytes ++ r)
       ≡ rows_of (hidden loose small) most marked (record place { depth = depth }) some bytes
@@ -353,32 +346,26 @@ pub undrawn_at : (loose : Bool) (depth : ℕ) (some : List Component) (x : List 
 unfolding step_at
 undrawn_at loose depth some x = no_choice (nat_lt depth 64) _ (undrawn_no_step loose loose some x)
 
-zeros_at : (depth : ℕ) (some : List Component) (x : List ℕ) → step_at false depth some (zeros x) ≡ None
-unfolding step_at
-zeros_at depth some x = no_choice (nat_lt depth 64) _ (zeros_no_step false false some x)
-
-zeros_end : (some : List Component) (a : ℕ) (x : List ℕ) → end_at false false some (zeros (a ∷ x)) ≡ None
-unfolding end_at
-zeros_end some a [] = refl
-zeros_end some a (b ∷ x) = refl
-
 -- zeros don't follow where other bytes don't
-zeros_never : (most depth : ℕ) (s : Structure) (a : ℕ) (x : List ℕ)
-    → is_followed most depth s (zeros (a ∷ x)) ≡ false
-zeros_never most depth s a x =
-    ap (λ (o : Option (List ℕ)). is_some o) (rest_stop false most depth false (components s)
-    (zeros (a ∷ x)) (zeros_end (components s) a x) (zeros_at depth (components s) (a ∷ x)))
+zeros_never : (most depth : ℕ) (s : Structure) (x : List ℕ) → end_at false false (components s) (zeros x) ≡ None
+    → is_followed most depth s (zeros x) ≡ false
+unfolding step_at
+zeros_never most depth s x end = ap (λ (o : Option (List ℕ)). is_some o) (rest_stop false most depth false
+    (components s) (zeros x) end (no_choice (nat_lt depth 64) _ (zeros_no_step false false (components s) x)))
 
 pub zeros_followed : (most depth : ℕ) (s : Structure) (x : List ℕ) → is_followed most depth s x ≡ false
     → is_followed most depth s (zeros x) ≡ false
+unfolding end_at
 zeros_followed most depth s [] is = is
-zeros_followed most depth s (a ∷ x) is = zeros_never most depth s a x
+zeros_followed most depth s (a ∷ []) is = zeros_never most depth s (a ∷ []) refl
+zeros_followed most depth s (a ∷ b ∷ x) is = zeros_never most depth s (a ∷ b ∷ x) refl
 
 pub zeros_bits : (most depth : ℕ) (s : Structure) (x : List ℕ)
     → are_bits (λ u y. is_followed most depth u y) s (zeros x) ≡ false
-zeros_bits most depth s [] = refl
-zeros_bits most depth s (a ∷ []) = refl
-zeros_bits most depth s (a ∷ b ∷ x) = zeros_never most depth s b x
+unfolding end_at
+zeros_bits most depth s (a ∷ b ∷ []) = zeros_never most depth s (b ∷ []) refl
+zeros_bits most depth s (a ∷ b ∷ c ∷ x) = zeros_never most depth s (b ∷ c ∷ x) refl
+zeros_bits most depth s x = refl
 
 -- a number of unused bits before others
 pub bits_same : (x r : List ℕ) → length r ≡ length (drop 1 x) → has_bits (take 1 x ++ r) ≡ has_bits x

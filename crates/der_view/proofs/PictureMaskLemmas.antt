@@ -118,21 +118,21 @@ rows_alike loose small public root a b =
     alike (λ x. rows_as (hidden loose small) root public x) loose small root a b
     (λ x. rows_of_mask loose small root x public)
 
--- of bytes as a form
-record SameAs (root : Component) (a b : List ℕ) : Type 0 where
-  rows : rows_as strictly root false a ≡ rows_as strictly root false b
-  whole : whole_as false root a ≡ whole_as false root b
+-- bytes as a form
+same_as : (root : Component) (a b : List ℕ) → mask_as false false root a ≡ mask_as false false root b
+    → (rows_as strictly root false a ≡ rows_as strictly root false b) × (whole_as false root a ≡ whole_as false root b)
+same_as root a b same = (
+  rows_alike false false false root a b same,
+  alike (λ x. whole_as false root x) false false root a b (whole_of_mask false false root) same,
+)
 
-same_as : (root : Component) (a b : List ℕ) → mask_as false false root a ≡ mask_as false false root b → SameAs root a b
-same_as root a b same = record {
-  rows = rows_alike false false false root a b same;
-  whole = alike (λ x. whole_as false root x) false false root a b (whole_of_mask false false root) same;
-}
-
-better_alike : (a b : List ℕ) (first second : Form) → SameAs first.0 a b → SameAs second.0 a b
-    → better a first second ≡ better b first second
+better_alike : (a b : List ℕ) (first second : Form) → mask_as false false first.0 a ≡ mask_as false false first.0 b
+    → mask_as false false second.0 a ≡ mask_as false false second.0 b → better a first second ≡ better b first second
 unfolding better left_as
-better_alike a b first second one two = rw (one.rows, two.rows, one.whole, two.whole) refl
+better_alike a b first second one two =
+    let same = same_as first.0 a b one in
+    let other = same_as second.0 a b two in
+    rw (same.0, other.0, same.1, other.1) refl
 
 -- the form that is chosen is the same, and of this the masks are
 best_alike : (a b : List ℕ) (first : Form) (others : List Form)
@@ -142,14 +142,9 @@ best_alike : (a b : List ℕ) (first : Form) (others : List Form)
 unfolding best better
 best_alike a b first [] one same = (refl, one)
 best_alike a b first (second ∷ others) one (two, same) =
-    let chosen : mask_as false false (better b first second).0 a ≡ mask_as false false (better b first second).0 b =
-    cond_both _ second first (λ form. mask_as false false form.0 a ≡ mask_as false false form.0 b) (λ _. two)
-    (λ _. one) in
-    let next = best_alike a b (better b first second) others chosen same in (
-      ap (λ (form : Form). best a form others) (better_alike a b first second (same_as first.0 a b one)
-          (same_as second.0 a b two)) ∙ next.0,
-      next.1,
-    )
+    let next = best_alike a b (better b first second) others (cond_both _ second first
+    (λ form. mask_as false false form.0 a ≡ mask_as false false form.0 b) (λ _. two) (λ _. one)) same in
+    (ap (λ (form : Form). best a form others) (better_alike a b first second one two) ∙ next.0, next.1)
 
 len_alike : (a b : List ℕ) → AreAlike a b → length a ≡ length b
 len_alike a b same =
@@ -162,7 +157,7 @@ plan_as_alike form a b same one =
     let known = same_as form.0 a b one in
     let tree = same_as elements.ELEMENT a b same.elements in
     let cut = alike (λ x. is_cut x) false false elements.ELEMENT a b cut_of_mask same.elements in
-    rw (known.rows, known.whole, tree.rows, tree.whole, cut, len_alike a b same) refl
+    rw (known.0, known.1, tree.0, tree.1, cut, len_alike a b same) refl
 
 pub plan_alike : (a b : List ℕ) → AreAlike a b → plan_of a ≡ plan_of b
 unfolding plan_of nearest

@@ -162,111 +162,103 @@ pub mask_stop : (loose small : Bool) (most depth : ℕ) (marked : Bool) (some : 
     × (rest_of loose (suc most) depth marked some bytes ≡ None)
 mask_stop loose small most depth marked some bytes is at = (rw (is, at) refl, rw (is, at) refl)
 
-module _ (loose small : Bool) (most depth : ℕ) (marked : Bool) (some : List Component) (bytes : List ℕ)
+module _ (loose small : Bool) (most : ℕ) (marked : Bool) (place : Place) (some : List Component) (bytes : List ℕ)
     (inner : Inner small most) where
   -- as many other bytes, with these after the level, and these rows
-  record Has (other : List ℕ) (rest_is : Option (List ℕ)) (rows_are : Place → List Row) : Type 0 where
+  record Has (other : List ℕ) (rest_is : Option (List ℕ)) (rows_are : List Row) : Type 0 where
     len : length other ≡ length bytes
-    rest : rest_of loose (suc most) depth marked some other ≡ rest_is
-    rows : (place : Place) → rows_of (hidden loose small) (suc most) marked (record place { depth = depth }) some other
-        ≡ rows_are place
+    rest : rest_of loose (suc most) place.depth marked some other ≡ rest_is
+    rows : rows_of (hidden loose small) (suc most) marked place some other ≡ rows_are
 
   abbrev rest_next_of : Step → Option (List ℕ) → Option (List ℕ)
-  rest_next_of step o = rest_next (λ rest. rest_of loose most depth marked step.others rest) o
+  rest_next_of step o = rest_next (λ rest. rest_of loose most place.depth marked step.others rest) o
 
-  abbrev rows_after : List ℕ → Step → Option (List ℕ) → Place → List Row
-  rows_after x step o place =
+  abbrev rows_next_of : List ℕ → Step → Option (List ℕ) → List Row
+  rows_next_of x step o =
       next_rows (λ rest. rows_of (hidden loose small) most marked (after place x rest) step.others rest) o
-
-  abbrev rows_next_of : Step → Option (List ℕ) → Place → List Row
-  rows_next_of step o place =
-      step_rows (hidden loose small) most (record place { depth = depth }) some step
-      ++ rows_after bytes step o (record place { depth = depth })
 
   -- an element and any bytes after it
   step_has : (step : Step) (t : List ℕ) → end_at loose marked some bytes ≡ None
-      → step_at loose depth some bytes ≡ Some step → length t ≡ tail_len step (rest_after loose most (depth + 1) step)
-      → Has (next_bytes loose small most (depth + 1) step t)
-      (rest_next_of step (again t (rest_after loose most (depth + 1) step)))
-      (rows_next_of step (again t (rest_after loose most (depth + 1) step)))
+      → step_at loose place.depth some bytes ≡ Some step
+      → length t ≡ tail_len step (rest_after loose most (place.depth + 1) step)
+      → Has (next_bytes loose small most (place.depth + 1) step t)
+      (rest_next_of step (again t (rest_after loose most (place.depth + 1) step)))
+      (step_rows (hidden loose small) most place some step
+      ++ rows_next_of bytes step (again t (rest_after loose most (place.depth + 1) step)))
   unfolding step_at
   step_has step t is at size =
-      let (few, found) = some_if (nat_lt depth 64) (step_by loose loose some bytes) step at in
+      let depth : ℕ = place.depth + 1 in
+      let (few, found) = some_if (nat_lt place.depth 64) (step_by loose loose some bytes) step at in
       let begins = step_found loose loose some bytes step found in
-      let b = begins_masked loose loose loose small most (depth + 1) some bytes step t begins inner size in
-      let other : List ℕ = next_bytes loose small most (depth + 1) step t in
-      let next : Step = next_step loose small most (depth + 1) step t in
+      let b = begins_masked loose loose loose small most depth some bytes step t begins inner size in
+      let other : List ℕ = next_bytes loose small most depth step t in
+      let next : Step = next_step loose small most depth step t in
       let end : end_at loose marked some other ≡ None = b.end loose marked ∙ is in
-      let next_is : step_at loose depth some other ≡ Some next = rw few b.is in
+      let next_is : step_at loose place.depth some other ≡ Some next = rw few b.is in
       let others : next.others ≡ step.others = ap (λ (x : Step). x.others) b.masks.like in
+      let own = element_same loose small most place some step t inner begins.element.last size b.masks in
       record {
         len = b.len;
         rest = rw (end, next_is, b.masks.after, others) refl;
-        rows = λ place.
-            let at_depth : Place = record place { depth = depth } in
-            row_step (hidden loose small) most marked at_depth some other next end next_is ∙ (ap (λ (rows : List Row).
-            rows ++ rows_after other next (rest_after loose most (depth + 1) next) at_depth)
-            (element_same loose small most at_depth some step t inner begins.element.last size b.masks)
+        rows = row_step (hidden loose small) most marked place some other next end next_is
+            ∙ (ap (λ (rows : List Row). rows ++ rows_next_of other next (rest_after loose most depth next)) own
             ∙ rw (b.masks.after, others, b.len) refl);
       }
 
   -- an element, and what comes after it of the level
   next_has : (step : Step) (r : List ℕ) (o : Option (List ℕ)) → end_at loose marked some bytes ≡ None
-      → step_at loose depth some bytes ≡ Some step → rest_after loose most (depth + 1) step ≡ o
+      → step_at loose place.depth some bytes ≡ Some step → rest_after loose most (place.depth + 1) step ≡ o
       → length r ≡ left (rest_next_of step o)
-      → Has (next_bytes loose small most (depth + 1) step
-      (next_mask step.rest (λ rest. masked loose small most depth marked step.others rest) o ++ r))
-      (again r (rest_next_of step o)) (rows_next_of step o)
+      → Has (next_bytes loose small most (place.depth + 1) step
+      (next_mask step.rest (λ rest. masked loose small most place.depth marked step.others rest) o ++ r))
+      (again r (rest_next_of step o)) (step_rows (hidden loose small) most place some step ++ rows_next_of bytes step o)
   next_has step r None is at e size =
       let join = length-append (undrawn step.rest) r in
       let len : length (undrawn step.rest ++ r) ≡ length step.rest = omega (arith, undrawn_len step.rest, size) in
       rw e at (step_has step (undrawn step.rest ++ r) is at (rw e len))
   next_has step r (Some rest) is at e size =
-      let known = inner loose marked depth step.others rest in
-      let t : List ℕ = masked loose small most depth marked step.others rest ++ r in
-      let join = length-append (masked loose small most depth marked step.others rest) r in
+      let known = inner loose marked place.depth step.others rest in
+      let t : List ℕ = masked loose small most place.depth marked step.others rest ++ r in
+      let join = length-append (masked loose small most place.depth marked step.others rest) r in
       let len : length t ≡ length rest = omega (arith, known.len, size) in
       let has = rw e at (step_has step t is at (rw e len)) in
+      let rows = known.rows r size (after place bytes rest) in
       record {
         len = has.len;
         rest = has.rest ∙ known.same r size;
-        rows = λ place.
-            let at_depth : Place = record place { depth = depth } in
-            has.rows place ∙ rw len (ap (λ (rows : List Row). step_rows (hidden loose small) most at_depth some step
-            ++ rows) (known.rows r size (after at_depth bytes rest)));
+        rows = has.rows ∙ rw len (ap (λ (x : List Row). step_rows (hidden loose small) most place some step ++ x) rows);
       }
 
-  level_has : (o : Option ℕ) (q : Option Step) → end_at loose marked some bytes ≡ o → step_at loose depth some bytes ≡ q
-      → (r : List ℕ) → length r ≡ left (rest_of loose (suc most) depth marked some bytes)
-      → Has (masked loose small (suc most) depth marked some bytes ++ r)
-      (again r (rest_of loose (suc most) depth marked some bytes))
-      (λ place. rows_of (hidden loose small) (suc most) marked (record place { depth = depth }) some bytes)
+  level_has : (o : Option ℕ) (q : Option Step) → end_at loose marked some bytes ≡ o
+      → step_at loose place.depth some bytes ≡ q
+      → (r : List ℕ) → length r ≡ left (rest_of loose (suc most) place.depth marked some bytes)
+      → Has (masked loose small (suc most) place.depth marked some bytes ++ r)
+      (again r (rest_of loose (suc most) place.depth marked some bytes))
+      (rows_of (hidden loose small) (suc most) marked place some bytes)
   level_has (Some n) q is at r size =
       let ends = end_again loose marked some bytes r n is (rw is at size) in
-      rw is (record { len = ends.len; rest = rw (ends.is, ends.rest) refl; rows = λ place. rw ends.is refl })
+      rw is (record { len = ends.len; rest = rw (ends.is, ends.rest) refl; rows = rw ends.is refl })
   level_has None None is at r size =
       let end = undrawn_end loose marked some bytes is in
-      let stop = undrawn_at loose depth some bytes in
+      let stop = undrawn_at loose place.depth some bytes in
       rw (is, at, no_bytes r (rw (is, at) at size), append-nil (undrawn bytes))
-      (record { len = undrawn_len bytes; rest = rw (end, stop) refl; rows = λ place. rw (end, stop) refl })
+      (record { len = undrawn_len bytes; rest = rw (end, stop) refl; rows = rw (end, stop) refl })
   level_has None (Some step) is at r size =
       rw (is, at, append_assoc, append_assoc)
-      (next_has step r (rest_after loose most (depth + 1) step) is at refl (rw (is, at) at size))
-
-  masks_next : MasksRest loose small (suc most) depth marked some bytes
-  masks_next =
-      let has = level_has (end_at loose marked some bytes) (step_at loose depth some bytes) refl refl in
-      let m : List ℕ = masked loose small (suc most) depth marked some bytes in
-      let r : List ℕ = replicate (left (rest_of loose (suc most) depth marked some bytes)) 0 in
-      let count : length r ≡ left (rest_of loose (suc most) depth marked some bytes) = length-replicate _ _ in
-      record {
-        len = omega (arith, length-append m r, count, (has r count).len);
-        same = λ x size. (has x size).rest;
-        rows = λ x size place. (has x size).rows place;
-      }
+      (next_has step r (rest_after loose most (place.depth + 1) step) is at refl (rw (is, at) at size))
 
 pub masks_rest : (small : Bool) (most : ℕ) → Inner small most
 masks_rest small zero loose marked depth some bytes =
     record { len = omega (arith, undrawn_len bytes); same = λ r size. refl; rows = λ r size place. refl }
 masks_rest small (suc most) loose marked depth some bytes =
-    masks_next loose small most depth marked some bytes (masks_rest small most)
+    let has = λ (place : Place). level_has loose small most marked (record place { depth = depth }) some bytes
+    (masks_rest small most) (end_at loose marked some bytes) (step_at loose depth some bytes) refl refl in
+    let any : Place = record { offset = 0; depth = depth; end = 0; is_public = false } in
+    let m : List ℕ = masked loose small (suc most) depth marked some bytes in
+    let r : List ℕ = replicate (left (rest_of loose (suc most) depth marked some bytes)) 0 in
+    let count : length r ≡ left (rest_of loose (suc most) depth marked some bytes) = length-replicate _ _ in
+    record {
+      len = omega (arith, length-append m r, count, (has any r count).len);
+      same = λ x size. (has any x size).rest;
+      rows = λ x size place. (has place x size).rows;
+    }

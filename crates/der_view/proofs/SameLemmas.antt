@@ -1,6 +1,6 @@
 -- Masks of elements with contents that differ.
-use Rattle.std.proofs.Common.{◌≡◌, ◌&&◌, ◌||◌, ℕ, suc, ◌+◌, Bool, true, false, List, [], ◌++◌, length, take, refl, sym, ap}
-use Rattle.std.proofs.Common.{◌∙◌, Option, Some, None, append-nil, arith}
+use Rattle.std.proofs.Common.{◌≡◌, ◌&&◌, ◌||◌, ℕ, suc, ◌+◌, Bool, true, false, List, [], ◌++◌, length, take, refl, sym}
+use Rattle.std.proofs.Common.{ap, ◌∙◌, Option, Some, None, append-nil, arith}
 use Rattle.std.proofs.lemmas.Bool.{and_parts}
 use Rattle.std.specs.Option.{is_some}
 use Rattle.std.specs.Prelude.{if◌then◌else◌, is_none, nat_lt}
@@ -49,21 +49,17 @@ pub record AreInside (small : Bool) (most depth : ℕ) (holds : Structure → Bo
     : Type 0 where
   pub definite : is_none header.content_len ≡ false
   pub len : length a ≡ length b
-  pub inner :
-      (s : Structure) (loose : Bool) → holds s ≡ true
+  pub inner : (s : Structure) (loose : Bool) → holds s ≡ true
       → masked loose small most depth false (components s) a ≡ masked loose small most depth false (components s) b
-  pub anything :
-      (loose : Bool) → header.tag.constructed ≡ true
+  pub anything : (loose : Bool) → header.tag.constructed ≡ true
       → masked loose small most depth false any a ≡ masked loose small most depth false any b
-  pub unseen :
-      (x : List ℕ) → length x ≡ length a → header.tag.constructed ≡ false
+  pub unseen : (x : List ℕ) → length x ≡ length a → header.tag.constructed ≡ false
       → shown_len small header contents.Free x ≡ 0
 
 pub unseen_len : (small : Bool) (header : Header) (x : List ℕ) → is_small header.tag x ≡ false
     → shown_len small header contents.Free x ≡ 0
 unfolding shown_len shown_in is_shown
-unseen_len true header x none = rw none (none_shown (is_whole header x))
-unseen_len false header x none = none_shown (is_whole header x)
+unseen_len small header x none = grind arith
 
 -- of such contents nothing is shown
 inside_len : (small : Bool) (holds : Structure → Bool) (header : Header) (k : Content) (x : List ℕ)
