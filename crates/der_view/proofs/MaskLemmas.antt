@@ -199,13 +199,6 @@ elements_rows header k test s is =
       free = λ e c x y. plain_admits header plain c x y;
     }
 
-definite : (o : Option ℕ) (test : Bool)
-    → ◌≡◌ {A = Option Structure} (if is_none o || test then Some structures.Any else None) None → is_none o ≡ false
-definite o test is = grind arith
-
-primitive : (constructed : Bool) (o : Option ℕ) → (not constructed && is_some o) ≡ true → is_none o ≡ false
-primitive constructed o is = grind arith
-
 module _ (whole : Structure → List ℕ → Bool) (loose : Bool) (header : Header) where
   pub opened_rows : (k : Content) (x : List ℕ) (s : Structure) → opened_in whole loose header k x ≡ Some s
       → IsRows header k
@@ -233,9 +226,9 @@ module _ (whole : Structure → List ℕ → Bool) (loose : Bool) (header : Head
       → is_none header.content_len ≡ false
   unfolding opened_in admits
   closed_content (contents.Inside t) x is fits = absurd (cc is)
-  closed_content (contents.Whole t) x is fits = primitive _ header.content_len fits
-  closed_content (contents.Bits t) x is fits = primitive _ header.content_len fits
-  closed_content k x is fits = definite header.content_len _ is
+  closed_content (contents.Whole t) x is fits = grind arith
+  closed_content (contents.Bits t) x is fits = grind arith
+  closed_content k x is fits = grind arith
 
   -- the bytes before the elements of a content are there
   pub front_within : (k : Content) (x : List ℕ) (s : Structure) → opened_in whole loose header k x ≡ Some s
@@ -249,8 +242,7 @@ module _ (whole : Structure → List ℕ → Bool) (loose : Bool) (header : Head
 pub front_open : (header : Header) (k : Content) (x : List ℕ) → admits header k x ≡ true
     → is_none header.content_len ≡ true → front_len k ≡ 0
 unfolding admits
-front_open header (contents.Bits t) x fits is =
-    absurd (cc (sym is ∙ primitive header.tag.constructed header.content_len fits))
+front_open header (contents.Bits t) x fits is = grind arith
 front_open header k x fits is = refl
 
 -- a content whose mask has zeros is taken for the same component: no identifier begins with 0
@@ -261,19 +253,14 @@ zeros_other family [] = refl
 zeros_other families.EcPublicKey (a ∷ x) = and_right _ false refl
 zeros_other family (a ∷ x) = and_right _ false refl
 
--- an identifier is shown
-family_shown : (small : Bool) (header : Header) (family : Family) (x : List ℕ)
-    → is_whole header x ≡ true → masked_content (shown_len small header (contents.Of family) x) x ≡ x
-unfolding shown_len shown_in is_shown
-family_shown small header family x is = rw is (all_masked x)
-
 pub kept_fits : (small : Bool) (header : Header) (k : Content) (x : List ℕ) → admits header k x ≡ true
     → admits header k (masked_content (shown_len small header k x) x) ≡ true
-unfolding admits
+unfolding admits shown_len shown_in is_shown
 kept_fits small header (contents.Short most) x is = rw masked_len is
 kept_fits small header contents.Version x is = rw masked_len is
 kept_fits small header (contents.Of family) x is =
-    rw (family_shown small header family x (and_parts (is_whole header x) (is_of (identifiers family) x) is).0) is
+    let whole = (and_parts (is_whole header x) (is_of (identifiers family) x) is).0 in
+    rw (whole, all_masked x) is
 kept_fits small header k x is = is
 
 zeros_misfit : (header : Header) (k : Content) (x : List ℕ) → admits header k x ≡ false
@@ -288,12 +275,11 @@ zeros_misfit header k x is = is
 pub kept_misfits : (small : Bool) (header : Header) (k : Content) (x : List ℕ) → admits header k x ≡ false
     → admits header k (masked_content (shown_len small header contents.Free x) x) ≡ false
 unfolding shown_len shown_in
-kept_misfits small header k x is = cond_both (is_whole header x) _ 0 Misfits
-    (λ _. cond_both (is_shown small header.tag contents.Free x) (length x) 0 Misfits (λ _. rw all_masked is)
-    (λ _. zeros_misfit header k x is)) (λ _. zeros_misfit header k x is)
-  where
-    Misfits : ℕ → Type 0
-    Misfits n = admits header k (masked_content n x) ≡ false
+kept_misfits small header k x is =
+    let Misfits = λ (n : ℕ). admits header k (masked_content n x) ≡ false in
+    let none : Misfits 0 = zeros_misfit header k x is in
+    cond_both (is_whole header x) _ 0 Misfits (λ _. cond_both (is_shown small header.tag contents.Free x) (length x) 0
+    Misfits (λ _. rw all_masked is) (λ _. none)) (λ _. none)
 
 -- ---- the bytes after a level
 

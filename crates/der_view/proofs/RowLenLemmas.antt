@@ -25,9 +25,11 @@ abbrev Span : ℕ → List Row → ℕ → Type 0
 Span from [] to = from ≡ to
 Span from (row ∷ rows) to = (offset_of row ≡ from) × Span (from + row_len row) rows to
 
-joined : (a b c : ℕ) (first second : List Row) → Span a first b → Span b second c → Span a (first ++ second) c
-joined a b c [] second one two = rw one two
-joined a b c (row ∷ first) second (here, one) two = (here, joined (a + row_len row) b c first second one two)
+joined : (a b c d : ℕ) (first second : List Row) → Span a first b → b ≡ c → Span c second d
+    → Span a (first ++ second) d
+joined a b c d [] second one same two = rw (one, same) two
+joined a b c d (row ∷ first) second (here, one) same two =
+    (here, joined (a + row_len row) b c d first second one same two)
 
 all_of : (a b : ℕ) (rows : List Row) → Span a rows b → (a + rows_len rows ≡ b) × AreAt a rows
 all_of a b [] is = (omega (arith, is), tt)
@@ -35,23 +37,10 @@ all_of a b (row ∷ rows) (here, is) =
     let known = all_of (a + row_len row) b rows is in
     (omega (arith, known.0), (here, known.1))
 
-moved : (a b c d : ℕ) (rows : List Row) → Span a rows b → a ≡ c → b ≡ d → Span c rows d
-moved a b c d rows is from to = rw (← from, ← to) is
-
--- bytes that are left, of those up to a limit
-abbrev IsLeft : ℕ → ℕ → Option (List ℕ) → Type 0
-IsLeft from limit None = Unit {0}
-IsLeft from limit (Some rest) = from + length rest ≤ limit
-
--- where the rows end: where these begin, or at the end of all
-abbrev stop : ℕ → ℕ → Option (List ℕ) → ℕ
-stop end limit None = end
-stop end limit (Some rest) = limit - length rest
-
--- the rows of bytes up to a limit, of which these are left
-record AreRows (place : Place) (limit : ℕ) (rest : Option (List ℕ)) (rows : List Row) : Type 0 where
-  left : IsLeft place.offset limit rest
-  span : Span place.offset rows (stop place.end limit rest)
+-- the rows of bytes up to a limit: those before the bytes that are left, or all up to the end
+abbrev AreRows : Place → ℕ → Option (List ℕ) → List Row → Type 0
+AreRows place limit None rows = Span place.offset rows place.end
+AreRows place limit (Some rest) rows = (to : ℕ) × Span place.offset rows to × (to + length rest ≡ limit)
 
 -- the rows of levels of so many elements
 abbrev Inner : ℕ → Type 0
@@ -84,15 +73,15 @@ module _ (how : How) (most : ℕ) (place : Place) (limit : ℕ) (fits : limit �
         → AreRows (inside place step) (place.offset + step.header.len + length step.content) o rows
         → AreRows place limit (after_inside marked step.rest o) (row ∷ rows)
     around_it marked s None row rows here len e is known =
-        record { left = tt; span = (here, moved _ _ _ _ rows known.span (omega (arith, len)) refl) }
-    around_it true s (Some r) row rows here len e is known =
+        joined _ _ _ _ (row ∷ []) rows (here, refl) (omega (arith, len)) known
+    around_it true s (Some r) row rows here len e is (to, known, up) =
         let none = ap length (b.element.last (no_len step.header.content_len e)) in
-        let to = moved _ _ _ _ rows known.span (omega (arith, len)) (omega (arith, none, b.element.len, at)) in
-        record { left = omega (arith, known.left, b.element.len, at); span = (here, to) }
-    around_it false s (Some r) row rows here len e is known =
+        let span = joined _ _ _ _ (row ∷ []) rows (here, refl) (omega (arith, len)) known in
+        (to, span, omega (arith, up, none, b.element.len, at))
+    around_it false s (Some r) row rows here len e is (to, known, up) =
         let none = ap length (rest_closed _ most (place.depth + 1) (components s) (inside_bytes step) r is) in
-        let to = moved _ _ _ _ rows known.span (omega (arith, len)) (omega (arith, none, b.element.len, at)) in
-        record { left = omega (arith, b.element.len, at); span = (here, to) }
+        let span = joined _ _ _ _ (row ∷ []) rows (here, refl) (omega (arith, len)) known in
+        (to, span, omega (arith, up, none, b.element.len, at))
 
     element_rows : (o : Option Structure) (marked : Bool) → opened_of how.loose most (place.depth + 1) step ≡ o
         → is_open step ≡ marked
@@ -101,8 +90,7 @@ module _ (how : How) (most : ℕ) (place : Place) (limit : ℕ) (fits : limit �
         absurd (cc (sym e ∙ closed_content (λ s y. is_followed most (place.depth + 1) s y) how.loose step.header
         step.component.2 step.content none (taken_fits step (taken cut misfit others bytes step b))))
     element_rows None false none e =
-        let len = b.element.len in
-        rw (none, e) (record { left = omega (arith, len, at); span = (refl, omega (arith, len, at)) })
+        rw (none, e) (_, (refl, refl), omega (arith, b.element.len, at))
     element_rows (Some s) marked is e =
         let front = front_within (λ u y. is_followed most (place.depth + 1) u y) how.loose step.header step.component.2
         step.content s is in
@@ -116,16 +104,16 @@ module _ (how : How) (most : ℕ) (place : Place) (limit : ℕ) (fits : limit �
       → AreRows place limit o rows → place.offset + length bytes ≡ limit
       → AreRows place limit (rest_next (λ rest. rest_of how.loose most place.depth marked step.others rest) o)
       (rows ++ next_rows (λ rest. rows_of how most marked (after place bytes rest) step.others rest) o)
-  next_rows_of marked bytes step rows None own at = record { left = tt; span = rw append-nil own.span }
-  next_rows_of marked bytes step rows (Some rest) own at =
-      let offset : limit - length rest ≡ (after place bytes rest).offset = omega (arith, own.left, at) in
-      let known = inner how marked (after place bytes rest) step.others rest limit (omega (arith, own.left, at)) fits in
-      record {
-        left = elim (rest_of how.loose most place.depth marked step.others rest) as
-            (λ o. IsLeft (after place bytes rest).offset limit o → IsLeft place.offset limit o)
-            [ None ↦ λ _. tt | Some r ↦ λ few. omega (arith, few) ] known.left;
-        span = joined _ _ _ rows _ own.span (moved _ _ _ _ _ known.span (sym offset) refl);
-      }
+  next_rows_of marked bytes step rows None own at = rw append-nil own
+  next_rows_of marked bytes step rows (Some rest) (to, own, up) at =
+      let less = all_of place.offset to rows own in
+      let offset : to ≡ (after place bytes rest).offset = omega (arith, less.0, up, at) in
+      elim (rest_of how.loose most place.depth marked step.others rest) as (λ o. AreRows (after place bytes rest) limit o
+      (rows_of how most marked (after place bytes rest) step.others rest) → AreRows place limit o
+      (rows ++ rows_of how most marked (after place bytes rest) step.others rest)) [
+        | None ↦ λ known. joined _ _ _ _ rows _ own offset known
+        | Some r ↦ λ known. (known.0, joined _ _ _ _ rows _ own offset known.1, known.2)
+      ] (inner how marked (after place bytes rest) step.others rest limit (omega (arith, less.0, up, at)) fits)
 
   level_rows_of : (marked : Bool) (some : List Component) (bytes : List ℕ) → place.offset + length bytes ≡ limit
       → (o : Option ℕ) (q : Option Step) → end_at how.loose marked some bytes ≡ o
@@ -136,25 +124,25 @@ module _ (how : How) (most : ℕ) (place : Place) (limit : ℕ) (fits : limit �
   level_rows_of marked some bytes at (Some n) q is next =
       let (few, span) = end_span marked place some bytes n (end_found how.loose marked some bytes n is) in
       let len = length-drop n bytes in
-      rw is (record { left = omega (arith, len, at); span = moved _ _ _ _ _ span refl (omega (arith, len, at, few)) })
+      rw is (place.offset + n, span, omega (arith, len, at, few))
   level_rows_of marked some bytes at None None is next =
-      rw (is, next) (record { left = tt; span = (refl, omega arith) })
+      rw (is, next) (refl, omega arith)
   level_rows_of marked some bytes at None (Some step) is next =
       let b = step_found _ _ some bytes step (some_if (nat_lt place.depth 64) _ step next).1 in
       rw (is, next) (next_rows_of marked bytes step _ _ (element_rows some some _ _ bytes step b at _ _ refl refl) at)
 
 rows_of_len : (most : ℕ) → Inner most
-rows_of_len zero how marked place some bytes limit at fits = record { left = tt; span = (refl, omega arith) }
+rows_of_len zero how marked place some bytes limit at fits = (refl, omega arith)
 rows_of_len (suc most) how marked place some bytes limit at fits =
     level_rows_of how most place limit fits (rows_of_len most) marked some bytes at
     (end_at how.loose marked some bytes) (step_at how.loose place.depth some bytes) refl refl
 
 -- ---- whole inputs
 
-rest_span : (how : How) (place : Place) (rest : List ℕ)
-    → Span place.offset (rest_rows how place rest) (place.offset + length rest)
-rest_span how place [] = omega arith
-rest_span how place (byte ∷ rest) = (refl, refl)
+rest_span : (how : How) (place : Place) (rest : List ℕ) (to : ℕ) → place.offset + length rest ≡ to
+    → Span place.offset (rest_rows how place rest) to
+rest_span how place [] to is = omega (arith, is)
+rest_span how place (byte ∷ rest) to is = (refl, is)
 
 from_span : (how : How) (root : Component) (public : Bool) (bytes : List ℕ) (o : Option Step) → root_step root bytes ≡ o
     → Span 0 (rows_from how root (first_place public (length bytes)) (length bytes) o) (length bytes)
@@ -171,15 +159,15 @@ from_span how root public bytes (Some step) is =
     by_rest : (rows : List Row) (o : Option (List ℕ)) → AreRows place (length bytes) o rows
         → Span 0 (rows ++ next_rows (λ rest. rest_rows how (record place { offset = length bytes - length rest }) rest)
         o) (length bytes)
-    by_rest rows None own = rw append-nil own.span
-    by_rest rows (Some rest) own =
-        joined _ _ _ rows _ own.span (moved _ _ _ _ _ (rest_span how _ rest) refl (omega (arith, own.left)))
+    by_rest rows None own = rw append-nil own
+    by_rest rows (Some rest) (to, own, up) =
+        joined _ _ _ _ rows _ own (omega (arith, up)) (rest_span how _ rest _ (omega (arith, up)))
 
 span_of : (way : Way) (plan : Plan) (all : Bool) (bytes : List ℕ)
     → Span 0 (rows_by_way way plan all bytes) (length bytes)
 unfolding rows_as
 span_of ways.Nothing plan all bytes =
-    moved _ _ _ _ _ (rest_span (rules_by plan all bytes) (first_place false (length bytes)) bytes) refl (omega arith)
+    rest_span (rules_by plan all bytes) (first_place false (length bytes)) bytes _ (omega arith)
 span_of way plan all bytes =
     from_span (rules_by plan all bytes) (root_of plan.form) (is_public plan) bytes (root_step (root_of plan.form) bytes)
     refl

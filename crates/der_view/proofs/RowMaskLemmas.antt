@@ -1,44 +1,23 @@
 -- What is after a level, and its rows, are those of its mask.
-use Rattle.std.proofs.Common.{◌≡◌, ◌&&◌, ◌||◌, ◌==◌, not, ℕ, zero, suc, ◌+◌, ◌<◌, ◌≤◌, Bool, true, false, List, [], ◌∷◌}
-use Rattle.std.proofs.Common.{◌++◌, length, take, drop, refl, sym, ap, ◌∙◌, Option, Some, None, arith, append_assoc}
+use Rattle.std.proofs.Common.{◌≡◌, ℕ, zero, suc, ◌+◌, ◌<◌, ◌≤◌, inl, inr, Bool, true, false, List, [], ◌∷◌, ◌++◌}
+use Rattle.std.proofs.Common.{length, take, drop, refl, sym, ap, ◌∙◌, Option, Some, None, arith, append_assoc}
 use Rattle.std.proofs.Common.{append-nil, length-append, length-drop}
 use Rattle.std.proofs.lemmas.List.{drop_at, length-replicate, length-take-le}
 use Rattle.std.specs.Prelude.{nat_lt, replicate}
 use Rattle.der_view.specs.Grammar.{Component, components}
 use Rattle.der_view.specs.Masks.{content_mask, masked, next_mask, step_mask, undrawn}
-use Rattle.der_view.specs.Rows.{How, Row, Step, after, after_inside, end_at, front_len, inside, inside_bytes}
-use Rattle.der_view.specs.Rows.{inside_loose, is_followed, is_open, may_end, next_rows, opened_of, rest_after}
-use Rattle.der_view.specs.Rows.{rest_next, rest_of, rows_of, step_at, step_by, step_rows}
+use Rattle.der_view.specs.Rows.{How, Row, Step, after, after_inside, end_at, end_rows, front_len, inside, inside_bytes}
+use Rattle.der_view.specs.Rows.{inside_loose, is_followed, is_open, next_rows, opened_of, rest_after, rest_next}
+use Rattle.der_view.specs.Rows.{rest_of, rows_of, step_at, step_by, step_rows}
 use Rattle.der_view.specs.declared.grammar.Structure.{Structure}
 use Rattle.der_view.specs.declared.walk.Place.{Place}
 use Rattle.der_view.proofs.LevelLemmas.{MasksStep, closed_left, opened_masks}
 pub use Rattle.der_view.proofs.MaskLemmas.{hidden}
-use Rattle.der_view.proofs.MaskLemmas.{IsTaken, MasksRest, again, front_within, left, no_len, some_if, step_again}
-use Rattle.der_view.proofs.MaskLemmas.{tail_len, undrawn_at}
+use Rattle.der_view.proofs.MaskLemmas.{IsEnd, IsTaken, MasksRest, end_found, again, front_within, left, no_len, some_if}
+use Rattle.der_view.proofs.MaskLemmas.{step_again, tail_len, undrawn_at}
 use Rattle.der_view.proofs.StepLemmas.{BeginsWith, no_bytes, step_found, undrawn_len}
 
 -- ---- where a level ends
-
--- at the same place, with as many other bytes after it
-record EndsAgain (loose marked : Bool) (some : List Component) (bytes : List ℕ) (n : ℕ) (r : List ℕ) : Type 0 where
-  is : end_at loose marked some (take n bytes ++ r) ≡ Some n
-  rest : drop n (take n bytes ++ r) ≡ r
-  len : length (take n bytes ++ r) ≡ length bytes
-
-end_again : (loose marked : Bool) (some : List Component) (bytes r : List ℕ) (n : ℕ)
-    → end_at loose marked some bytes ≡ Some n → length r ≡ length (drop n bytes)
-    → EndsAgain loose marked some bytes n r
-unfolding end_at
-end_again loose marked some [] r n is size =
-    let (test, same) = some_if (loose || (not marked && may_end some)) (Some 0) n is in
-    let none : ◌≡◌ {A = ℕ} 0 n = cc in
-    rw (← none, no_bytes r (omega (arith, size, length-drop {A = ℕ} n [])))
-    (record { is = rw test refl; rest = refl; len = refl })
-end_again loose marked some (a ∷ []) r n is size = absurd (cc is)
-end_again loose marked some (a ∷ b ∷ bytes) r n is size =
-    let (test, same) = some_if ((a == 0x00 && b == 0x00) && (marked && (loose || may_end some))) (Some 2) n is in
-    let two : ◌≡◌ {A = ℕ} n 2 = cc in
-    rw two (record { is = rw test refl; rest = refl; len = omega (arith, rw two at size) })
 
 -- by its first bytes
 end_front : (loose marked : Bool) (some : List Component) (n : ℕ) (bytes more : List ℕ) → 1 < n → n ≤ length bytes
@@ -114,10 +93,6 @@ pub element_same : (loose small : Bool) (most : ℕ) (place : Place) (some : Lis
 element_same loose small most place some step t inner last size masks =
     by_opened (opened_of loose most (place.depth + 1) step) (is_open step) refl refl masks
   where
-    within : (b : Bool) (s : Structure) → MasksRest (inside_loose step.component.2 loose) small most (place.depth + 1) b
-        (components s) (inside_bytes step)
-    within b s = inner (inside_loose step.component.2 loose) b (place.depth + 1) (components s) (inside_bytes step)
-
     mask : Bool → Option Structure → List ℕ
     mask b o = content_mask small (λ s. masked (inside_loose step.component.2 loose) small most (place.depth + 1) b
         (components s) (inside_bytes step)) o step
@@ -136,13 +111,15 @@ element_same loose small most place some step t inner last size masks =
     by_opened None false is e known = rw (known.opened ∙ is, is, known.stays.len, known.shown) refl
     by_opened (Some s) false is e known =
         let none = sym (closed_left _ most (place.depth + 1) (components s) (inside_bytes step)) in
-        let rows = rw append-nil at ((within false s).rows [] none (inside place step)) in
+        let within = inner (inside_loose step.component.2 loose) false (place.depth + 1) (components s) in
+        let rows = rw append-nil at ((within (inside_bytes step)).rows [] none (inside place step)) in
         rw (known.opened ∙ is, is, known.stays.len, known.shown, e, back s _ is, rows) refl
     by_opened (Some s) true is e known =
         let tail = elim (rest_of (inside_loose step.component.2 loose) most (place.depth + 1) true (components s)
         (inside_bytes step)) as (λ o. tail_len step (after_inside true step.rest o) ≡ left o)
         [ None ↦ ap length (last (no_len step.header.content_len e)) | Some r ↦ refl ] in
-        let rows = (within true s).rows t (size ∙ rw (is, e) tail) (inside place step) in
+        let within = inner (inside_loose step.component.2 loose) true (place.depth + 1) (components s) in
+        let rows = (within (inside_bytes step)).rows t (size ∙ rw (is, e) tail) (inside place step) in
         rw (known.opened ∙ is, is, known.stays.len, known.shown, e, append_assoc, back s _ is, rows) refl
 
 -- ---- levels
@@ -176,6 +153,19 @@ module _ (loose small : Bool) (most : ℕ) (marked : Bool) (place : Place) (some
   abbrev rows_next_of : List ℕ → Step → Option (List ℕ) → List Row
   rows_next_of x step o =
       next_rows (λ rest. rows_of (hidden loose small) most marked (after place x rest) step.others rest) o
+
+  -- an end, at the same place
+  ended : (n : ℕ) (r : List ℕ) → IsEnd marked bytes n → end_at loose marked some bytes ≡ Some n
+      → length r ≡ length (drop n bytes) → Has (take n bytes ++ r) (Some r) (end_rows place some n)
+  ended n r (inl (none, empty)) is size =
+      let nothing = no_bytes r (rw (none, empty) at size) in let end = rw (none, empty) at is in
+      rw (none, empty, nothing) (record { len = refl; rest = rw end refl; rows = rw end refl })
+  ended n r (inr (two, few, _)) is size =
+      let within : n ≤ length bytes = omega (arith, two, few) in
+      let end = end_front loose marked some n bytes r (omega (arith, two)) within ∙ is in
+      let front = length-take-le n bytes within in let back = length-drop n bytes in
+      let len = length-append (take n bytes) r ∙ omega (arith, front, back, size, within) in
+      record { len = len; rest = rw (end, drop_at (take n bytes) r n front) refl; rows = rw end refl }
 
   -- an element and any bytes after it
   step_has : (step : Step) (t : List ℕ) → end_at loose marked some bytes ≡ None
@@ -236,8 +226,7 @@ module _ (loose small : Bool) (most : ℕ) (marked : Bool) (place : Place) (some
       (again r (rest_of loose (suc most) place.depth marked some bytes))
       (rows_of (hidden loose small) (suc most) marked place some bytes)
   level_has (Some n) q is at r size =
-      let ends = end_again loose marked some bytes r n is (rw is at size) in
-      rw is (record { len = ends.len; rest = rw (ends.is, ends.rest) refl; rows = rw ends.is refl })
+      rw is (ended n r (end_found loose marked some bytes n is) is (rw is at size))
   level_has None None is at r size =
       let end = undrawn_end loose marked some bytes is in
       let stop = undrawn_at loose place.depth some bytes in

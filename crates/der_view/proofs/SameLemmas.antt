@@ -1,14 +1,14 @@
 -- Masks of elements with contents that differ.
 use Rattle.std.proofs.Common.{◌≡◌, ◌&&◌, ◌||◌, ℕ, suc, ◌+◌, Bool, true, false, List, [], ◌++◌, length, take, refl, sym}
-use Rattle.std.proofs.Common.{ap, ◌∙◌, Option, Some, None, append-nil, arith}
+use Rattle.std.proofs.Common.{◌∙◌, Option, Some, None, append-nil, arith, ap₂}
 use Rattle.std.proofs.lemmas.Bool.{and_parts}
 use Rattle.std.specs.Option.{is_some}
 use Rattle.std.specs.Prelude.{if◌then◌else◌, is_none, nat_lt}
 use Rattle.der_view.specs.Contents.{is_small, is_shown, is_whole, shown_in, shown_len}
 use Rattle.der_view.specs.Grammar.{Component, components}
-use Rattle.der_view.specs.Masks.{masked, next_mask, step_mask}
-use Rattle.der_view.specs.Rows.{Step, admits, after_inside, end_at, front_len, inside_bytes, inside_loose, is_followed}
-use Rattle.der_view.specs.Rows.{opened_in, opened_of, others_after, rest_after, rest_of, step_at, step_by, step_with}
+use Rattle.der_view.specs.Masks.{masked, next_mask, step_mask, undrawn}
+use Rattle.der_view.specs.Rows.{Step, admits, after_inside, end_at, front_len, inside_loose, is_followed, opened_in}
+use Rattle.der_view.specs.Rows.{opened_of, others_after, rest_after, rest_of, rest_with, step_at, step_by, step_with}
 use Rattle.der_view.specs.declared.grammar.Content.{Content}
 use Rattle.der_view.specs.declared.grammar.Content.TheVariants as contents
 use Rattle.der_view.specs.declared.grammar.Structure.{Structure}
@@ -190,11 +190,10 @@ module _ (loose small : Bool) (most depth : ℕ) (header : Header) where
   }
     where
       admitted : (k : Content) → inside_content holds k ≡ true → admits header k a ≡ admits header k b
-      admitted contents.Hidden is' = refl
-      admitted contents.Free is' = refl
-      admitted (contents.Inside s) is' = refl
-      admitted (contents.Whole s) is' = refl
-      admitted k is' = absurd (cc is')
+      admitted (contents.Short most') is' = absurd (cc is')
+      admitted contents.Version is' = absurd (cc is')
+      admitted (contents.Of family) is' = absurd (cc is')
+      admitted k is' = refl
 
       same : opened c a ≡ opened c b
       same = opened_same (λ v x. is_followed most depth v x) loose header c.2 b a
@@ -241,17 +240,13 @@ unfolding step_at
 no_next loose depth some bytes none = no_choice (nat_lt depth 64) _ none
 
 -- after an element of a definite length nothing is drawn, or the bytes after it are
-rest_is : (loose : Bool) (most depth : ℕ) (step : Step) → is_none step.header.content_len ≡ false
-    → rest_after loose most depth step ≡ (if is_some (rest_after loose most depth step) then Some step.rest else None)
-rest_is loose most depth step definite = by_opened (opened_of loose most depth step) refl
-  where
-    by_opened : (o : Option Structure) → opened_of loose most depth step ≡ o
-        → rest_after loose most depth step
-        ≡ (if is_some (rest_after loose most depth step) then Some step.rest else None)
-    by_opened None is = rw is refl
-    by_opened (Some u) is = rw (is, definite) (elim (rest_of (inside_loose step.component.2 loose) most depth false
-        (components u) (inside_bytes step)) as (λ o. after_inside false step.rest o
-        ≡ (if is_some (after_inside false step.rest o) then Some step.rest else None)) [ None ↦ refl | Some r ↦ refl ])
+next_is : (inside : Structure → Option (List ℕ)) (next : List ℕ → List ℕ) (o : Option Structure) (step : Step)
+    → is_none step.header.content_len ≡ false → next_mask step.rest next (rest_with inside o step)
+    ≡ (if is_some (rest_with inside o step) then next step.rest else undrawn step.rest)
+next_is inside next None step definite = refl
+next_is inside next (Some u) step definite = rw definite (elim (inside u) as (λ o.
+    next_mask step.rest next (after_inside false step.rest o) ≡ (if is_some (after_inside false step.rest o)
+    then next step.rest else undrawn step.rest)) [ None ↦ refl | Some r ↦ refl ])
 
 pub steps_masked : (loose small : Bool) (most depth : ℕ) (some : List Component) (bytes other : List ℕ) (p q : Step)
     → nat_lt depth 64 ≡ true → end_at loose false some bytes ≡ None → end_at loose false some other ≡ None
@@ -262,20 +257,10 @@ pub steps_masked : (loose small : Bool) (most depth : ℕ) (some : List Componen
     → masked loose small (suc most) depth false some bytes ≡ masked loose small (suc most) depth false some other
 unfolding step_at
 steps_masked loose small most depth some bytes other p q few e f one two heads d1 d2 alike size same =
-    let p_rest = rest_is loose most (depth + 1) p d1 in
-    let q_rest = rest_is loose most (depth + 1) q d2 in
-    rw (e, f, few, one, two, alike.mask, p_rest, q_rest, alike.goes, heads)
-    (ap (λ (x : List ℕ). q.head ++ (step_mask loose small most (depth + 1) q ++ x))
-    (by_test (is_some (rest_after loose most (depth + 1) q))))
-  where
-    next : Step → Bool → List ℕ
-    next x test =
-        next_mask x.rest (λ rest. masked loose small most depth false x.others rest)
-        (if test then Some x.rest else None)
-
-    by_test : (test : Bool) → next p test ≡ next q test
-    by_test true = same
-    by_test false = rw size refl
+    let first = next_is _ _ (opened_of loose most (depth + 1) p) p d1 in
+    let second = next_is _ _ (opened_of loose most (depth + 1) q) q d2 in
+    rw (e, f, few, one, two) (ap₂ (λ (x y : List ℕ). x ++ y) heads (ap₂ (λ (x y : List ℕ). x ++ y) alike.mask
+    (first ∙ (rw (alike.goes, same, size) (sym second)))))
 
 pub none_masked : (loose small : Bool) (most depth : ℕ) (some : List Component) (bytes other : List ℕ)
     → end_at loose false some bytes ≡ None → end_at loose false some other ≡ None
