@@ -16,7 +16,6 @@ use Rattle.der_view.specs.declared.grammar.TheConstants as tables
 use Rattle.der_view.specs.declared.grammar.family.Family.{Family}
 use Rattle.der_view.specs.declared.grammar.family.Family.TheVariants as families
 use Rattle.der_view.specs.declared.grammar.Structure.{Structure}
-use Rattle.der_view.specs.declared.grammar.Structure.TheVariants as structures
 use Rattle.der_view.specs.declared.header.Header.{Header}
 use Rattle.der_view.specs.declared.header.Tag.{Tag}
 use Rattle.der_view.specs.declared.walk.Place.{Place}
@@ -186,11 +185,11 @@ pub record IsRows (header : Header) (k : Content) : Type 0 where
   pub alike : (x y : List ℕ) → admits header k x ≡ admits header k y
   pub free : k ≡ contents.Free → (c : Content) (x y : List ℕ) → admits header c x ≡ admits header c y
 
-elements_rows : (header : Header) (k : Content) (test : Bool) (s : Structure)
-    → (if is_none header.content_len || (header.tag.constructed && test) then Some structures.Any else None) ≡ Some s
+elements_rows : (header : Header) (k : Content) (test : Bool) (any s : Structure)
+    → (if is_none header.content_len || (header.tag.constructed && test) then Some any else None) ≡ Some s
     → IsRows header k
 unfolding shown_len
-elements_rows header k test s is =
+elements_rows header k test any s is =
     let elements = (some_if (is_none header.content_len || (header.tag.constructed && test)) _ _ is).0 in
     let plain : is_primitive header ≡ false = grind arith in
     record {
@@ -209,8 +208,8 @@ module _ (whole : Structure → List ℕ → Bool) (loose : Bool) (header : Head
       record { shown = λ small y. none_shown (is_whole header y); alike = λ y z. refl; free = λ e. absurd (cc e) }
   opened_rows (contents.Bits t) x s is =
       record { shown = λ small y. none_shown (is_whole header y); alike = λ y z. refl; free = λ e. absurd (cc e) }
-  opened_rows contents.Free x s is = elements_rows header contents.Free true s is
-  opened_rows k x s is = elements_rows header k loose s is
+  opened_rows contents.Free x s is = elements_rows header contents.Free true _ s is
+  opened_rows k x s is = elements_rows header k loose _ s is
 
   pub opened_same : (k : Content) (x m : List ℕ)
       → ((s : Structure) → k ≡ contents.Whole s → whole s m ≡ whole s x)

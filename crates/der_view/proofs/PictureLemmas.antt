@@ -1,6 +1,6 @@
 -- What bytes are, and their picture.
-use Rattle.std.proofs.Common.{◌≡◌, ◌≢◌, ◌+◌, ◌-◌, ◌<◌, ◌^◌, ℕ, List, [], ◌∷◌, ◌++◌, length, refl, Some, None, Bool, false}
-use Rattle.std.proofs.Common.{arith, append-nil}
+use Rattle.std.proofs.Common.{◌≡◌, ◌≢◌, ◌+◌, ◌-◌, ◌<◌, ◌^◌, ℕ, List, [], ◌∷◌, ◌++◌, length, refl, Some, None, Bool}
+use Rattle.std.proofs.Common.{false, arith, append-nil}
 use Rattle.der_view.specs.Grammar.{Component}
 use Rattle.der_view.specs.Pictures.{capped, ended_by, first_place, is_complete, rest_rows, root_step, rows_as, whole_as}
 use Rattle.der_view.specs.Rows.{How, NotDrawn, Step, given_part, rest_after, step_rows}

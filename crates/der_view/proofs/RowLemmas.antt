@@ -1,12 +1,12 @@
 -- The rows of bytes, one element at a time.
-use Rattle.std.proofs.Common.{◌≡◌, ◌<◌, ◌-◌, ◌+◌, ◌≤◌, ℕ, zero, suc, List, ◌∷◌, [], ◌++◌, refl, arith, Bool, true, false}
-use Rattle.std.proofs.Common.{Some, None}
+use Rattle.std.proofs.Common.{◌≡◌, ◌<◌, ◌-◌, ◌+◌, ◌≤◌, ℕ, zero, suc, List, ◌∷◌, [], ◌++◌, refl, arith, Bool, true}
+use Rattle.std.proofs.Common.{false, Some, None}
 use Rattle.std.proofs.lemmas.Bool.Decides.{nat_tests}
 use Rattle.std.specs.Prelude.{nat_lt}
 use Rattle.der_view.specs.Grammar.{Component, components}
 use Rattle.der_view.specs.Rows.{Element, How, NotDrawn, Row, Step, after, end_at, end_rows, given_part, inside}
-use Rattle.der_view.specs.Rows.{inside_bytes, inside_rules, is_open, next_rows, opened_of, rest_after, rest_next, rest_of}
-use Rattle.der_view.specs.Rows.{rows_of, step_at, step_by, step_rows, view}
+use Rattle.der_view.specs.Rows.{inside_bytes, inside_rules, is_open, next_rows, opened_of, rest_after, rest_next}
+use Rattle.der_view.specs.Rows.{rest_of, rows_of, step_at, step_by, step_rows, view}
 use Rattle.der_view.specs.declared.grammar.Structure.{Structure}
 use Rattle.der_view.specs.declared.walk.Place.{Place}
 
@@ -72,7 +72,8 @@ module _ (how : How) (most : ℕ) (marked : Bool) (place : Place) (some : List C
   pub rows_stop : end_at how.loose marked some bytes ≡ None → step_at how.loose place.depth some bytes ≡ None
       → rows_of how most marked place some bytes ≡ undrawn_rows
   rows_stop is none =
-      elim most as (λ n. rows_of how n marked place some bytes ≡ undrawn_rows) [ zero ↦ refl | suc n ↦ rw (is, none) refl ]
+      elim most as (λ n. rows_of how n marked place some bytes ≡ undrawn_rows)
+      [ zero ↦ refl | suc n ↦ rw (is, none) refl ]
 
   pub rows_step : (step : Step) → 0 < most → end_at how.loose marked some bytes ≡ None
       → step_at how.loose place.depth some bytes ≡ Some step → rows_of how most marked place some bytes

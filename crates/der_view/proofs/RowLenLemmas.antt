@@ -47,7 +47,8 @@ abbrev Inner : ℕ → Type 0
 Inner most =
     (how : How) (marked : Bool) (place : Place) (some : List Component) (bytes : List ℕ) (limit : ℕ)
     → place.offset + length bytes ≡ limit → limit ≤ place.end
-    → AreRows place limit (rest_of how.loose most place.depth marked some bytes) (rows_of how most marked place some bytes)
+    → AreRows place limit (rest_of how.loose most place.depth marked some bytes)
+    (rows_of how most marked place some bytes)
 
 end_span : (marked : Bool) (place : Place) (some : List Component) (bytes : List ℕ) (n : ℕ) → IsEnd marked bytes n
     → (n ≤ length bytes) × Span place.offset (end_rows place some n) (place.offset + n)
@@ -108,9 +109,9 @@ module _ (how : How) (most : ℕ) (place : Place) (limit : ℕ) (fits : limit �
   next_rows_of marked bytes step rows (Some rest) (to, own, up) at =
       let less = all_of place.offset to rows own in
       let offset : to ≡ (after place bytes rest).offset = omega (arith, less.0, up, at) in
-      elim (rest_of how.loose most place.depth marked step.others rest) as (λ o. AreRows (after place bytes rest) limit o
-      (rows_of how most marked (after place bytes rest) step.others rest) → AreRows place limit o
-      (rows ++ rows_of how most marked (after place bytes rest) step.others rest)) [
+      elim (rest_of how.loose most place.depth marked step.others rest) as (λ o.
+      AreRows (after place bytes rest) limit o (rows_of how most marked (after place bytes rest) step.others rest)
+      → AreRows place limit o (rows ++ rows_of how most marked (after place bytes rest) step.others rest)) [
         | None ↦ λ known. joined _ _ _ _ rows _ own offset known
         | Some r ↦ λ known. (known.0, joined _ _ _ _ rows _ own offset known.1, known.2)
       ] (inner how marked (after place bytes rest) step.others rest limit (omega (arith, less.0, up, at)) fits)

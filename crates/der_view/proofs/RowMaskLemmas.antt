@@ -167,56 +167,53 @@ module _ (loose small : Bool) (most : ℕ) (marked : Bool) (place : Place) (some
       let len = length-append (take n bytes) r ∙ omega (arith, front, back, size, within) in
       record { len = len; rest = rw (end, drop_at (take n bytes) r n front) refl; rows = rw end refl }
 
-  -- an element and any bytes after it
-  step_has : (step : Step) (t : List ℕ) → end_at loose marked some bytes ≡ None
+  abbrev tail_of : Step → List ℕ → Option (List ℕ) → List ℕ
+  tail_of step r o = next_mask step.rest (λ rest. masked loose small most place.depth marked step.others rest) o ++ r
+
+  -- what comes after an element of the level
+  tail_has : (step : Step) (r : List ℕ) (o : Option (List ℕ)) → length r ≡ left (rest_next_of step o)
+      → (length (tail_of step r o) ≡ tail_len step o)
+      × (rest_next_of step (again (tail_of step r o) o) ≡ again r (rest_next_of step o))
+      × (rows_next_of bytes step (again (tail_of step r o) o) ≡ rows_next_of bytes step o)
+  tail_has step r None size =
+      let join = length-append (undrawn step.rest) r in
+      (omega (arith, undrawn_len step.rest, size), refl, refl)
+  tail_has step r (Some rest) size =
+      let known = inner loose marked place.depth step.others rest in
+      let join = length-append (masked loose small most place.depth marked step.others rest) r in
+      let len : length (tail_of step r (Some rest)) ≡ length rest = omega (arith, known.len, size) in
+      (len, known.same r size, rw len (known.rows r size (after place bytes rest)))
+
+  -- an element, and what comes after it
+  step_has : (step : Step) (r : List ℕ) → end_at loose marked some bytes ≡ None
       → step_at loose place.depth some bytes ≡ Some step
-      → length t ≡ tail_len step (rest_after loose most (place.depth + 1) step)
-      → Has (next_bytes loose small most (place.depth + 1) step t)
-      (rest_next_of step (again t (rest_after loose most (place.depth + 1) step)))
+      → length r ≡ left (rest_next_of step (rest_after loose most (place.depth + 1) step))
+      → Has (next_bytes loose small most (place.depth + 1) step
+      (tail_of step r (rest_after loose most (place.depth + 1) step)))
+      (again r (rest_next_of step (rest_after loose most (place.depth + 1) step)))
       (step_rows (hidden loose small) most place some step
-      ++ rows_next_of bytes step (again t (rest_after loose most (place.depth + 1) step)))
+      ++ rows_next_of bytes step (rest_after loose most (place.depth + 1) step))
   unfolding step_at
-  step_has step t is at size =
+  step_has step r is at size =
       let depth : ℕ = place.depth + 1 in
+      let t : List ℕ = tail_of step r (rest_after loose most depth step) in
+      let (len, rest, rows) = tail_has step r (rest_after loose most depth step) size in
       let (few, found) = some_if (nat_lt place.depth 64) (step_by loose loose some bytes) step at in
       let begins = step_found loose loose some bytes step found in
-      let b = begins_masked loose loose loose small most depth some bytes step t begins inner size in
+      let b = begins_masked loose loose loose small most depth some bytes step t begins inner len in
       let other : List ℕ = next_bytes loose small most depth step t in
       let next : Step = next_step loose small most depth step t in
       let end : end_at loose marked some other ≡ None = b.end loose marked ∙ is in
       let next_is : step_at loose place.depth some other ≡ Some next = rw few b.is in
       let others : next.others ≡ step.others = ap (λ (x : Step). x.others) b.masks.like in
-      let own = element_same loose small most place some step t inner begins.element.last size b.masks in
+      let own = element_same loose small most place some step t inner begins.element.last len b.masks in
       record {
         len = b.len;
-        rest = rw (end, next_is, b.masks.after, others) refl;
+        rest = rw (end, next_is, b.masks.after, others) rest;
         rows = row_step (hidden loose small) most marked place some other next end next_is
-            ∙ (ap (λ (rows : List Row). rows ++ rows_next_of other next (rest_after loose most depth next)) own
-            ∙ rw (b.masks.after, others, b.len) refl);
-      }
-
-  -- an element, and what comes after it of the level
-  next_has : (step : Step) (r : List ℕ) (o : Option (List ℕ)) → end_at loose marked some bytes ≡ None
-      → step_at loose place.depth some bytes ≡ Some step → rest_after loose most (place.depth + 1) step ≡ o
-      → length r ≡ left (rest_next_of step o)
-      → Has (next_bytes loose small most (place.depth + 1) step
-      (next_mask step.rest (λ rest. masked loose small most place.depth marked step.others rest) o ++ r))
-      (again r (rest_next_of step o)) (step_rows (hidden loose small) most place some step ++ rows_next_of bytes step o)
-  next_has step r None is at e size =
-      let join = length-append (undrawn step.rest) r in
-      let len : length (undrawn step.rest ++ r) ≡ length step.rest = omega (arith, undrawn_len step.rest, size) in
-      rw e at (step_has step (undrawn step.rest ++ r) is at (rw e len))
-  next_has step r (Some rest) is at e size =
-      let known = inner loose marked place.depth step.others rest in
-      let t : List ℕ = masked loose small most place.depth marked step.others rest ++ r in
-      let join = length-append (masked loose small most place.depth marked step.others rest) r in
-      let len : length t ≡ length rest = omega (arith, known.len, size) in
-      let has = rw e at (step_has step t is at (rw e len)) in
-      let rows = known.rows r size (after place bytes rest) in
-      record {
-        len = has.len;
-        rest = has.rest ∙ known.same r size;
-        rows = has.rows ∙ rw len (ap (λ (x : List Row). step_rows (hidden loose small) most place some step ++ x) rows);
+            ∙ (ap (λ (x : List Row). x ++ rows_next_of other next (rest_after loose most depth next)) own
+            ∙ rw (b.masks.after, others, b.len)
+            (ap (λ (x : List Row). step_rows (hidden loose small) most place some step ++ x) rows));
       }
 
   level_has : (o : Option ℕ) (q : Option Step) → end_at loose marked some bytes ≡ o
@@ -234,7 +231,7 @@ module _ (loose small : Bool) (most : ℕ) (marked : Bool) (place : Place) (some
       (record { len = undrawn_len bytes; rest = rw (end, stop) refl; rows = rw (end, stop) refl })
   level_has None (Some step) is at r size =
       rw (is, at, append_assoc, append_assoc)
-      (next_has step r (rest_after loose most (place.depth + 1) step) is at refl (rw (is, at) at size))
+      (step_has step r is at (rw (is, at) at size))
 
 pub masks_rest : (small : Bool) (most : ℕ) → Inner small most
 masks_rest small zero loose marked depth some bytes =

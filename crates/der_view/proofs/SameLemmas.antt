@@ -91,7 +91,8 @@ module _ (loose small : Bool) (most depth : ℕ) where
       → is_some (rest_of loose most depth false some (masked loose small most depth false some x))
       ≡ is_some (rest_of loose most depth false some x)
   mask_goes some x =
-      let known = (masks_rest small most loose false depth some x).same [] (sym (closed_left loose most depth some x)) in
+      let none = sym (closed_left loose most depth some x) in
+      let known = (masks_rest small most loose false depth some x).same [] none in
       rw (rw append-nil at known) (elim (rest_of loose most depth false some x) as
       (λ o. is_some (again [] o) ≡ is_some o) [ None ↦ refl | Some r ↦ refl ])
 
@@ -122,8 +123,8 @@ module _ (loose small : Bool) (most depth : ℕ) (header : Header) (holds : Stru
   -- those that are rows, and those that aren't
   opened_alike : (k : Content) (u : Structure) → inside_content holds k ≡ true
       → opened_in (λ v x. is_followed most depth v x) loose header k b ≡ Some u
-      → ((l : Bool) → masked l small most depth false (components u) a ≡ masked l small most depth false (components u) b)
-      × (front_len k ≡ 0)
+      → ((l : Bool) → masked l small most depth false (components u) a
+      ≡ masked l small most depth false (components u) b) × (front_len k ≡ 0)
   unfolding opened_in
   opened_alike contents.Hidden u is at = (any_alike loose u at, refl)
   opened_alike contents.Free u is at = (any_alike true u at, refl)
