@@ -1,160 +1,126 @@
--- The rows of bytes are those of their mask.
-use Rattle.std.proofs.Common.{◌≡◌, ℕ, zero, suc, ◌+◌, ◌-◌, Bool, true, false, List, [], ◌∷◌, ◌++◌, length, take}
-use Rattle.std.proofs.Common.{refl, sym, ap, ap₂, ◌∙◌, Option, Some, None, arith, append-nil, length-append}
-use Rattle.std.proofs.Common.{append_assoc, drop, ◌≤◌}
-use Rattle.std.proofs.lemmas.List.{drop_at, length-take-le}
-use Rattle.std.specs.Prelude.{is_none}
-use Rattle.der_view.specs.Contents.{shown_len}
+-- What is after a level, and its rows, are those of its mask.
+use Rattle.std.proofs.Common.{◌≡◌, ℕ, zero, suc, ◌+◌, ◌<◌, ◌≤◌, inl, inr, Bool, true, false, List, [], ◌∷◌, ◌++◌}
+use Rattle.std.proofs.Common.{length, take, drop, refl, sym, ap, ◌∙◌, Option, Some, None, arith, append_assoc}
+use Rattle.std.proofs.Common.{append-nil, length-append, length-drop}
+use Rattle.std.proofs.lemmas.List.{drop_at, length-replicate, length-take-le}
+use Rattle.std.specs.Prelude.{nat_lt, replicate}
 use Rattle.der_view.specs.Grammar.{Component, components}
-use Rattle.der_view.specs.Masks.{masked, step_mask, undrawn}
-use Rattle.der_view.specs.Rows.{Element, How, Row, Step, after, after_inside, end_at, front_len, inside}
-use Rattle.der_view.specs.Rows.{inside_bytes, inside_loose, inside_rules, is_followed, is_open, next_rows, opened_of}
-use Rattle.der_view.specs.Rows.{rest_after, rest_of, rows_of, step_at}
-use Rattle.der_view.specs.Rows.{step_rows, view}
+use Rattle.der_view.specs.Masks.{content_mask, masked, next_mask, step_mask, undrawn}
+use Rattle.der_view.specs.Rows.{How, Row, Step, after, after_inside, end_at, end_rows, front_len, inside, inside_bytes}
+use Rattle.der_view.specs.Rows.{inside_loose, is_followed, is_open, next_rows, opened_of, rest_after, rest_next}
+use Rattle.der_view.specs.Rows.{rest_of, rows_of, step_at, step_by, step_rows}
 use Rattle.der_view.specs.declared.grammar.Structure.{Structure}
 use Rattle.der_view.specs.declared.walk.Place.{Place}
-use Rattle.der_view.proofs.LevelLemmas.{MasksStep, closed_left}
-use Rattle.der_view.proofs.MaskLemmas.{again, front_within, left, step_again, tail_len, undrawn_at}
-use Rattle.der_view.proofs.RestLemmas.{end_again, joined_again, mask_end, mask_step, mask_stop}
-use Rattle.der_view.proofs.RestLemmas.{masks_rest, next_again, next_found, next_masked, next_rest, step_rest}
-use Rattle.der_view.proofs.RestLemmas.{tail_next}
-use Rattle.der_view.proofs.RestLemmas.{undrawn_end}
-use Rattle.der_view.proofs.RowLemmas.{rows_end, rows_stop}
-use Rattle.der_view.proofs.StepLemmas.{no_bytes, step_like}
+use Rattle.der_view.proofs.LevelLemmas.{MasksStep, closed_left, opened_masks}
+pub use Rattle.der_view.proofs.MaskLemmas.{hidden}
+use Rattle.der_view.proofs.MaskLemmas.{IsEnd, IsTaken, MasksRest, end_found, again, front_within, left, no_len, some_if}
+use Rattle.der_view.proofs.MaskLemmas.{step_again, tail_len, undrawn_at}
+use Rattle.der_view.proofs.StepLemmas.{BeginsWith, no_bytes, step_found, undrawn_len}
 
--- the rules of a mask: nothing is given
-abbrev pub hidden : Bool → Bool → How
-hidden loose small = record { loose = loose; small = small; given = [] }
+-- ---- where a level ends
 
--- ---- one element
+-- by its first bytes
+end_front : (loose marked : Bool) (some : List Component) (n : ℕ) (bytes more : List ℕ) → 1 < n → n ≤ length bytes
+    → end_at loose marked some (take n bytes ++ more) ≡ end_at loose marked some bytes
+unfolding end_at
+end_front loose marked some (suc (suc n)) (a ∷ b ∷ bytes) more two few = refl
+end_front loose marked some n bytes more two few = absurd (omega (arith, two, few))
 
--- inside an element that is rows
-abbrev pub MasksRows : Bool → ℕ → Type 0
-MasksRows small most =
-    (loose marked : Bool) (place : Place) (some : List Component) (bytes r : List ℕ)
-    → length r ≡ left (rest_of loose most place.depth marked some bytes)
-    → rows_of (hidden loose small) most marked place some (masked loose small most place.depth marked some bytes ++ r)
-    ≡ rows_of (hidden loose small) most marked place some bytes
+undrawn_end : (loose marked : Bool) (some : List Component) (bytes : List ℕ) → end_at loose marked some bytes ≡ None
+    → end_at loose marked some (undrawn bytes) ≡ None
+unfolding end_at
+undrawn_end loose marked some [] is = is
+undrawn_end loose marked some (a ∷ []) is = refl
+undrawn_end loose marked some (a ∷ b ∷ bytes) is = refl
 
-view_same : (loose small : Bool) (place : Place) (some : List Component) (opened : Bool) (step next : Step)
-    → next ≡ step_like step next.content next.rest → length next.content ≡ length step.content
-    → take (shown_len small step.header step.component.2 next.content) next.content
-    ≡ take (shown_len small step.header step.component.2 step.content) step.content
-    → view (hidden loose small) place some opened next ≡ view (hidden loose small) place some opened step
-view_same loose small place some opened step next like size shown =
-    by_parts next.content next.rest next like size shown
-  where
-    by_parts : (m t : List ℕ) (x : Step) → x ≡ step_like step m t → length m ≡ length step.content
-        → take (shown_len small step.header step.component.2 m) m
-        ≡ take (shown_len small step.header step.component.2 step.content) step.content
-        → view (hidden loose small) place some opened x ≡ view (hidden loose small) place some opened step
-    by_parts m t x same len seen =
-        ap (λ (y : Step). view (hidden loose small) place some opened y) same
-        ∙ rw (len, seen) refl
+-- ---- the next element
 
-pub element_same : (loose small : Bool) (most : ℕ) (place : Place) (some : List Component) (step next : Step)
-    (m t : List ℕ) → MasksStep loose small most (place.depth + 1) step next m t
-    → ((s : Structure) → opened_of loose most (place.depth + 1) step ≡ Some s
-    → rows_of (hidden (inside_loose step.component.2 loose) small) most (is_open step) (inside place step)
-    (components s) (inside_bytes next)
-    ≡ rows_of (hidden (inside_loose step.component.2 loose) small) most (is_open step) (inside place step)
-    (components s) (inside_bytes step))
-    → step_rows (hidden loose small) most place some next ≡ step_rows (hidden loose small) most place some step
-element_same loose small most place some step next m t masks inner =
-    by_opened (opened_of loose most (place.depth + 1) step) refl
-  where
-    how : How
-    how = hidden loose small
+pub taken : (cut misfit : Bool) (some : List Component) (bytes : List ℕ) (step : Step)
+    → BeginsWith cut misfit some bytes step → IsTaken step
+taken cut misfit some bytes step b = record { admitted = b.admitted; free = b.free; last = b.element.last }
 
-    rows : Step → Structure → List Row
-    rows x s =
-        rows_of (inside_rules how x.component.2) most (is_open x) (inside place x) (components s) (inside_bytes x)
+-- levels of so many elements
+abbrev pub Inner : Bool → ℕ → Type 0
+Inner small most =
+    (loose marked : Bool) (depth : ℕ) (some : List Component) (bytes : List ℕ)
+    → MasksRest loose small most depth marked some bytes
 
-    seen : (b : Bool) → view how place some b next ≡ view how place some b step
-    seen b = view_same loose small place some b step next masks.like masks.stays.len masks.shown
+-- an element of a mask, with these bytes after its content
+abbrev pub next_step : Bool → Bool → ℕ → ℕ → Step → List ℕ → Step
+next_step loose small most depth step t = step_again (is_open step) step (step_mask loose small most depth step) t
 
-    like_rows : (s : Structure) → rows next s
-        ≡ rows_of (hidden (inside_loose step.component.2 loose) small) most (is_open step) (inside place step)
-        (components s) (inside_bytes next)
-    like_rows s =
-        ap (λ (x : Step). rows_of (hidden (inside_loose x.component.2 loose) small) most (is_open x) (inside place x)
-        (components s) (inside_bytes next)) masks.like
+abbrev pub next_bytes : Bool → Bool → ℕ → ℕ → Step → List ℕ → List ℕ
+next_bytes loose small most depth step t = step.head ++ (step_mask loose small most depth step ++ t)
 
-    by_opened : (o : Option Structure) → opened_of loose most (place.depth + 1) step ≡ o
-        → step_rows how most place some next ≡ step_rows how most place some step
-    by_opened None none =
-        let other : opened_of loose most (place.depth + 1) next ≡ None = masks.opened ∙ none in
-        rw (other, none) (ap (λ v. Element place v ∷ []) (seen false))
-    by_opened (Some s) is =
-        let other : opened_of loose most (place.depth + 1) next ≡ Some s = masks.opened ∙ is in
-        rw (other, is) (ap₂ (λ v w. Element place v ∷ w) (seen true) (like_rows s ∙ inner s is))
+-- bytes that begin with an element, and those of its mask
+pub record BeginsMasked (cut misfit loose small : Bool) (most depth : ℕ) (some : List Component) (bytes : List ℕ)
+    (step : Step) (t : List ℕ) : Type 0 where
+  pub masks : MasksStep loose small most depth step (next_step loose small most depth step t)
+      (step_mask loose small most depth step) t
+  pub is : step_by cut misfit some (next_bytes loose small most depth step t)
+      ≡ Some (next_step loose small most depth step t)
+  pub len : length (next_bytes loose small most depth step t) ≡ length bytes
+  pub end : (l marked : Bool) → end_at l marked some (next_bytes loose small most depth step t)
+      ≡ end_at l marked some bytes
 
--- what is inside is masked, and goes on after it
-pub inside_same : (loose small : Bool) (most : ℕ) (place : Place) (step : Step) (t : List ℕ) (s : Structure)
-    → MasksRows small most → opened_of loose most (place.depth + 1) step ≡ Some s
+pub begins_masked : (cut misfit loose small : Bool) (most depth : ℕ) (some : List Component) (bytes : List ℕ)
+    (step : Step) (t : List ℕ) → BeginsWith cut misfit some bytes step → Inner small most
+    → length t ≡ tail_len step (rest_after loose most depth step)
+    → BeginsMasked cut misfit loose small most depth some bytes step t
+begins_masked cut misfit loose small most depth some bytes step t b inner size =
+    let m : List ℕ = step_mask loose small most depth step in
+    let next : Step = next_step loose small most depth step t in
+    let masks = opened_masks loose small most depth step t (taken cut misfit some bytes step b) inner size in
+    let h = b.element in
+    let head = ap length b.head ∙ length-take-le step.header.len bytes h.within in
+    let parts = ap length masks.parts ∙ length-append next.content next.rest in
+    record {
+      masks = masks;
+      is = ap (λ (x : List ℕ). step_by cut misfit some (step.head ++ x)) masks.parts
+          ∙ (b.again next.content next.rest masks.stays masks.rest_len ∙ ap (λ (x : Step). Some x) (sym masks.like));
+      len = length-append step.head (m ++ t) ∙ omega (arith, head, parts, masks.stays.len, masks.rest_len, h.len);
+      end = λ l marked. ap (λ (x : List ℕ). end_at l marked some (x ++ (m ++ t))) b.head
+          ∙ end_front l marked some step.header.len bytes (m ++ t) h.some h.within;
+    }
+
+pub element_same : (loose small : Bool) (most : ℕ) (place : Place) (some : List Component) (step : Step) (t : List ℕ)
+    → Inner small most → (step.header.content_len ≡ None → step.rest ≡ [])
     → length t ≡ tail_len step (rest_after loose most (place.depth + 1) step)
-    → (step.header.content_len ≡ None → step.rest ≡ [])
-    → rows_of (hidden (inside_loose step.component.2 loose) small) most (is_open step) (inside place step)
-    (components s)
-    (inside_bytes (step_again (is_open step) step (step_mask loose small most (place.depth + 1) step) t))
-    ≡ rows_of (hidden (inside_loose step.component.2 loose) small) most (is_open step) (inside place step)
-    (components s) (inside_bytes step)
-inside_same loose small most place step t s inner is size last = by_open (is_open step) refl
+    → MasksStep loose small most (place.depth + 1) step (next_step loose small most (place.depth + 1) step t)
+    (step_mask loose small most (place.depth + 1) step) t
+    → step_rows (hidden loose small) most place some (next_step loose small most (place.depth + 1) step t)
+    ≡ step_rows (hidden loose small) most place some step
+element_same loose small most place some step t inner last size masks =
+    by_opened (opened_of loose most (place.depth + 1) step) (is_open step) refl refl masks
   where
-    depth : ℕ
-    depth = place.depth + 1
+    mask : Bool → Option Structure → List ℕ
+    mask b o = content_mask small (λ s. masked (inside_loose step.component.2 loose) small most (place.depth + 1) b
+        (components s) (inside_bytes step)) o step
 
-    inside' : Bool
-    inside' = inside_loose step.component.2 loose
+    back : (s : Structure) (x : List ℕ) → opened_of loose most (place.depth + 1) step ≡ Some s
+        → drop (front_len step.component.2) (take (front_len step.component.2) step.content ++ x) ≡ x
+    back s x is = drop_at _ x _ (length-take-le (front_len step.component.2) step.content
+        (front_within (λ u y. is_followed most (place.depth + 1) u y) loose step.header step.component.2 step.content s
+        is))
 
-    rest_at : Bool → Option (List ℕ)
-    rest_at marked = rest_of inside' most depth marked (components s) (inside_bytes step)
-
-    mask_at : Bool → List ℕ
-    mask_at marked = masked inside' small most depth marked (components s) (inside_bytes step)
-
-    front : List ℕ
-    front = take (front_len step.component.2) step.content
-
-    few : front_len step.component.2 ≤ length step.content
-    few =
-        front_within (λ u y. is_followed most depth u y) loose step.header step.component.2 step.content s is
-
-    back : (x : List ℕ) → drop (front_len step.component.2) (front ++ x) ≡ x
-    back x =
-        drop_at front x (front_len step.component.2) (length-take-le (front_len step.component.2) step.content few)
-
-    mask_is : (b : Bool) → is_open step ≡ b → step_mask loose small most depth step ≡ front ++ mask_at b
-    mask_is b e = rw (is, e) refl
-
-    no_len : (o : Option ℕ) → is_none o ≡ true → o ≡ None
-    no_len None e = refl
-    no_len (Some n) e = absurd (cc e)
-
-    open_tail : (o : Option (List ℕ)) → step.rest ≡ [] → tail_len step (after_inside true step.rest o) ≡ left o
-    open_tail None none = ap length none
-    open_tail (Some r) none = refl
-
-    by_open : (b : Bool) → is_open step ≡ b
-        → rows_of (hidden inside' small) most b (inside place step) (components s)
-        (inside_bytes (step_again b step (step_mask loose small most depth step) t))
-        ≡ rows_of (hidden inside' small) most b (inside place step) (components s) (inside_bytes step)
-    by_open false e =
-        ap (λ (x : List ℕ). rows_of (hidden inside' small) most false (inside place step) (components s) x)
-        (ap (λ (x : List ℕ). drop (front_len step.component.2) x) (mask_is false e)
-        ∙ (back (mask_at false) ∙ sym (append-nil (mask_at false))))
-        ∙ inner inside' false (inside place step) (components s) (inside_bytes step) []
-        (sym (closed_left inside' most depth (components s) (inside_bytes step)))
-    by_open true e =
-        let after' : rest_after loose most depth step ≡ after_inside true step.rest (rest_at true) = rw (is, e) refl in
-        let len : length t ≡ left (rest_at true) =
-        size ∙ (ap (λ (o : Option (List ℕ)). tail_len step o) after'
-        ∙ open_tail (rest_at true) (last (no_len step.header.content_len e))) in
-        ap (λ (x : List ℕ). rows_of (hidden inside' small) most true (inside place step) (components s) x)
-        (ap (λ (x : List ℕ). drop (front_len step.component.2) (x ++ t)) (mask_is true e)
-        ∙ (ap (λ (x : List ℕ). drop (front_len step.component.2) x) (append_assoc front (mask_at true) t)
-        ∙ back (mask_at true ++ t)))
-        ∙ inner inside' true (inside place step) (components s) (inside_bytes step) t len
+    by_opened : (o : Option Structure) (b : Bool) → opened_of loose most (place.depth + 1) step ≡ o → is_open step ≡ b
+        → MasksStep loose small most (place.depth + 1) step (step_again b step (mask b o) t) (mask b o) t
+        → step_rows (hidden loose small) most place some (step_again b step (mask b o) t)
+        ≡ step_rows (hidden loose small) most place some step
+    by_opened None true is e known = rw (known.opened ∙ is, is, known.stays.len, known.shown) refl
+    by_opened None false is e known = rw (known.opened ∙ is, is, known.stays.len, known.shown) refl
+    by_opened (Some s) false is e known =
+        let none = sym (closed_left _ most (place.depth + 1) (components s) (inside_bytes step)) in
+        let within = inner (inside_loose step.component.2 loose) false (place.depth + 1) (components s) in
+        let rows = rw append-nil at ((within (inside_bytes step)).rows [] none (inside place step)) in
+        rw (known.opened ∙ is, is, known.stays.len, known.shown, e, back s _ is, rows) refl
+    by_opened (Some s) true is e known =
+        let tail = elim (rest_of (inside_loose step.component.2 loose) most (place.depth + 1) true (components s)
+        (inside_bytes step)) as (λ o. tail_len step (after_inside true step.rest o) ≡ left o)
+        [ None ↦ ap length (last (no_len step.header.content_len e)) | Some r ↦ refl ] in
+        let within = inner (inside_loose step.component.2 loose) true (place.depth + 1) (components s) in
+        let rows = (within (inside_bytes step)).rows t (size ∙ rw (is, e) tail) (inside place step) in
+        rw (known.opened ∙ is, is, known.stays.len, known.shown, e, append_assoc, back s _ is, rows) refl
 
 -- ---- levels
 
@@ -167,90 +133,118 @@ pub row_step : (how : How) (most : ℕ) (marked : Bool) (place : Place) (some : 
     (rest_after how.loose most (place.depth + 1) step)
 row_step how most marked place some bytes step is at = rw (is, at) refl
 
-next_same : (loose small : Bool) (most : ℕ) (marked : Bool) (place : Place) (some : List Component)
-    (bytes other : List ℕ) (step : Step) (r : List ℕ) (o : Option (List ℕ)) → MasksRows small most
-    → length other ≡ length bytes
-    → length r ≡ left (next_rest loose most place.depth marked step o)
-    → next_rows (λ (rest : List ℕ). rows_of (hidden loose small) most marked (after place other rest) step.others rest)
-    (again (next_masked loose small most place.depth marked step o ++ r) o)
-    ≡ next_rows (λ (rest : List ℕ). rows_of (hidden loose small) most marked (after place bytes rest) step.others rest)
-    o
-next_same loose small most marked place some bytes other step r None inner same size = refl
-next_same loose small most marked place some bytes other step r (Some rest) inner same size =
-    let t : List ℕ = masked loose small most place.depth marked step.others rest ++ r in
-    let len : length t ≡ length rest =
-    tail_next loose small most place.depth marked step (Some rest) r
-    (λ cs x. masks_rest small most loose marked place.depth cs x) size in
-    ap₂ (λ (m n : ℕ). rows_of (hidden loose small) most marked
-    (record place { offset = place.offset + (m - n) }) step.others t) same len
-    ∙ inner loose marked (after place bytes rest) step.others rest r size
+pub mask_stop : (loose small : Bool) (most depth : ℕ) (marked : Bool) (some : List Component) (bytes : List ℕ)
+    → end_at loose marked some bytes ≡ None → step_at loose depth some bytes ≡ None
+    → (masked loose small (suc most) depth marked some bytes ≡ undrawn bytes)
+    × (rest_of loose (suc most) depth marked some bytes ≡ None)
+mask_stop loose small most depth marked some bytes is at = (rw (is, at) refl, rw (is, at) refl)
 
-level_rows : (loose small : Bool) (most : ℕ) (marked : Bool) (place : Place) (some : List Component) (bytes r : List ℕ)
-    → MasksRows small most → length r ≡ left (rest_of loose (suc most) place.depth marked some bytes)
-    → (o : Option ℕ) (q : Option Step) → end_at loose marked some bytes ≡ o
-    → step_at loose place.depth some bytes ≡ q
-    → rows_of (hidden loose small) (suc most) marked place some
-    (masked loose small (suc most) place.depth marked some bytes ++ r)
-    ≡ rows_of (hidden loose small) (suc most) marked place some bytes
-level_rows loose small most marked place some bytes r inner size (Some n) q is at =
-    let how : How = hidden loose small in
-    let forms = mask_end loose small most place.depth marked some bytes n is in
-    let ends = end_again loose marked some bytes r n is (size ∙ ap left forms.1) in
-    ap (λ (x : List ℕ). rows_of how (suc most) marked place some (x ++ r)) forms.0
-    ∙ (rows_end how (suc most) marked place some (take n bytes ++ r) n (omega arith) ends.is
-    ∙ sym (rows_end how (suc most) marked place some bytes n (omega arith) is))
-level_rows loose small most marked place some bytes r inner size None None is at =
-    let how : How = hidden loose small in
-    let forms = mask_stop loose small most place.depth marked some bytes is at in
-    let none : r ≡ [] = no_bytes r (size ∙ ap left forms.1) in
-    let same : masked loose small (suc most) place.depth marked some bytes ++ r ≡ undrawn bytes =
-    ap₂ (λ (x y : List ℕ). x ++ y) forms.0 none ∙ append-nil (undrawn bytes) in
-    ap (λ (x : List ℕ). rows_of how (suc most) marked place some x) same
-    ∙ (rows_stop how (suc most) marked place some (undrawn bytes) (undrawn_end loose marked some bytes is)
-    (undrawn_at loose place.depth some bytes)
-    ∙ sym (rows_stop how (suc most) marked place some bytes is at))
-level_rows loose small most marked place some bytes r inner size None (Some step) is at =
-    let how : How = hidden loose small in
-    let depth : ℕ = place.depth in
-    let after' : Option (List ℕ) = rest_after loose most (depth + 1) step in
-    let m : List ℕ = step_mask loose small most (depth + 1) step in
-    let t : List ℕ = next_masked loose small most depth marked step after' ++ r in
-    let forms = mask_step loose small most depth marked some bytes step is at in
-    let n = next_found loose depth some bytes step at in
-    let b = step_rest loose small most depth marked some bytes step r is at
-    (λ l k d cs x. masks_rest small most l k d cs x) size in
-    let next : Step = step_again (is_open step) step m t in
-    let other : List ℕ = step.head ++ (m ++ t) in
-    let same : masked loose small (suc most) depth marked some bytes ++ r ≡ other =
-    ap (λ (x : List ℕ). x ++ r) forms.0
-    ∙ joined_again step.head m (next_masked loose small most depth marked step after') r in
-    let len : length other ≡ length bytes =
-    length-append step.head (m ++ t) ∙ (ap (λ (j : ℕ). length step.head + j) (length-append m t) ∙ b.len) in
-    let again' : step_at loose depth some other ≡ Some next = next_again loose depth some other next n.few b.is in
-    let like : next.others ≡ step.others = ap (λ (x : Step). x.others) b.masks.like in
-    let rest_size : length r ≡ left (next_rest loose most depth marked step after') = size ∙ ap left forms.1 in
-    let tail_size : length t ≡ tail_len step after' =
-    tail_next loose small most depth marked step after' r (λ cs x. masks_rest small most loose marked depth cs x)
-    rest_size in
-    let own : step_rows how most place some next ≡ step_rows how most place some step =
-    element_same loose small most place some step next m t b.masks
-    (λ s e. inside_same loose small most place step t s inner e tail_size n.begins.element.last) in
-    ap (λ (x : List ℕ). rows_of how (suc most) marked place some x) same
-    ∙ (row_step how most marked place some other next (b.end loose marked ∙ is) again'
-    ∙ (ap₂ (λ (x : List Row) (o : Option (List ℕ)). x ++ next_rows (λ (rest : List ℕ). rows_of how most marked
-    (after place other rest) next.others rest) o) own b.masks.after
-    ∙ (ap (λ (cs : List Component). step_rows how most place some step ++ next_rows (λ (rest : List ℕ).
-    rows_of how most marked (after place other rest) cs rest) (again t after')) like
-    ∙ (ap (λ (x : List Row). step_rows how most place some step ++ x)
-    (next_same loose small most marked place some bytes other step r after' inner len rest_size)
-    ∙ sym (row_step how most marked place some bytes step is at)))))
+module _ (loose small : Bool) (most : ℕ) (marked : Bool) (place : Place) (some : List Component) (bytes : List ℕ)
+    (inner : Inner small most) where
+  -- as many other bytes, with these after the level, and these rows
+  record Has (other : List ℕ) (rest_is : Option (List ℕ)) (rows_are : List Row) : Type 0 where
+    len : length other ≡ length bytes
+    rest : rest_of loose (suc most) place.depth marked some other ≡ rest_is
+    rows : rows_of (hidden loose small) (suc most) marked place some other ≡ rows_are
 
-pub masks_rows : (small : Bool) (most : ℕ) (loose marked : Bool) (place : Place) (some : List Component)
-    (bytes r : List ℕ) → length r ≡ left (rest_of loose most place.depth marked some bytes)
-    → rows_of (hidden loose small) most marked place some (masked loose small most place.depth marked some bytes ++ r)
-    ≡ rows_of (hidden loose small) most marked place some bytes
-masks_rows small zero loose marked place some bytes r size = refl
-masks_rows small (suc most) loose marked place some bytes r size =
-    level_rows loose small most marked place some bytes r
-    (λ l m p cs x q e. masks_rows small most l m p cs x q e) size
-    (end_at loose marked some bytes) (step_at loose place.depth some bytes) refl refl
+  abbrev rest_next_of : Step → Option (List ℕ) → Option (List ℕ)
+  rest_next_of step o = rest_next (λ rest. rest_of loose most place.depth marked step.others rest) o
+
+  abbrev rows_next_of : List ℕ → Step → Option (List ℕ) → List Row
+  rows_next_of x step o =
+      next_rows (λ rest. rows_of (hidden loose small) most marked (after place x rest) step.others rest) o
+
+  -- an end, at the same place
+  ended : (n : ℕ) (r : List ℕ) → IsEnd marked bytes n → end_at loose marked some bytes ≡ Some n
+      → length r ≡ length (drop n bytes) → Has (take n bytes ++ r) (Some r) (end_rows place some n)
+  ended n r (inl (none, empty)) is size =
+      let nothing = no_bytes r (rw (none, empty) at size) in let end = rw (none, empty) at is in
+      rw (none, empty, nothing) (record { len = refl; rest = rw end refl; rows = rw end refl })
+  ended n r (inr (two, few, _)) is size =
+      let within : n ≤ length bytes = omega (arith, two, few) in
+      let end = end_front loose marked some n bytes r (omega (arith, two)) within ∙ is in
+      let front = length-take-le n bytes within in let back = length-drop n bytes in
+      let len = length-append (take n bytes) r ∙ omega (arith, front, back, size, within) in
+      record { len = len; rest = rw (end, drop_at (take n bytes) r n front) refl; rows = rw end refl }
+
+  abbrev tail_of : Step → List ℕ → Option (List ℕ) → List ℕ
+  tail_of step r o = next_mask step.rest (λ rest. masked loose small most place.depth marked step.others rest) o ++ r
+
+  -- what comes after an element of the level
+  tail_has : (step : Step) (r : List ℕ) (o : Option (List ℕ)) → length r ≡ left (rest_next_of step o)
+      → (length (tail_of step r o) ≡ tail_len step o)
+      × (rest_next_of step (again (tail_of step r o) o) ≡ again r (rest_next_of step o))
+      × (rows_next_of bytes step (again (tail_of step r o) o) ≡ rows_next_of bytes step o)
+  tail_has step r None size =
+      let join = length-append (undrawn step.rest) r in
+      (omega (arith, undrawn_len step.rest, size), refl, refl)
+  tail_has step r (Some rest) size =
+      let known = inner loose marked place.depth step.others rest in
+      let join = length-append (masked loose small most place.depth marked step.others rest) r in
+      let len : length (tail_of step r (Some rest)) ≡ length rest = omega (arith, known.len, size) in
+      (len, known.same r size, rw len (known.rows r size (after place bytes rest)))
+
+  -- an element, and what comes after it
+  step_has : (step : Step) (r : List ℕ) → end_at loose marked some bytes ≡ None
+      → step_at loose place.depth some bytes ≡ Some step
+      → length r ≡ left (rest_next_of step (rest_after loose most (place.depth + 1) step))
+      → Has (next_bytes loose small most (place.depth + 1) step
+      (tail_of step r (rest_after loose most (place.depth + 1) step)))
+      (again r (rest_next_of step (rest_after loose most (place.depth + 1) step)))
+      (step_rows (hidden loose small) most place some step
+      ++ rows_next_of bytes step (rest_after loose most (place.depth + 1) step))
+  unfolding step_at
+  step_has step r is at size =
+      let depth : ℕ = place.depth + 1 in
+      let t : List ℕ = tail_of step r (rest_after loose most depth step) in
+      let (len, rest, rows) = tail_has step r (rest_after loose most depth step) size in
+      let (few, found) = some_if (nat_lt place.depth 64) (step_by loose loose some bytes) step at in
+      let begins = step_found loose loose some bytes step found in
+      let b = begins_masked loose loose loose small most depth some bytes step t begins inner len in
+      let other : List ℕ = next_bytes loose small most depth step t in
+      let next : Step = next_step loose small most depth step t in
+      let end : end_at loose marked some other ≡ None = b.end loose marked ∙ is in
+      let next_is : step_at loose place.depth some other ≡ Some next = rw few b.is in
+      let others : next.others ≡ step.others = ap (λ (x : Step). x.others) b.masks.like in
+      let own = element_same loose small most place some step t inner begins.element.last len b.masks in
+      record {
+        len = b.len;
+        rest = rw (end, next_is, b.masks.after, others) rest;
+        rows = row_step (hidden loose small) most marked place some other next end next_is
+            ∙ (ap (λ (x : List Row). x ++ rows_next_of other next (rest_after loose most depth next)) own
+            ∙ rw (b.masks.after, others, b.len)
+            (ap (λ (x : List Row). step_rows (hidden loose small) most place some step ++ x) rows));
+      }
+
+  level_has : (o : Option ℕ) (q : Option Step) → end_at loose marked some bytes ≡ o
+      → step_at loose place.depth some bytes ≡ q
+      → (r : List ℕ) → length r ≡ left (rest_of loose (suc most) place.depth marked some bytes)
+      → Has (masked loose small (suc most) place.depth marked some bytes ++ r)
+      (again r (rest_of loose (suc most) place.depth marked some bytes))
+      (rows_of (hidden loose small) (suc most) marked place some bytes)
+  level_has (Some n) q is at r size =
+      rw is (ended n r (end_found loose marked some bytes n is) is (rw is at size))
+  level_has None None is at r size =
+      let end = undrawn_end loose marked some bytes is in
+      let stop = undrawn_at loose place.depth some bytes in
+      rw (is, at, no_bytes r (rw (is, at) at size), append-nil (undrawn bytes))
+      (record { len = undrawn_len bytes; rest = rw (end, stop) refl; rows = rw (end, stop) refl })
+  level_has None (Some step) is at r size =
+      rw (is, at, append_assoc, append_assoc)
+      (step_has step r is at (rw (is, at) at size))
+
+pub masks_rest : (small : Bool) (most : ℕ) → Inner small most
+masks_rest small zero loose marked depth some bytes =
+    record { len = omega (arith, undrawn_len bytes); same = λ r size. refl; rows = λ r size place. refl }
+masks_rest small (suc most) loose marked depth some bytes =
+    let has = λ (place : Place). level_has loose small most marked (record place { depth = depth }) some bytes
+    (masks_rest small most) (end_at loose marked some bytes) (step_at loose depth some bytes) refl refl in
+    let any : Place = record { offset = 0; depth = depth; end = 0; is_public = false } in
+    let m : List ℕ = masked loose small (suc most) depth marked some bytes in
+    let r : List ℕ = replicate (left (rest_of loose (suc most) depth marked some bytes)) 0 in
+    let count : length r ≡ left (rest_of loose (suc most) depth marked some bytes) = length-replicate _ _ in
+    record {
+      len = omega (arith, length-append m r, count, (has any r count).len);
+      same = λ x size. (has any x size).rest;
+      rows = λ x size place. (has place x size).rows;
+    }

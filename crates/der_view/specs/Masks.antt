@@ -1,7 +1,6 @@
 -- Bytes in which each that isn't shown is 0, and each that isn't drawn FF.
 use Rattle.std.specs.Prelude.{◌≡◌, ◌+◌, ℕ, zero, suc, Bool, false, true, List, [], ◌∷◌, ◌++◌}
-use Rattle.std.specs.Prelude.{length}
-use Rattle.std.specs.Prelude.{take, drop, replicate, Option, Some, None}
+use Rattle.std.specs.Prelude.{length, take, drop, replicate, Option, Some, None}
 use Rattle.der_view.specs.Contents.{shown_len}
 use Rattle.der_view.specs.Grammar.{Component, Form, components}
 use Rattle.der_view.specs.Pictures.{plan_of, root_of, root_step}
@@ -41,15 +40,13 @@ abbrev pub masked_by : List ℕ → (Step → List ℕ) → (Step → Option (Li
 masked_by bytes content rest next (Some n) step = take n bytes
 masked_by bytes content rest next None None = undrawn bytes
 masked_by bytes content rest next None (Some step) =
-    step.head ++ (content step
-    ++ next_mask step.rest (λ after. next step.others after) (rest step))
+    step.head ++ (content step ++ next_mask step.rest (λ after. next step.others after) (rest step))
 
 -- a level: its headers, and what is shown of contents; without the bytes after it
 abbrev pub masked : Bool → Bool → ℕ → ℕ → Bool → List Component → List ℕ → List ℕ
 masked loose small zero depth marked some bytes = undrawn bytes
 masked loose small (suc most) depth marked some bytes =
-    masked_by bytes
-    (λ step. content_mask small
+    masked_by bytes (λ step. content_mask small
     (λ structure. masked (inside_loose step.component.2 loose) small most (depth + 1)
     (is_open step) (components structure) (inside_bytes step))
     (opened_of loose most (depth + 1) step) step)
