@@ -1,13 +1,12 @@
 -- The rows of a level are those of its mask, whatever as many bytes come after it.
-use Rattle.std.proofs.Common.{◌≡◌, ◌&&◌, ◌≤◌, ◌+◌, ℕ, Bool, true, false, List, [], ◌++◌, length, take, drop}
-use Rattle.std.proofs.Common.{refl, sym, ap, ◌∙◌, Option, Some, None, arith, append-nil, append_assoc, length-append}
-use Rattle.std.proofs.Common.{length-drop}
-use Rattle.std.proofs.lemmas.List.{drop_at, length-take-le, take_at}
+use Rattle.std.proofs.Common.{◌≡◌, ◌&&◌, ℕ, Bool, true, false, List, [], ◌++◌, length, take, drop, refl, sym, ap, ◌∙◌}
+use Rattle.std.proofs.Common.{Option, Some, None, arith, append-nil, append_assoc, length-append, length-drop}
+use Rattle.std.proofs.lemmas.List.{drop_at, length-take-le}
 use Rattle.std.specs.Option.{is_some}
 use Rattle.std.specs.Prelude.{if◌then◌else◌, is_none}
 use Rattle.der_view.specs.Contents.{is_primitive, is_shown, shown_in, shown_len}
 use Rattle.der_view.specs.Grammar.{Component, cases, components}
-use Rattle.der_view.specs.Masks.{content_mask, masked, masked_content, step_mask}
+use Rattle.der_view.specs.Masks.{masked, masked_content, step_mask}
 use Rattle.der_view.specs.Rows.{Step, admits, after_inside, chosen, front_len, has_bits, inside_bytes, inside_loose}
 use Rattle.der_view.specs.Rows.{is_followed, is_open, opened_in, opened_of, others_after, rest_after, rest_of}
 use Rattle.der_view.specs.declared.grammar.Content.{Content}
@@ -15,9 +14,8 @@ use Rattle.der_view.specs.declared.grammar.Content.TheVariants as contents
 use Rattle.der_view.specs.declared.grammar.Structure.{Structure}
 use Rattle.der_view.specs.declared.header.Header.{Header}
 use Rattle.der_view.proofs.MaskLemmas.{IsMasked, IsRows, IsTaken, MasksRest, again, bits_same, closed_content}
-use Rattle.der_view.proofs.MaskLemmas.{content_shown, front_within, kept_fits, kept_misfits, left, none_shown}
-use Rattle.der_view.proofs.MaskLemmas.{opened_rows, rest_closed, step_again, surely_shown, tail_len, zeros_bits}
-use Rattle.der_view.proofs.MaskLemmas.{zeros_followed}
+use Rattle.der_view.proofs.MaskLemmas.{content_shown, front_within, kept_fits, kept_misfits, left, opened_rows}
+use Rattle.der_view.proofs.MaskLemmas.{rest_closed, step_again, surely_shown, tail_len, zeros_bits, zeros_followed}
 use Rattle.der_view.proofs.StepLemmas.{Stays, step_like}
 
 -- ---- one element
@@ -54,34 +52,6 @@ none_kept : (loose small : Bool) (most depth : ℕ) (header : Header) (k : Conte
     ≡ None
 unfolding opened_in shown_len shown_in is_shown
 none_kept loose small most depth header k x is = grind (arith, zeros_followed, zeros_bits)
-
-none_masks : (loose small : Bool) (most depth : ℕ) (step : Step) (t : List ℕ) → IsTaken step
-    → opened_of loose most depth step ≡ None → length t ≡ length step.rest
-    → MasksStep loose small most depth step
-    (step_like step (masked_content (shown_len small step.header step.component.2 step.content) step.content) t)
-    (masked_content (shown_len small step.header step.component.2 step.content) step.content) t
-none_masks loose small most depth step t taken none size =
-    let k : Content = step.component.2 in
-    let x : List ℕ = step.content in
-    let m : List ℕ = masked_content (shown_len small step.header k x) x in
-    let seen : IsMasked small step.header k x m = content_shown small step.header k x in
-    let kept : opened_of loose most depth (step_like step m t) ≡ None =
-    none_kept loose small most depth step.header k x none in
-    record {
-      like = refl;
-      stays = record {
-        len = seen.len;
-        follows = λ e. kept_fits small step.header k x (taken.admitted e);
-        misfits = λ e c misfit.
-            rw (free_kind step taken e) at (kept_misfits small step.header c x misfit);
-        chosen = chosen_same step.header step.component x m (surely_shown small step.header k x);
-      };
-      rest_len = size;
-      opened = kept ∙ sym none;
-      after = rw (kept, none) refl;
-      parts = refl;
-      shown = seen.shown;
-    }
 
 pub closed_left : (loose : Bool) (most depth : ℕ) (some : List Component) (bytes : List ℕ)
     → left (rest_of loose most depth false some bytes) ≡ 0
@@ -133,6 +103,10 @@ rows_kept loose most depth header contents.Point s x m u is fits bits same = is
 rows_kept loose most depth header (contents.Inside t) s x m u is fits bits same = is
 rows_kept loose most depth header contents.Free s x m u is fits bits same = is
 
+after_same : (marked : Bool) (o : Option (List ℕ)) (r rest t u : List ℕ) → (if marked then u else rest) ≡ t
+    → after_inside marked rest (again u o) ≡ again t (after_inside marked r o)
+after_same marked o r rest t u is = grind arith
+
 -- an element whose content is rows: with the mask of these, and u for the bytes after them
 rows_masks : (loose small : Bool) (most depth : ℕ) (step : Step) (s : Structure) (content rest t u : List ℕ)
     → IsTaken step → opened_of loose most depth step ≡ Some s
@@ -142,11 +116,9 @@ rows_masks : (loose small : Bool) (most depth : ℕ) (step : Step) (s : Structur
     (inside_bytes step) ++ u)
     → step_mask loose small most depth step ++ t ≡ content ++ rest → length rest ≡ length step.rest
     → length u ≡ left (rest_of (inside_loose step.component.2 loose) most depth (is_open step) (components s)
-    (inside_bytes step))
-    → ((o : Option (List ℕ)) → after_inside (is_open step) rest (again u o)
-    ≡ again t (after_inside (is_open step) step.rest o))
+    (inside_bytes step)) → (if is_open step then u else rest) ≡ t
     → MasksStep loose small most depth step (step_like step content rest) (step_mask loose small most depth step) t
-rows_masks loose small most depth step s content rest t u taken some inner is parts size left_len after' =
+rows_masks loose small most depth step s content rest t u taken some inner is parts size left_len tail =
     let k : Content = step.component.2 in
     let n : ℕ = front_len k in
     let x : List ℕ = step.content in
@@ -177,7 +149,7 @@ rows_masks loose small most depth step s content rest t u taken some inner is pa
       };
       rest_len = size;
       opened = kept ∙ sym some;
-      after = rw (kept, some, same) (after' (rest_of (inside_loose k loose) most depth (is_open step) (components s) y));
+      after = rw (kept, some, same) (after_same (is_open step) _ step.rest rest t u tail);
       parts = parts;
       shown = rw (rows.shown small content, rows.shown small x) refl;
     }
@@ -206,17 +178,9 @@ opened_masks loose small most depth step t taken inner size =
     last None at opens = taken.last at
     last (Some n) at opens = absurd (cc opens)
 
-    closed_tail : (o : Option (List ℕ)) → tail_len step (after_inside false step.rest o) ≡ length step.rest
-    closed_tail o = grind arith
-
-    open_tail : (o : Option (List ℕ)) → step.rest ≡ [] → tail_len step (after_inside true step.rest o) ≡ left o
-    open_tail o none = grind arith
-
-    closed_after : (o : Option (List ℕ)) → after_inside false t (again [] o) ≡ again t (after_inside false step.rest o)
-    closed_after o = grind arith
-
-    open_after : (o : Option (List ℕ)) → after_inside true [] (again t o) ≡ again t (after_inside true step.rest o)
-    open_after o = grind arith
+    tail_is : (marked : Bool) (o : Option (List ℕ)) → (marked ≡ true → step.rest ≡ [])
+        → tail_len step (after_inside marked step.rest o) ≡ (if marked then left o else length step.rest)
+    tail_is marked o none = grind (arith, none)
 
     by_opened : (o : Option Structure) (b : Bool) → opened_of loose most depth step ≡ o → is_open step ≡ b
         → MasksStep loose small most depth step (step_again b step m t) m t
@@ -224,18 +188,35 @@ opened_masks loose small most depth step t taken inner size =
         absurd (cc (sym opens ∙ closed_content (λ s y. is_followed most depth s y) loose step.header step.component.2
         step.content none (taken_fits step taken)))
     by_opened None false none opens =
-        let plain : m ≡ masked_content (shown_len small step.header step.component.2 step.content) step.content =
-        rw none refl in
+        let k : Content = step.component.2 in
+        let x : List ℕ = step.content in
+        let n : ℕ = shown_len small step.header k x in
+        let plain : m ≡ masked_content n x = rw none refl in
+        let seen : IsMasked small step.header k x (masked_content n x) = content_shown small step.header k x in
+        let kept : opened_of loose most depth (step_like step (masked_content n x) t) ≡ None =
+        none_kept loose small most depth step.header k x none in
         let rest : rest_after loose most depth step ≡ Some step.rest = rw none refl in
-        rw plain (none_masks loose small most depth step t taken none
-        (size ∙ ap (λ (o : Option (List ℕ)). tail_len step o) rest))
+        rw plain (record {
+          like = refl;
+          stays = record {
+            len = seen.len;
+            follows = λ e. kept_fits small step.header k x (taken.admitted e);
+            misfits = λ e c misfit. rw (free_kind step taken e) at (kept_misfits small step.header c x misfit);
+            chosen = chosen_same step.header step.component x (masked_content n x) (surely_shown small step.header k x);
+          };
+          rest_len = size ∙ ap (λ (o : Option (List ℕ)). tail_len step o) rest;
+          opened = kept ∙ sym none;
+          after = rw (kept, none) refl;
+          parts = refl;
+          shown = seen.shown;
+        })
     by_opened (Some s) false some opens =
         let plain : m ≡ take (front_len step.component.2) step.content ++ (mask_at s ++ []) =
         rw (some, append-nil (mask_at s)) refl in
         let rest : rest_after loose most depth step ≡ after_inside false step.rest (rest_at s) = rw (some, opens) refl in
         rows_masks loose small most depth step s m t t [] taken some (inner _ _ _ _ _) plain refl
-        (size ∙ (ap (λ (o : Option (List ℕ)). tail_len step o) rest ∙ closed_tail (rest_at s)))
-        (rw opens (sym (closed_left _ _ _ _ _))) (λ o. rw opens (closed_after o))
+        (size ∙ (ap (λ (o : Option (List ℕ)). tail_len step o) rest ∙ tail_is false (rest_at s) (λ e. absurd (cc e))))
+        (rw opens (sym (closed_left _ _ _ _ _))) (rw opens refl)
     by_opened (Some s) true some opens =
         let none : step.rest ≡ [] = last step.header.content_len refl opens in
         let plain : m ++ t ≡ take (front_len step.component.2) step.content ++ (mask_at s ++ t) =
@@ -243,5 +224,5 @@ opened_masks loose small most depth step t taken inner size =
         let rest : rest_after loose most depth step ≡ after_inside true step.rest (rest_at s) = rw (some, opens) refl in
         rows_masks loose small most depth step s (m ++ t) [] t t taken some (inner _ _ _ _ _) plain
         (sym (append-nil (m ++ t))) (ap length (sym none))
-        (size ∙ (ap (λ (o : Option (List ℕ)). tail_len step o) rest ∙ open_tail (rest_at s) none))
-        (λ o. rw opens (open_after o))
+        (size ∙ (ap (λ (o : Option (List ℕ)). tail_len step o) rest ∙ tail_is true (rest_at s) (λ e. none)))
+        (rw opens refl)

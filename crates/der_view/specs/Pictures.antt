@@ -1,11 +1,10 @@
 -- What bytes are, and their picture.
-use Rattle.std.specs.Prelude.{ℕ, ◌+◌, ◌-◌, ◌^◌, ◌==◌, ◌&&◌, ◌||◌, not, nat_lt, nat_le, min}
-use Rattle.std.specs.Prelude.{if◌then◌else◌, Bool, true, false, List, [], ◌∷◌, ◌++◌, length}
-use Rattle.std.specs.Prelude.{Option, Some, None}
+use Rattle.std.specs.Prelude.{ℕ, ◌+◌, ◌-◌, ◌^◌, ◌==◌, ◌&&◌, ◌||◌, not, nat_lt, nat_le, min, if◌then◌else◌, Bool, true}
+use Rattle.std.specs.Prelude.{false, List, [], ◌∷◌, ◌++◌, length, Option, Some, None}
 use Rattle.der_view.specs.Grammar.{Component, Form}
 use Rattle.der_view.specs.Retagged.{is_last, with_rows}
-use Rattle.der_view.specs.Rows.{Element, EndOfContents, How, NotDrawn, Row, Step, given_part}
-use Rattle.der_view.specs.Rows.{next_rows, rest_after, step_by, step_rows}
+use Rattle.der_view.specs.Rows.{Element, EndOfContents, How, NotDrawn, Row, Step, given_part, next_rows, rest_after}
+use Rattle.der_view.specs.Rows.{rest_of, rows_of, step_by, step_rows}
 use Rattle.der_view.specs.declared.grammar.TheConstants as elements
 use Rattle.der_view.specs.declared.grammar.forms.Secrecy.{Secrecy}
 use Rattle.der_view.specs.declared.grammar.forms.Secrecy.TheVariants as secrecies
@@ -14,7 +13,23 @@ use Rattle.der_view.specs.declared.plan.Plan.{Plan}
 use Rattle.der_view.specs.declared.plan.Way.{Way}
 use Rattle.der_view.specs.declared.plan.Way.TheVariants as ways
 use Rattle.der_view.specs.declared.retagged.Progress.TheVariants as steps
+use Rattle.der_view.specs.declared.walk.Level.{Level}
 use Rattle.der_view.specs.declared.walk.Place.{Place}
+
+-- ---- the rows of a level
+
+-- the rows that are told: none, if it is only tried how far bytes follow
+abbrev pub told : Bool → List Row → List Row
+told trial rows = if trial then [] else rows
+
+abbrev pub level_rows : How → ℕ → Place → Level → List Row
+level_rows how most place level =
+    told level.is_trial (rows_of how most level.is_open place level.components.now level.bytes.now)
+
+-- the bytes after it
+abbrev pub level_rest : Bool → ℕ → ℕ → Level → Option (List ℕ)
+level_rest loose most depth level =
+    rest_of loose most depth level.is_open level.components.now level.bytes.now
 
 -- ---- the rows of a root
 

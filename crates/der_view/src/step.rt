@@ -1,7 +1,7 @@
 //! The element that comes next, what it is, and what is shown of it.
-ghost use Rattle.std.specs.Prelude.{◌≡◌, ◌+◌, ◌≤◌, IfSome, length, option_map};
+ghost use Rattle.std.specs.Prelude.{◌≡◌, ◌+◌, ◌<◌, ◌≤◌, IfSome, length, option_map};
 ghost use Rattle.der_view.specs.Rows.{admits, chosen, component_at, element_at, end_at, fitting};
-ghost use Rattle.der_view.specs.Rows.{is_of, may_end, step_by, step_of};
+ghost use Rattle.der_view.specs.Rows.{is_of, may_end, step_at, step_by, step_of};
 
 use crate::content::{is_primitive, is_whole, shown_len};
 use crate::grammar::{Case, Component, Content, ELEMENT, Presence, Structure};
@@ -65,6 +65,30 @@ pub(crate) fn step_by<'c, 'a>(
         content,
         rest,
     })
+}
+
+/// The greatest number of elements inside each other.
+const MOST_LEVELS: usize = 64;
+
+/// Returns the next element of a level at this depth, at which there may be one.
+#[tactic(auto, unfolding(crate::specs::Rows::step_at))]
+pub(crate) fn step_at<'c, 'a>(
+    is_loose: bool,
+    depth: usize,
+    components: &'c [Component],
+    bytes: &'a [u8],
+) -> Option<Step<'c, 'a>>
+    ensures exact { option_map step_of result
+        ≡ step_at is_loose depth components.now bytes.now }
+    ensures depth { IfSome result (λ _. depth < 64) }
+    ensures within { IfSome result
+        (λ step. step.header.len + length step.content.now + length step.rest.now
+        ≡ length bytes.now) }
+{
+    if depth >= MOST_LEVELS {
+        return None;
+    }
+    step_by(is_loose, is_loose, components, bytes)
 }
 
 /// Returns the header and the content of the element that the bytes begin with, and the bytes after
