@@ -6,7 +6,6 @@ use Rattle.der_view.specs.Retagged.{is_last, with_rows}
 use Rattle.der_view.specs.Rows.{Element, EndOfContents, How, NotDrawn, Row, Step, given_part, next_rows, rest_after}
 use Rattle.der_view.specs.Rows.{rest_of, rows_of, step_by, step_rows}
 use Rattle.der_view.specs.declared.grammar.TheConstants as elements
-use Rattle.der_view.specs.declared.grammar.forms.Secrecy.{Secrecy}
 use Rattle.der_view.specs.declared.grammar.forms.Secrecy.TheVariants as secrecies
 use Rattle.der_view.specs.declared.grammar.forms.TheConstants as tables
 use Rattle.der_view.specs.declared.plan.Plan.{Plan}
@@ -153,15 +152,13 @@ is_tree bytes = whole_as false elements.ELEMENT bytes
 
 -- how bytes are drawn: strictly a private key's form, unless they are a whole tree that doesn't
 -- follow it, and one that can hold a private key, unless they are a whole tree
-abbrev pub is_strict : Secrecy → Bool → Bool → Bool
-is_strict secrecies.Private whole rooted = whole || not rooted
-is_strict secrecies.Closed whole rooted = not rooted
-is_strict secrecies.Public whole rooted = false
-
 abbrev pub way_of : Option Form → Bool → Bool → Way
 way_of None whole rooted = if rooted then ways.Loose else ways.Nothing
-way_of (Some form) whole rooted =
-    if is_strict form.1 whole rooted then ways.Strict else ways.Loose
+way_of (Some (root, secrecies.Private)) whole rooted =
+    if whole || not rooted then ways.Strict else ways.Loose
+way_of (Some (root, secrecies.Closed)) whole rooted =
+    if not rooted then ways.Strict else ways.Loose
+way_of (Some (root, secrecies.Public)) whole rooted = ways.Loose
 
 -- whether bytes are an ECPrivateKey but for the tag of its privateKey
 unfoldable pub is_retagged : List ℕ → Bool

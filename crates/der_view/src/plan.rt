@@ -1,6 +1,6 @@
 //! What bytes are, and how they are drawn.
-ghost use Rattle.std.specs.Prelude.{◌≡◌, ◌+◌, ◌<◌, ◌^◌, ◌&&◌, ◌||◌, false, nat_le};
-ghost use Rattle.std.specs.Prelude.{None, Some, if◌then◌else◌};
+ghost use Rattle.std.specs.Prelude.{◌≡◌, ◌+◌, ◌<◌, ◌^◌, ◌&&◌, ◌||◌, false, nat_le, None, Some};
+ghost use Rattle.std.specs.Prelude.{if◌then◌else◌};
 ghost use Rattle.der_view.specs.CountLaws.{capped_left, capped_none, capped_parts};
 ghost use Rattle.der_view.specs.Pictures.{best, capped, form_by, is_retagged, left_as, left_in};
 ghost use Rattle.der_view.specs.Pictures.{parts_as, parts_in, plan_of, way_of, whole_as};

@@ -47,15 +47,10 @@ pub(crate) fn step_by<'c, 'a>(
     let (header, content, rest) = element_at(may_be_cut, bytes)?;
     let found = component_at(*tag, &header, content, components);
     let follows = found.is_some();
-    let (component, others) = match found {
-        Some(found) => found,
-        None => {
-            if !may_misfit {
-                return None;
-            }
-            (ELEMENT, Structure::Any.components())
-        }
-    };
+    if !follows && !may_misfit {
+        return None;
+    }
+    let (component, others) = found.unwrap_or((ELEMENT, Structure::Any.components()));
     Some(Step {
         header,
         head: &bytes[..header.len],

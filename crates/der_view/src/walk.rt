@@ -1,6 +1,6 @@
 //! The rows of bytes.
-ghost use Rattle.std.specs.Prelude.{◌≡◌, ◌+◌, ◌<◌, ◌≤◌, ◌++◌, ◌∷◌, ◌&&◌, [], List, length};
-ghost use Rattle.std.specs.Prelude.{IfSome, nat_lt, not, option_map};
+ghost use Rattle.std.specs.Prelude.{◌≡◌, ◌+◌, ◌<◌, ◌≤◌, ◌++◌, ◌∷◌, ◌&&◌, [], List, length, IfSome};
+ghost use Rattle.std.specs.Prelude.{nat_lt, not, option_map};
 ghost use Rattle.der_view.specs.Pictures.{level_rest, level_rows, told};
 ghost use Rattle.der_view.specs.Rows.{Row, end_rows, front_len, given_part, inside_loose};
 ghost use Rattle.der_view.specs.Rows.{is_followed, opened_of, own_len, rest_after, rules_of};
