@@ -213,7 +213,8 @@ opened_masks loose small most depth step t taken inner size =
     by_opened (Some s) false some opens =
         let plain : m ≡ take (front_len step.component.2) step.content ++ (mask_at s ++ []) =
         rw (some, append-nil (mask_at s)) refl in
-        let rest : rest_after loose most depth step ≡ after_inside false step.rest (rest_at s) = rw (some, opens) refl in
+        let rest : rest_after loose most depth step ≡ after_inside false step.rest (rest_at s) =
+        rw (some, opens) refl in
         rows_masks loose small most depth step s m t t [] taken some (inner _ _ _ _ _) plain refl
         (size ∙ (ap (λ (o : Option (List ℕ)). tail_len step o) rest ∙ tail_is false (rest_at s) (λ e. absurd (cc e))))
         (rw opens (sym (closed_left _ _ _ _ _))) (rw opens refl)

@@ -3,7 +3,7 @@ use Rattle.std.proofs.Common.{◌≡◌, ℕ, zero, suc, ◌+◌, ◌<◌, ◌�
 use Rattle.std.proofs.Common.{drop, refl, sym, ap, ◌∙◌, Option, Some, None, Ok, Result, arith, length-append}
 use Rattle.std.proofs.Common.{append-nil, take-append-drop}
 use Rattle.std.proofs.lemmas.Bool.Decides.{nat_tests}
-use Rattle.std.proofs.lemmas.List.{length-take-le, length-drop, take_at, drop_at, length-replicate}
+use Rattle.std.proofs.lemmas.List.{length-take-le as take-len, length-drop, take_at, drop_at, length-replicate}
 use Rattle.std.specs.Prelude.{if◌then◌else◌}
 use Rattle.der_view.specs.Grammar.{Component}
 use Rattle.der_view.specs.Headers.{header_of}
@@ -43,13 +43,13 @@ parts_len : (cut : Bool) (bytes : List ℕ) (header : Header) (o : Option ℕ) (
     → parts_by cut bytes header o ≡ Some (header, content, rest)
     → (length (drop header.len bytes) ≡ length content + length rest) × (o ≡ None → rest ≡ [])
 parts_len cut bytes header o content rest is =
-    grind (arith, nat_tests, length-take-le {A = ℕ}, length-drop {A = ℕ})
+    grind (arith, nat_tests, take-len {A = ℕ}, length-drop {A = ℕ})
 
 parts_again : (cut : Bool) (bytes others : List ℕ) (header : Header) (o : Option ℕ) (content rest m r : List ℕ)
     → parts_by cut bytes header o ≡ Some (header, content, rest) → drop header.len others ≡ m ++ r
     → length m ≡ length content → length r ≡ length rest → parts_by cut others header o ≡ Some (header, m, r)
 parts_again cut bytes others header o content rest m r is new one two =
-    grind (arith, nat_tests, no_bytes, append-nil {A = ℕ}, length-append {A = ℕ}, length-take-le {A = ℕ}, take_at, drop_at)
+    grind (arith, nat_tests, no_bytes, append-nil {A = ℕ}, length-append {A = ℕ}, take-len {A = ℕ}, take_at, drop_at)
 
 pub found : (cut : Bool) (bytes : List ℕ) (header : Header) (content rest : List ℕ)
     → element_at cut bytes ≡ Some (header, content, rest) → HasElement cut bytes header content rest
@@ -58,7 +58,7 @@ found cut bytes header content rest is =
     let known = element_is cut bytes (header_of bytes) header content rest is in
     let parts = parts_len cut bytes header header.content_len content rest known.1 in
     let within = header_front [] bytes [] header known.0 in
-    let size : length (take n bytes) ≡ n = length-take-le n bytes within.1 in
+    let size : length (take n bytes) ≡ n = take-len n bytes within.1 in
     record {
       is_header = known.0;
       some = within.0;
@@ -160,7 +160,7 @@ step_found cut misfit some (tag ∷ tail) step is = by_element (element_at cut (
           free = s.free;
           again = λ m r stays size.
               let same = component_again m (fitting tag some) step c stays ∙ sym s.component in
-              let front = take_at (take n (tag ∷ tail)) (m ++ r) n (length-take-le n (tag ∷ tail) h.within) in
+              let front = take_at (take n (tag ∷ tail)) (m ++ r) n (take-len n (tag ∷ tail) h.within) in
               ap (λ (x : List ℕ). step_by cut misfit some (x ++ (m ++ r))) s.head
               ∙ (step_from cut misfit n tag tail (m ++ r) some _ h.some (h.again m r stays.len size)
               ∙ (ap (λ (o : Option (Component × List Component)). step_made misfit

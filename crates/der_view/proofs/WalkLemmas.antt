@@ -45,7 +45,8 @@ level_end how (suc most) place level n positive is = rw is refl
 pub level_stop : (how : How) (most : ℕ) (place : Place) (level : Level)
     → (0 < most → (end_at how.loose level.is_open level.components.now level.bytes.now ≡ None)
     × (step_at how.loose place.depth level.components.now level.bytes.now ≡ None))
-    → (level_rows how most place level ≡ level_rows how 0 place level) × (level_rest how.loose most place.depth level ≡ None)
+    → (level_rows how most place level ≡ level_rows how 0 place level)
+    × (level_rest how.loose most place.depth level ≡ None)
 level_stop how zero place level stop = (refl, refl)
 level_stop how (suc most) place level stop =
     let is = stop (omega arith) in (rw (is.0, is.1) refl, rw (is.0, is.1) refl)
@@ -56,8 +57,8 @@ pub record IsNext (how : How) (most few : ℕ) (place : Place) (level : Level) (
   pub goes : end_at how.loose level.is_open level.components.now level.bytes.now ≡ None
   pub is : step_at how.loose place.depth level.components.now level.bytes.now ≡ Some step
 
-pub level_last : (how : How) (most few : ℕ) (place : Place) (level : Level) (step : Step) → IsNext how most few place level step
-    → rest_after how.loose few (place.depth + 1) step ≡ None
+pub level_last : (how : How) (most few : ℕ) (place : Place) (level : Level) (step : Step)
+    → IsNext how most few place level step → rest_after how.loose few (place.depth + 1) step ≡ None
     → (level_rows how most place level ≡ told level.is_trial (step_rows how few place level.components.now step))
     × (level_rest how.loose most place.depth level ≡ None)
 level_last how most few place level step next none = (

@@ -1,6 +1,5 @@
 -- Bytes that aren't drawn and elements of the root, counted row by row.
-use Rattle.std.proofs.Common.{◌≡◌, ℕ, ◌+◌, ◌==◌, List, [], ◌∷◌, ◌++◌, refl, sym, arith, Bool, true}
-use Rattle.std.proofs.Common.{false, if◌then◌else◌}
+use Rattle.std.proofs.Common.{◌≡◌, ℕ, ◌+◌, List, [], ◌∷◌, ◌++◌, refl, sym, arith}
 use Rattle.der_view.specs.Pictures.{capped, left_in, parts_in}
 use Rattle.der_view.specs.Rows.{Element, EndOfContents, NotDrawn, Row}
 
@@ -18,14 +17,7 @@ left_join (NotDrawn place expected len content ∷ first) second = omega
 parts_join : (first second : List Row) → parts_in (first ++ second)
     ≡ parts_in first + parts_in second
 parts_join [] second = sym (omega arith)
-parts_join (Element place element ∷ first) second =
-    chosen (place.depth == 1) (parts_in first) (parts_in second) (parts_in (first
-    ++ second)) (parts_join first second)
-  where
-    chosen : (test : Bool) (a b n : ℕ) → n ≡ a + b
-        → (if test then 1 + n else n) ≡ (if test then 1 + a else a) + b
-    chosen true a b n e = omega (arith, e)
-    chosen false a b n e = e
+parts_join (Element place element ∷ first) second = grind (arith, parts_join first second)
 parts_join (EndOfContents place ∷ first) second = parts_join first second
 parts_join (NotDrawn place expected len content ∷ first) second = parts_join first second
 

@@ -1,10 +1,11 @@
 -- What bytes are, and their picture.
-use Rattle.std.specs.Prelude.{ℕ, ◌+◌, ◌-◌, ◌^◌, ◌==◌, ◌&&◌, ◌||◌, not, nat_lt, nat_le, min, if◌then◌else◌, Bool, true}
-use Rattle.std.specs.Prelude.{false, List, [], ◌∷◌, ◌++◌, length, Option, Some, None}
+use Rattle.std.specs.Prelude.{ℕ, ◌+◌, ◌-◌, ◌^◌, ◌==◌, ◌&&◌, ◌||◌, not, nat_lt, nat_le, min}
+use Rattle.std.specs.Prelude.{if◌then◌else◌, Bool, true, false, List, [], ◌∷◌, ◌++◌, length, Option}
+use Rattle.std.specs.Prelude.{Some, None}
 use Rattle.der_view.specs.Grammar.{Component, Form}
 use Rattle.der_view.specs.Retagged.{is_last, with_rows}
-use Rattle.der_view.specs.Rows.{Element, EndOfContents, How, NotDrawn, Row, Step, given_part, next_rows, rest_after}
-use Rattle.der_view.specs.Rows.{rest_of, rows_of, step_by, step_rows}
+use Rattle.der_view.specs.Rows.{Element, EndOfContents, How, NotDrawn, Row, Step, given_part}
+use Rattle.der_view.specs.Rows.{next_rows, rest_after, rest_of, rows_of, step_by, step_rows}
 use Rattle.der_view.specs.declared.grammar.TheConstants as elements
 use Rattle.der_view.specs.declared.grammar.forms.Secrecy.TheVariants as secrecies
 use Rattle.der_view.specs.declared.grammar.forms.TheConstants as tables

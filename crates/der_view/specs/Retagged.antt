@@ -1,5 +1,6 @@
 -- Keys whose private key has another tag: how far the elements of a root are those of one.
-use Rattle.std.specs.Prelude.{ℕ, ◌==◌, ◌&&◌, ◌||◌, not, nat_lt, if◌then◌else◌, Bool, true, false, List, [], ◌∷◌}
+use Rattle.std.specs.Prelude.{ℕ, ◌==◌, ◌&&◌, ◌||◌, not, nat_lt, if◌then◌else◌, Bool, true, false}
+use Rattle.std.specs.Prelude.{List, [], ◌∷◌}
 use Rattle.der_view.specs.Rows.{Element, EndOfContents, NotDrawn, Row}
 use Rattle.der_view.specs.declared.retagged.Progress.{Progress}
 use Rattle.der_view.specs.declared.retagged.Progress.TheVariants as steps

@@ -315,27 +315,23 @@ fn opened_of<R: Rows>(
     match step.component.2 {
         Content::Inside(structure) => Some((structure, 0, is_loose)),
         Content::Whole(structure) => {
-            if !follows(rows, rules, most, place, structure, step.content) {
-                return None;
-            }
-            Some((structure, 0, false))
+            follows(rows, rules, most, place, structure, step.content).then_some((
+                structure, 0, false,
+            ))
         }
         Content::Bits(structure) => match step.content {
             [0x00, bits @ ..] if !bits.is_empty() => {
-                if !follows(rows, rules, most, place, structure, bits) {
-                    return None;
-                }
-                Some((structure, 1, false))
+                follows(rows, rules, most, place, structure, bits).then_some((structure, 1, false))
             }
             _ => None,
         },
         content => {
             let is_elements = is_loose || matches!(&content, Content::Free);
-            if header.content_len.is_none() || header.tag.constructed && is_elements {
-                Some((Structure::Any, 0, is_loose))
-            } else {
-                None
-            }
+            (header.content_len.is_none() || header.tag.constructed && is_elements).then_some((
+                Structure::Any,
+                0,
+                is_loose,
+            ))
         }
     }
 }

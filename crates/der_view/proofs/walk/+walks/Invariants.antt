@@ -18,7 +18,8 @@ decreases-draw_step g l = 4 * l.most + 3
 abbrev pub invariant-walk-loop-most : goal.invariant-walk-loop-most
 invariant-walk-loop-most g l =
     ((final : g.row.R.Denot) → g.R.Rows.tells l.rows final (level_rows (rules_of l.rules) l.most l.place l.level)
-    → g.R.Rows.tells l.initial.rows final (level_rows (rules_of l.rules) l.initial.most l.initial.place l.initial.level))
+    → g.R.Rows.tells l.initial.rows final
+    (level_rows (rules_of l.rules) l.initial.most l.initial.place l.initial.level))
     × (level_rest l.rules.is_loose l.initial.most l.initial.place.depth l.initial.level
     ≡ level_rest l.rules.is_loose l.most l.place.depth l.level)
     × (l.most ≤ l.initial.most) × (length l.level.bytes.now ≤ length l.initial.level.bytes.now)
