@@ -28,3 +28,4 @@ pub mod SourceLemmas
 pub mod StepLemmas
 pub mod TextLemmas
 pub mod ValueLemmas
+pub mod WalkLemmas

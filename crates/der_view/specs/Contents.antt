@@ -1,6 +1,6 @@
 -- What is shown of a content.
-use Rattle.std.specs.Prelude.{ℕ, ◌==◌, ◌&&◌, ◌||◌, not, nat_le, nat_lt, if◌then◌else◌, min}
-use Rattle.std.specs.Prelude.{Bool, true, false, List, [], ◌∷◌, length, Option, Some, None, is_some}
+use Rattle.std.specs.Prelude.{ℕ, ◌==◌, ◌&&◌, ◌||◌, not, nat_le, nat_lt, if◌then◌else◌, min, Bool}
+use Rattle.std.specs.Prelude.{true, false, List, [], ◌∷◌, length, Option, Some, None, is_some}
 use Rattle.der_view.specs.Headers.{is_type}
 use Rattle.der_view.specs.declared.grammar.Content.{Content}
 use Rattle.der_view.specs.declared.grammar.Content.TheVariants as contents
@@ -43,9 +43,6 @@ is_wide_text (high ∷ []) = false
 is_wide_text (high ∷ low ∷ bytes) =
     not (high == 0x00 && not (is_plain low)) && is_wide_text bytes
 
-abbrev pub is_digit : ℕ → Bool
-is_digit byte = nat_le 0x30 byte && nat_le byte 0x39
-
 abbrev pub is_last : ℕ → List ℕ → Bool
 is_last byte [] = byte == 0x5A
 is_last byte (next ∷ bytes) = false
@@ -53,7 +50,8 @@ is_last byte (next ∷ bytes) = false
 -- X.690 section 11.7: digits, and a Z after them
 abbrev pub is_time : List ℕ → Bool
 is_time [] = false
-is_time (byte ∷ bytes) = if is_digit byte then is_time bytes else is_last byte bytes
+is_time (byte ∷ bytes) =
+    if nat_le 0x30 byte && nat_le byte 0x39 then is_time bytes else is_last byte bytes
 
 -- whether a content is valid for its tag
 unfoldable pub is_valid : Tag → List ℕ → Bool

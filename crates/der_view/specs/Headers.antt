@@ -1,8 +1,7 @@
 -- The header of an element in BER, and what is none (X.690 section 8.1).
 use Rattle.std.specs.Prelude.{◌==◌, ℕ, zero, suc, ◌+◌, ◌-◌, ◌*◌, ◌/◌, ◌%◌, nat_lt, ◌||◌}
-use Rattle.std.specs.Prelude.{if◌then◌else◌, List, [], ◌∷◌, length, take, drop}
-use Rattle.std.specs.Prelude.{Option, Some, None, is_none, Result, Ok, Err, ◌&&◌, not, Bool}
-use Rattle.std.specs.Prelude.{false}
+use Rattle.std.specs.Prelude.{if◌then◌else◌, List, [], ◌∷◌, length, take, drop, Option, Some, None}
+use Rattle.std.specs.Prelude.{is_none, Result, Ok, Err, ◌&&◌, not, Bool, false}
 use Rattle.sec1_der.specs.Elements.{number_of}
 use Rattle.der_view.specs.declared.header.Class.{Class}
 use Rattle.der_view.specs.declared.header.Class.TheVariants as classes
@@ -11,18 +10,13 @@ use Rattle.der_view.specs.declared.header.Tag.{Tag}
 use Rattle.der_view.specs.declared.header.ElementFault.{ElementFault}
 use Rattle.der_view.specs.declared.header.ElementFault.TheVariants as faults
 
--- X.690 section 8.1.2.2, table 1: the class, in bits 8 and 7 of the first byte
-abbrev pub class_of : ℕ → Class
-class_of first =
-    if first / 0x40 == 0 then classes.Universal
-    else (if first / 0x40 == 1 then classes.Application
-    else (if first / 0x40 == 2 then classes.Context else classes.Private))
-
--- X.690 sections 8.1.2.2 and 8.1.2.5: the class, whether the content is elements, which bit 6 says,
--- and the number
+-- X.690 sections 8.1.2.2 and 8.1.2.5: the class, which bits 8 and 7 say, whether the content is
+-- elements, which bit 6 says, and the number
 abbrev pub tag_of : ℕ → ℕ → Tag
 tag_of first number = record {
-  class = class_of first;
+  class = if first / 0x40 == 0 then classes.Universal
+      else (if first / 0x40 == 1 then classes.Application
+      else (if first / 0x40 == 2 then classes.Context else classes.Private));
   constructed = first / 0x20 % 2 == 1;
   number = number;
 }

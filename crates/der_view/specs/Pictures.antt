@@ -1,20 +1,35 @@
 -- What bytes are, and their picture.
 use Rattle.std.specs.Prelude.{ℕ, ◌+◌, ◌-◌, ◌^◌, ◌==◌, ◌&&◌, ◌||◌, not, nat_lt, nat_le, min}
-use Rattle.std.specs.Prelude.{if◌then◌else◌, Bool, true, false, List, [], ◌∷◌, ◌++◌, length}
-use Rattle.std.specs.Prelude.{Option, Some, None}
+use Rattle.std.specs.Prelude.{if◌then◌else◌, Bool, true, false, List, [], ◌∷◌, ◌++◌, length, Option}
+use Rattle.std.specs.Prelude.{Some, None}
 use Rattle.der_view.specs.Grammar.{Component, Form}
 use Rattle.der_view.specs.Retagged.{is_last, with_rows}
 use Rattle.der_view.specs.Rows.{Element, EndOfContents, How, NotDrawn, Row, Step, given_part}
-use Rattle.der_view.specs.Rows.{next_rows, rest_after, step_by, step_rows}
+use Rattle.der_view.specs.Rows.{next_rows, rest_after, rest_of, rows_of, step_by, step_rows}
 use Rattle.der_view.specs.declared.grammar.TheConstants as elements
-use Rattle.der_view.specs.declared.grammar.forms.Secrecy.{Secrecy}
 use Rattle.der_view.specs.declared.grammar.forms.Secrecy.TheVariants as secrecies
 use Rattle.der_view.specs.declared.grammar.forms.TheConstants as tables
 use Rattle.der_view.specs.declared.plan.Plan.{Plan}
 use Rattle.der_view.specs.declared.plan.Way.{Way}
 use Rattle.der_view.specs.declared.plan.Way.TheVariants as ways
 use Rattle.der_view.specs.declared.retagged.Progress.TheVariants as steps
+use Rattle.der_view.specs.declared.walk.Level.{Level}
 use Rattle.der_view.specs.declared.walk.Place.{Place}
+
+-- ---- the rows of a level
+
+-- the rows that are told: none, if it is only tried how far bytes follow
+abbrev pub told : Bool → List Row → List Row
+told trial rows = if trial then [] else rows
+
+abbrev pub level_rows : How → ℕ → Place → Level → List Row
+level_rows how most place level =
+    told level.is_trial (rows_of how most level.is_open place level.components.now level.bytes.now)
+
+-- the bytes after it
+abbrev pub level_rest : Bool → ℕ → ℕ → Level → Option (List ℕ)
+level_rest loose most depth level =
+    rest_of loose most depth level.is_open level.components.now level.bytes.now
 
 -- ---- the rows of a root
 
@@ -138,15 +153,13 @@ is_tree bytes = whole_as false elements.ELEMENT bytes
 
 -- how bytes are drawn: strictly a private key's form, unless they are a whole tree that doesn't
 -- follow it, and one that can hold a private key, unless they are a whole tree
-abbrev pub is_strict : Secrecy → Bool → Bool → Bool
-is_strict secrecies.Private whole rooted = whole || not rooted
-is_strict secrecies.Closed whole rooted = not rooted
-is_strict secrecies.Public whole rooted = false
-
 abbrev pub way_of : Option Form → Bool → Bool → Way
 way_of None whole rooted = if rooted then ways.Loose else ways.Nothing
-way_of (Some form) whole rooted =
-    if is_strict form.1 whole rooted then ways.Strict else ways.Loose
+way_of (Some (root, secrecies.Private)) whole rooted =
+    if whole || not rooted then ways.Strict else ways.Loose
+way_of (Some (root, secrecies.Closed)) whole rooted =
+    if not rooted then ways.Strict else ways.Loose
+way_of (Some (root, secrecies.Public)) whole rooted = ways.Loose
 
 -- whether bytes are an ECPrivateKey but for the tag of its privateKey
 unfoldable pub is_retagged : List ℕ → Bool

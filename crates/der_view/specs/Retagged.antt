@@ -5,25 +5,17 @@ use Rattle.der_view.specs.Rows.{Element, EndOfContents, NotDrawn, Row}
 use Rattle.der_view.specs.declared.retagged.Progress.{Progress}
 use Rattle.der_view.specs.declared.retagged.Progress.TheVariants as steps
 
--- whether private keys on P-224, P-256, P-384 or P-521 have so many bytes
-abbrev pub is_key_len : ℕ → Bool
-is_key_len len = len == 28 || (len == 32 || (len == 48 || len == 66))
-
--- the tag of a primitive type of X.680, but no OCTET STRING's
-abbrev pub is_other : ℕ → Bool
-is_other tag = nat_lt tag 0x20 && not (tag == 0x04)
-
 -- RFC 5915 section 3: after an element of the root with this tag and length
 unfoldable pub with_tag : Progress → ℕ → ℕ → Progress
 with_tag steps.Nothing tag len =
     if tag == 0x02 && len == 1 then steps.Version else steps.Others
-with_tag steps.Version tag len = if is_other tag then steps.Replaced len else steps.Others
+with_tag steps.Version tag len =
+    if nat_lt tag 0x20 && not (tag == 0x04) then steps.Replaced len else steps.Others
 with_tag (steps.Replaced n) tag len =
     if tag == 0xA0 then steps.Parameters
     else (if tag == 0xA1 then steps.PublicKey else steps.Others)
 with_tag steps.Parameters tag len = if tag == 0xA1 then steps.PublicKey else steps.Others
-with_tag steps.PublicKey tag len = steps.Others
-with_tag steps.Others tag len = steps.Others
+with_tag _ tag len = steps.Others
 
 abbrev pub with_head : Progress → List ℕ → ℕ → Progress
 with_head progress [] len = steps.Others
@@ -45,9 +37,10 @@ abbrev pub with_rows : Progress → List Row → Progress
 with_rows progress [] = progress
 with_rows progress (row ∷ rows) = with_rows (with_row progress row) rows
 
--- whether no element has to follow, and one tells a key from other bytes
+-- whether no element has to follow, and one tells a key from other bytes, or it has as many as a
+-- private key on P-224, P-256, P-384 or P-521
 abbrev pub is_last : Progress → Bool
-is_last (steps.Replaced len) = is_key_len len
+is_last (steps.Replaced len) = len == 28 || (len == 32 || (len == 48 || len == 66))
 is_last steps.Parameters = true
 is_last steps.PublicKey = true
 is_last _ = false

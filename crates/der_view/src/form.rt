@@ -3,10 +3,10 @@ ghost use Rattle.std.specs.Prelude.{◌≡◌};
 ghost use Rattle.der_view.specs.Pictures.{is_public, root_of, rows_by, rules_by};
 ghost use Rattle.der_view.specs.Rows.{rules_of};
 
-use crate::grammar::{Component, ELEMENT, Form, Secrecy};
+use crate::grammar::{Component, ELEMENT, Secrecy};
 use crate::plan::{Plan, Way};
-use crate::root::{draw_as, draw_rest, first_place};
-use crate::walk::{Rows, Rules};
+use crate::root::{draw_as, draw_rest};
+use crate::walk::{Place, Rows, Rules};
 
 /// Tells the rows of bytes by a plan, which [`plan_of`](crate::plan_of) makes. With `all` each
 /// content is given, and each element is a row.
@@ -15,12 +15,18 @@ pub fn draw_rows<R: Rows>(rows: &mut R, plan: Plan, bytes: &[u8], all: bool)
     ensures { R.tells rows.old rows.new (rows_by plan all bytes.now) }
 {
     let rules = rules_by(plan, bytes, all);
-    match plan.way {
-        Way::Nothing => draw_rest(rows, &rules, first_place(false, bytes.len()), bytes),
-        _ => {
-            draw_as(rows, &rules, root_of(plan.form), is_public(plan), bytes);
-        }
+    if let Way::Nothing = plan.way {
+        let place = Place {
+            offset: 0,
+            depth: 0,
+            end: bytes.len(),
+            is_public: false,
+        };
+        draw_rest(rows, &rules, place, bytes);
+        return;
     }
+    let (root, is_public) = root_of(plan);
+    draw_as(rows, &rules, root, is_public, bytes);
 }
 
 /// Returns the rules of a plan.
@@ -38,22 +44,14 @@ fn rules_by(plan: Plan, bytes: &[u8], all: bool) -> Rules<'_>
     }
 }
 
-/// Returns the component that a root is.
-fn root_of(form: Option<Form>) -> Component
-    ensures { result ≡ root_of form }
-{
-    match form {
-        Some(form) => form.0,
-        None => ELEMENT,
-    }
-}
-
-/// Returns `true` if no part can hold a private key.
-fn is_public(plan: Plan) -> bool
-    ensures { result ≡ is_public plan }
+/// Returns the component that a root is, and whether no part can hold a private key.
+fn root_of(plan: Plan) -> (Component, bool)
+    ensures root { result.0 ≡ root_of plan.form }
+    ensures public { result.1 ≡ is_public plan }
 {
     match plan.form {
-        Some((_, Secrecy::Public)) => plan.is_whole && plan.is_tree,
-        _ => false,
+        Some((root, Secrecy::Public)) => (root, plan.is_whole && plan.is_tree),
+        Some((root, _)) => (root, false),
+        None => (ELEMENT, false),
     }
 }

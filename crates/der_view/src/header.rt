@@ -1,8 +1,7 @@
 //! The header of an element in BER (X.690 section 8.1).
 ghost use Rattle.std.specs.Prelude.{◌≡◌, ◌<◌, ◌≤◌, ◌+◌, ◌*◌, ◌%◌, ◌∷◌, [], length, IfOk};
 ghost use Rattle.sec1_der.specs.Elements.{number_of};
-ghost use Rattle.der_view.specs.Headers.{class_of, header_of, is_type, length_at, number_after};
-ghost use Rattle.der_view.specs.Headers.{tag_at};
+ghost use Rattle.der_view.specs.Headers.{header_of, is_type, length_at, number_after, tag_at};
 
 /// Why bytes begin with no header.
 #[derive(Clone, Copy)]
@@ -116,23 +115,16 @@ fn tag_at(bytes: &[u8]) -> Result<(Tag, usize), ElementFault>
         high_number(rest)?
     };
     let tag = Tag {
-        class: class_of(first),
+        class: match first / 0x40 {
+            0 => Class::Universal,
+            1 => Class::Application,
+            2 => Class::Context,
+            _ => Class::Private,
+        },
         constructed: first / 0x20 % 2 == 1,
         number,
     };
     Ok((tag, len + 1))
-}
-
-/// Returns the class of a tag that begins with this byte.
-fn class_of(first: u8) -> Class
-    ensures { result ≡ class_of first }
-{
-    match first / 0x40 {
-        0 => Class::Universal,
-        1 => Class::Application,
-        2 => Class::Context,
-        _ => Class::Private,
-    }
 }
 
 /// Returns the number of a tag in the high form (X.690 section 8.1.2.4), which these bytes after

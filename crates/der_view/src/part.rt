@@ -54,28 +54,24 @@ fn element_from(bytes: &[u8], offset: usize) -> Option<&[u8]>
         (λ part. part.now ≡ take (length part.now) (drop offset bytes.now)) }
 {
     let mut start = 0;
-    while start < offset && start < bytes.len() {
-        let after = &bytes[start..];
-        let Ok(header) = Header::read(after) else {
+    while start <= offset && start < bytes.len() {
+        let part = &bytes[start..];
+        let Ok(header) = Header::read(part) else {
             return None;
         };
+        if start == offset {
+            return match header.content_len {
+                Some(len) => Some(&part[..(header.len + len).min(part.len())]),
+                None => Some(part),
+            };
+        }
         let content = start + header.len;
         start = match header.content_len {
             Some(len) if len <= bytes.len() - content && content + len <= offset => content + len,
             // a BIT STRING has the number of its unused bits in front (X.690 section 8.6.2)
-            _ if after[0] == 0x03 => content + 1,
+            _ if part[0] == 0x03 => content + 1,
             _ => content,
         };
     }
-    if start != offset || start >= bytes.len() {
-        return None;
-    }
-    let part = &bytes[offset..];
-    let Ok(header) = Header::read(part) else {
-        return None;
-    };
-    match header.content_len {
-        Some(len) => Some(&part[..(header.len + len).min(part.len())]),
-        None => Some(part),
-    }
+    None
 }

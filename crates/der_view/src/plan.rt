@@ -1,10 +1,9 @@
 //! What bytes are, and how they are drawn.
-ghost use Rattle.std.specs.Prelude.{◌≡◌, ◌+◌, ◌<◌, ◌^◌, ◌&&◌, ◌||◌, false, nat_le};
-ghost use Rattle.std.specs.Prelude.{None, Some, if◌then◌else◌};
+ghost use Rattle.std.specs.Prelude.{◌≡◌, ◌+◌, ◌<◌, ◌^◌, ◌&&◌, ◌||◌, false, nat_le, None, Some};
+ghost use Rattle.std.specs.Prelude.{if◌then◌else◌};
 ghost use Rattle.der_view.specs.CountLaws.{capped_left, capped_none, capped_parts};
-ghost use Rattle.der_view.specs.Pictures.{best, capped, form_by, is_nearer, is_strict, left_as};
-ghost use Rattle.der_view.specs.Pictures.{is_retagged, left_in, parts_as, parts_in, plan_of};
-ghost use Rattle.der_view.specs.Pictures.{way_of, whole_as};
+ghost use Rattle.der_view.specs.Pictures.{best, capped, form_by, is_retagged, left_as, left_in};
+ghost use Rattle.der_view.specs.Pictures.{parts_as, parts_in, plan_of, way_of, whole_as};
 
 use crate::grammar::{Component, ELEMENT, FIRST, Form, OTHERS, Secrecy};
 use crate::retagged::is_retagged;
@@ -48,71 +47,43 @@ pub fn plan_of(bytes: &[u8]) -> Plan
     ensures { result ≡ plan_of bytes.now }
 {
     let (nearest, shape) = best(bytes, FIRST, shape_as(FIRST.0, bytes), &OTHERS);
-    let known = known_as(nearest, shape.is_whole, shape.parts);
-    let is_whole = shape.is_whole;
     let is_tree = shape_as(ELEMENT, bytes).is_whole;
-    let form = form_by(known, is_tree, bytes);
+    let form = form_of(nearest, shape, is_tree, bytes);
     Plan {
         form,
-        way: way_of(form, is_whole, is_tree),
-        is_whole,
+        way: way_of(form, shape.is_whole, is_tree),
+        is_whole: shape.is_whole,
         is_tree,
         is_cut: is_cut(bytes),
         len: bytes.len(),
     }
 }
 
-/// Returns the form of bytes, of which so many parts follow it.
-fn known_as(form: Form, is_whole: bool, parts: usize) -> Option<Form>
-    ensures { result ≡ (if is_whole || nat_le 2 parts then Some form else None) }
+/// Returns the form of bytes: the nearest if they are known by it, or that of a key with another
+/// tag.
+fn form_of(nearest: Form, shape: Shape, is_tree: bool, bytes: &[u8]) -> Option<Form>
+    ensures { result ≡ form_by (if shape.is_whole || nat_le 2 shape.parts then Some nearest
+        else None) (is_tree && is_retagged bytes.now) }
 {
-    if is_whole || parts >= 2 {
-        Some(form)
-    } else {
-        None
-    }
-}
-
-/// Returns the form of bytes: the one that they are known by, or that of a key with another tag.
-fn form_by(known: Option<Form>, is_tree: bool, bytes: &[u8]) -> Option<Form>
-    ensures { result ≡ form_by known (is_tree && is_retagged bytes.now) }
-{
-    let None = known else {
-        return known;
-    };
-    if is_tree && is_retagged(bytes) {
+    if shape.is_whole || shape.parts >= 2 {
+        Some(nearest)
+    } else if is_tree && is_retagged(bytes) {
         Some(FIRST)
     } else {
         None
     }
 }
 
-/// Returns how bytes are drawn that follow a form or not, and are a whole tree or not.
+/// Returns how bytes are drawn that follow a form or not, and are a whole tree or not. Where those
+/// of a form that can hold a private key don't follow it, headers may be private bytes.
 fn way_of(form: Option<Form>, is_whole: bool, is_tree: bool) -> Way
     ensures { result ≡ way_of form is_whole is_tree }
 {
     match form {
-        Some(form) => {
-            if is_strict(form.1, is_whole, is_tree) {
-                Way::Strict
-            } else {
-                Way::Loose
-            }
-        }
-        None if is_tree => Way::Loose,
-        None => Way::Nothing,
-    }
-}
-
-/// Returns `true` if bytes of a form with such parts are drawn as far as they follow it: where they
-/// don't, headers may be private bytes.
-fn is_strict(secrecy: Secrecy, is_whole: bool, is_tree: bool) -> bool
-    ensures { result ≡ is_strict secrecy is_whole is_tree }
-{
-    match secrecy {
-        Secrecy::Private => is_whole || !is_tree,
-        Secrecy::Closed => !is_tree,
-        Secrecy::Public => false,
+        Some((_, Secrecy::Private)) if is_whole || !is_tree => Way::Strict,
+        Some((_, Secrecy::Closed)) if !is_tree => Way::Strict,
+        None if !is_tree => Way::Nothing,
+        _ => Way::Loose,
     }
 }
 
@@ -131,18 +102,11 @@ fn best(bytes: &[u8], first: Form, shape: Shape, others: &[Form]) -> (Form, Shap
         return (first, shape);
     };
     let other = shape_as(second.0, bytes);
-    if is_nearer(other, shape) {
+    if other.left < shape.left || (other.left == shape.left && other.is_whole && !shape.is_whole) {
         best(bytes, *second, other, others)
     } else {
         best(bytes, first, shape, others)
     }
-}
-
-/// Returns `true` if the first of two shapes is nearer to its form than the second.
-fn is_nearer(shape: Shape, other: Shape) -> bool
-    ensures { result ≡ is_nearer shape.left shape.is_whole other.left other.is_whole }
-{
-    shape.left < other.left || (shape.left == other.left && shape.is_whole && !other.is_whole)
 }
 
 /// How far bytes are of a form.
@@ -154,40 +118,33 @@ struct Shape {
     parts: usize,
     /// Whether all of them are.
     is_whole: bool,
+    ghost left_fits: { left < 2 ^ 64 },
+    ghost parts_fit: { parts < 2 ^ 64 },
 }
 
 /// Returns how far the bytes are of a form with this root.
+#[tactic(auto, using(crate::proofs::PictureLemmas::counted), unfolding(crate::specs::Pictures::left_as, crate::specs::Pictures::parts_as))]
 fn shape_as(root: Component, bytes: &[u8]) -> Shape
     ensures left { result.left ≡ left_as root bytes.now }
     ensures parts { result.parts ≡ parts_as root bytes.now }
     ensures whole { result.is_whole ≡ whole_as false root bytes.now }
 {
-    let mut counter = Counter { left: 0, parts: 0 };
+    let mut shape = Shape {
+        left: 0,
+        parts: 0,
+        is_whole: false,
+    };
     let rules = Rules {
         is_loose: false,
         shows_small: false,
         given: &[],
     };
-    let is_whole = draw_as(&mut counter, &rules, root, false, bytes);
-    Shape {
-        left: counter.left,
-        parts: counter.parts,
-        is_whole,
-    }
+    let is_whole = draw_as(&mut shape, &rules, root, false, bytes);
+    shape.is_whole = is_whole;
+    shape
 }
 
-/// Counts bytes that aren't drawn, and the elements that are in the root alone.
-#[derive(Drop)]
-struct Counter {
-    /// The number of the bytes.
-    left: usize,
-    /// The number of the elements.
-    parts: usize,
-    ghost left_fits: { left < 2 ^ 64 },
-    ghost parts_fit: { parts < 2 ^ 64 },
-}
-
-impl Rows for Counter {
+impl Rows for Shape {
     ghost tells = { λ a b rows. (capped b.left ≡ capped (a.left + left_in rows))
         × (capped b.parts ≡ capped (a.parts + parts_in rows)) };
 

@@ -1,8 +1,7 @@
 //! Keys whose private key has another tag.
 ghost use Rattle.std.specs.Prelude.{◌≡◌};
 ghost use Rattle.der_view.specs.Pictures.{is_retagged};
-ghost use Rattle.der_view.specs.Retagged.{is_key_len, is_last, is_other, with_head};
-ghost use Rattle.der_view.specs.Retagged.{with_root, with_tag};
+ghost use Rattle.der_view.specs.Retagged.{is_last, with_tag};
 
 use crate::grammar::{Component, ELEMENT};
 use crate::root::draw_as;
@@ -43,26 +42,15 @@ pub(crate) fn is_retagged(bytes: &[u8]) -> bool
 
 impl Progress {
     /// Returns `true` if no element has to follow, and one that has come tells a key from other
-    /// bytes: its parameters, its public key, or as many bytes as a private key has.
+    /// bytes: its parameters, its public key, or as many bytes as a private key on P-224, P-256,
+    /// P-384 or P-521 has.
     fn is_last(self) -> bool
         ensures { result ≡ is_last self }
     {
         match self {
-            Progress::Replaced(len) => is_key_len(len),
-            Progress::Parameters => true,
-            Progress::PublicKey => true,
+            Progress::Replaced(len) => len == 28 || len == 32 || len == 48 || len == 66,
+            Progress::Parameters | Progress::PublicKey => true,
             _ => false,
-        }
-    }
-
-    /// Returns the progress after an element of the root, with a header and a content of this
-    /// length.
-    fn with_head(self, head: &[u8], len: usize) -> Progress
-        ensures { result ≡ with_head self head.now len }
-    {
-        match head {
-            [tag, ..] => self.with_tag(*tag, len),
-            _ => Progress::Others,
         }
     }
 
@@ -74,37 +62,13 @@ impl Progress {
     {
         match self {
             Progress::Nothing if tag == 0x02 && len == 1 => Progress::Version,
-            Progress::Version if is_other(tag) => Progress::Replaced(len),
+            Progress::Version if tag < 0x20 && tag != 0x04 => Progress::Replaced(len),
             Progress::Replaced(_) if tag == 0xA0 => Progress::Parameters,
             Progress::Replaced(_) if tag == 0xA1 => Progress::PublicKey,
             Progress::Parameters if tag == 0xA1 => Progress::PublicKey,
             _ => Progress::Others,
         }
     }
-
-    /// Returns the progress after the root, with this header.
-    fn with_root(self, head: &[u8]) -> Progress
-        ensures { result ≡ with_root self head.now }
-    {
-        match head {
-            [0x30, ..] => self,
-            _ => Progress::Others,
-        }
-    }
-}
-
-/// Returns `true` if this is the tag of a primitive type of X.680, and no OCTET STRING's.
-fn is_other(tag: u8) -> bool
-    ensures { result ≡ is_other tag }
-{
-    tag < 0x20 && tag != 0x04
-}
-
-/// Returns `true` if private keys on P-224, P-256, P-384 or P-521 have so many bytes.
-fn is_key_len(len: usize) -> bool
-    ensures { result ≡ is_key_len len }
-{
-    len == 28 || len == 32 || len == 48 || len == 66
 }
 
 impl Rows for Progress {
@@ -115,11 +79,12 @@ impl Rows for Progress {
     ghost tells = { λ a b rows. b ≡ with_rows a rows };
 
     fn element(&mut self, place: Place, element: &Element) {
-        if place.depth == 0 {
-            *self = self.with_root(element.head);
-        } else if place.depth == 1 {
-            *self = self.with_head(element.head, element.len);
-        }
+        *self = match element.head {
+            _ if place.depth > 1 => *self,
+            [0x30, ..] if place.depth == 0 => *self,
+            [tag, ..] if place.depth == 1 => self.with_tag(*tag, element.len),
+            _ => Progress::Others,
+        };
     }
 
     fn end_of_contents(&mut self, _place: Place) {}

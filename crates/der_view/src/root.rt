@@ -1,28 +1,15 @@
 //! The rows of bytes whose root is one component.
 ghost use Rattle.std.specs.Prelude.{◌≡◌};
-ghost use Rattle.der_view.specs.Pictures.{first_place, is_complete, is_cut, rest_rows, root_step};
-ghost use Rattle.der_view.specs.Pictures.{rows_as, whole_as};
+ghost use Rattle.der_view.specs.Pictures.{is_complete, is_cut, rest_rows, rows_as, whole_as};
 ghost use Rattle.der_view.specs.Rows.{rules_of, step_of};
 
 use crate::grammar::{Component, ELEMENT};
 use crate::step::{Step, step_by};
-use crate::walk::{Place, Rows, Rules, draw_step, given_part};
-
-/// Returns the beginning of an input of so many bytes.
-pub(crate) fn first_place(is_public: bool, end: usize) -> Place
-    ensures { result ≡ first_place is_public end }
-{
-    Place {
-        offset: 0,
-        depth: 0,
-        end,
-        is_public,
-    }
-}
+use crate::walk::{Level, Place, Rows, Rules, draw_step, given_part};
 
 /// Tells the rows of bytes whose root is this component, and of which all contents are public or
 /// not. Returns whether they follow it, and no bytes come after it.
-#[tactic(auto, unfolding(crate::specs::Pictures::rows_as, crate::specs::Pictures::whole_as))]
+#[tactic(auto, unfolding(crate::specs::Pictures::rows_as, crate::specs::Pictures::whole_as, crate::specs::Pictures::root_step))]
 pub(crate) fn draw_as<R: Rows>(
     rows: &mut R,
     rules: &Rules,
@@ -34,22 +21,37 @@ pub(crate) fn draw_as<R: Rows>(
         (rows_as (rules_of rules.now) root is_public bytes.now) }
     ensures whole { result ≡ whole_as rules.now.is_loose root bytes.now }
 {
-    let place = first_place(is_public, bytes.len());
+    let end = bytes.len();
+    let place = Place {
+        offset: 0,
+        depth: 0,
+        end,
+        is_public,
+    };
     let roots = [root];
     let Some(step) = step_by(true, false, &roots, bytes) else {
-        let content = given_part(rules.given, 0, bytes.len());
-        rows.not_drawn(place, &roots, bytes.len(), content);
+        let content = given_part(rules.given, 0, end);
+        rows.not_drawn(place, &roots, end, content);
         return false;
     };
-    let Some(rest) = draw_step(rows, rules, bytes.len(), place, &roots, &step) else {
-        return false;
+    let level = Level {
+        is_open: false,
+        is_trial: false,
+        components: &roots,
+        bytes,
     };
-    let after = Place {
-        offset: bytes.len() - rest.len(),
-        ..place
-    };
-    draw_rest(rows, rules, after, rest);
-    rest.is_empty() && is_complete(&step)
+    match draw_step(rows, rules, end, place, &level, &step) {
+        None => false,
+        Some([]) => is_complete(&step),
+        Some(rest) => {
+            let after = Place {
+                offset: end - rest.len(),
+                ..place
+            };
+            draw_rest(rows, rules, after, rest);
+            false
+        }
+    }
 }
 
 /// Tells the row of bytes after a root.
@@ -73,6 +75,7 @@ fn is_complete(step: &Step) -> bool
 }
 
 /// Returns `true` if the content of the root is longer than what is there of it.
+#[tactic(auto, unfolding(crate::specs::Pictures::is_cut, crate::specs::Pictures::root_step))]
 pub(crate) fn is_cut(bytes: &[u8]) -> bool
     ensures { result ≡ is_cut bytes.now }
 {

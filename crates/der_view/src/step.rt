@@ -1,8 +1,7 @@
 //! The element that comes next, what it is, and what is shown of it.
-ghost use Rattle.std.specs.Prelude.{◌≡◌, ◌+◌, ◌≤◌, IfSome, length, option_map};
-ghost use Rattle.der_view.specs.Rows.{admits, chosen, comes_again, component_at, element_at};
-ghost use Rattle.der_view.specs.Rows.{end_at, fitting, has_tag, is_of, may_be_absent, may_end};
-ghost use Rattle.der_view.specs.Rows.{others_after, step_by, step_of};
+ghost use Rattle.std.specs.Prelude.{◌≡◌, ◌+◌, ◌<◌, ◌≤◌, IfSome, length, option_map};
+ghost use Rattle.der_view.specs.Rows.{admits, chosen, component_at, element_at, end_at, fitting};
+ghost use Rattle.der_view.specs.Rows.{is_of, may_end, step_at, step_by, step_of};
 
 use crate::content::{is_primitive, is_whole, shown_len};
 use crate::grammar::{Case, Component, Content, ELEMENT, Presence, Structure};
@@ -48,15 +47,10 @@ pub(crate) fn step_by<'c, 'a>(
     let (header, content, rest) = element_at(may_be_cut, bytes)?;
     let found = component_at(*tag, &header, content, components);
     let follows = found.is_some();
-    let (component, others) = match found {
-        Some(found) => found,
-        None => {
-            if !may_misfit {
-                return None;
-            }
-            (ELEMENT, Structure::Any.components())
-        }
-    };
+    if !follows && !may_misfit {
+        return None;
+    }
+    let (component, others) = found.unwrap_or((ELEMENT, Structure::Any.components()));
     Some(Step {
         header,
         head: &bytes[..header.len],
@@ -66,6 +60,30 @@ pub(crate) fn step_by<'c, 'a>(
         content,
         rest,
     })
+}
+
+/// The greatest number of elements inside each other.
+const MOST_LEVELS: usize = 64;
+
+/// Returns the next element of a level at this depth, at which there may be one.
+#[tactic(auto, unfolding(crate::specs::Rows::step_at))]
+pub(crate) fn step_at<'c, 'a>(
+    is_loose: bool,
+    depth: usize,
+    components: &'c [Component],
+    bytes: &'a [u8],
+) -> Option<Step<'c, 'a>>
+    ensures exact { option_map step_of result
+        ≡ step_at is_loose depth components.now bytes.now }
+    ensures depth { IfSome result (λ _. depth < 64) }
+    ensures within { IfSome result
+        (λ step. step.header.len + length step.content.now + length step.rest.now
+        ≡ length bytes.now) }
+{
+    if depth >= MOST_LEVELS {
+        return None;
+    }
+    step_by(is_loose, is_loose, components, bytes)
 }
 
 /// Returns the header and the content of the element that the bytes begin with, and the bytes after
@@ -92,7 +110,9 @@ fn element_at(may_be_cut: bool, bytes: &[u8]) -> Option<(Header, &[u8], &[u8])>
     Some((header, &there[..len], &there[len..]))
 }
 
-/// Returns the first component that such an element can be, and those that may come after it.
+/// Returns the first component that such an element can be, and those that may come after it. If
+/// it is an identifier that decides them, it does so only as far as it is shown.
+#[tactic(auto, unfolding(crate::specs::Rows::others_after))]
 fn component_at<'a>(
     tag: u8,
     header: &Header,
@@ -103,26 +123,14 @@ fn component_at<'a>(
         ≡ component_at tag header.now content.now components.now }
 {
     let (component, others) = fitting(tag, components)?;
-    if admits(header, component.2, content) {
-        Some((component, others_after(header, component, content, others)))
-    } else {
-        None
+    if !admits(header, component.2, content) {
+        return None;
     }
-}
-
-/// Returns the components that may come after an element. If it is an identifier that decides
-/// them, it does so only as far as it is shown.
-#[tactic(auto, unfolding(crate::specs::Rows::others_after))]
-fn others_after<'a>(
-    header: &Header,
-    component: Component,
-    content: &[u8],
-    others: &'a [Component],
-) -> &'a [Component]
-    ensures { result.now ≡ others_after header.now component content.now others.now }
-{
     let len = shown_len(false, header, component.2, content);
-    chosen(component.3.cases(), &content[..len], others)
+    Some((
+        component,
+        chosen(component.3.cases(), &content[..len], others),
+    ))
 }
 
 /// Returns the components after an identifier with these bytes: those of its first case.
@@ -140,53 +148,23 @@ fn chosen<'a>(cases: &[Case], bytes: &[u8], others: &'a [Component]) -> &'a [Com
 }
 
 /// Returns the first component that an element with this tag can be, and those that may come after
-/// it.
+/// it. A Time is a UTCTime or a GeneralizedTime.
 fn fitting(tag: u8, components: &[Component]) -> Option<(Component, &[Component])>
     ensures { option_map (λ found. (found.0, found.1.now)) result ≡ fitting tag components.now }
 {
     let [component, others @ ..] = components else {
         return None;
     };
-    if has_tag(component.0, tag) {
-        let after = if comes_again(component.1) {
-            components
-        } else {
-            others
+    let expected = component.0;
+    if expected == tag || (expected == 0x17 && tag == 0x18) || expected == 0x00 {
+        return match component.1 {
+            Presence::Many => Some((*component, components)),
+            _ => Some((*component, others)),
         };
-        Some((*component, after))
-    } else if may_be_absent(component.1) {
-        fitting(tag, others)
-    } else {
-        None
     }
-}
-
-/// Returns `true` if an element with this tag can be a component with the first one.
-fn has_tag(expected: u8, tag: u8) -> bool
-    ensures { result ≡ has_tag expected tag }
-{
-    expected == tag || (expected == 0x17 && tag == 0x18) || expected == 0x00
-}
-
-/// Returns `true` if such an element may be absent.
-fn may_be_absent(presence: Presence) -> bool
-    ensures { result ≡ may_be_absent presence }
-{
-    match presence {
-        Presence::Needed => false,
-        Presence::Optional => true,
-        Presence::Many => true,
-    }
-}
-
-/// Returns `true` if such an element may come again after itself.
-fn comes_again(presence: Presence) -> bool
-    ensures { result ≡ comes_again presence }
-{
-    match presence {
-        Presence::Needed => false,
-        Presence::Optional => false,
-        Presence::Many => true,
+    match component.1 {
+        Presence::Needed => None,
+        _ => fitting(tag, others),
     }
 }
 
@@ -197,7 +175,10 @@ pub(crate) fn may_end(components: &[Component]) -> bool
     let [component, others @ ..] = components else {
         return true;
     };
-    may_be_absent(component.1) && may_end(others)
+    match component.1 {
+        Presence::Needed => false,
+        _ => may_end(others),
+    }
 }
 
 /// Returns the number of bytes that end a level here: those of an end-of-contents (X.690 section
@@ -228,13 +209,8 @@ fn admits(header: &Header, content: Content, bytes: &[u8]) -> bool
         Content::Short(most) => is_whole(header, bytes) && bytes.len() <= usize::from(most),
         Content::Version => is_whole(header, bytes) && bytes.len() == 1,
         Content::Of(family) => is_whole(header, bytes) && is_of(family.identifiers(), bytes),
-        Content::Point => is_primitive(header),
-        Content::Whole(_) => is_primitive(header),
-        Content::Bits(_) => is_primitive(header),
-        Content::Hidden => true,
-        Content::Shown(_) => true,
-        Content::Inside(_) => true,
-        Content::Free => true,
+        Content::Point | Content::Whole(_) | Content::Bits(_) => is_primitive(header),
+        _ => true,
     }
 }
 

@@ -1,16 +1,16 @@
 //! The rows of bytes.
-ghost use Rattle.std.specs.Prelude.{◌≡◌, ◌+◌, ◌<◌, ◌≤◌, ◌^◌, ◌++◌, ◌∷◌, [], List, length};
-ghost use Rattle.std.specs.Prelude.{◌&&◌, IfSome, false, if◌then◌else◌, nat_lt, not, option_map};
-ghost use Rattle.der_view.specs.Rows.{Row, end_rows, front_len, given_part, has_bits};
-ghost use Rattle.der_view.specs.Rows.{inside_bytes, inside_rules, is_elements, opened_of, own_len};
-ghost use Rattle.der_view.specs.Rows.{rest_after, rest_of, rows_of, rules_of, step_of, step_rows};
-ghost use Rattle.der_view.specs.Rows.{view, view_of};
+ghost use Rattle.std.specs.Prelude.{◌≡◌, ◌+◌, ◌<◌, ◌≤◌, ◌++◌, ◌∷◌, ◌&&◌, [], List, length, IfSome};
+ghost use Rattle.std.specs.Prelude.{nat_lt, not, option_map};
+ghost use Rattle.der_view.specs.Pictures.{level_rest, level_rows, told};
+ghost use Rattle.der_view.specs.Rows.{Row, end_rows, front_len, given_part, inside_loose};
+ghost use Rattle.der_view.specs.Rows.{is_followed, opened_of, own_len, rest_after, rules_of};
+ghost use Rattle.der_view.specs.Rows.{step_of, step_rows, view, view_of};
 ghost use Rattle.der_view.specs.Rows.Row.{Element as Drawn, EndOfContents, NotDrawn};
 
 use crate::content::shown_len;
 use crate::grammar::{Component, Content, Structure};
 use crate::header::Header;
-use crate::step::{Step, end_at, may_end, step_by};
+use crate::step::{Step, end_at, may_end, step_at};
 
 /// Where a row begins.
 #[derive(Clone, Copy)]
@@ -64,10 +64,10 @@ impl Element<'_> {
     pub fn own_len(&self) -> usize
         ensures { result ≡ own_len (view_of self.now) }
     {
-        if self.opened {
-            front_len(self.component.2)
-        } else {
-            self.len
+        match self.component.2 {
+            _ if !self.opened => self.len,
+            Content::Bits(_) => 1,
+            _ => 0,
         }
     }
 }
@@ -116,16 +116,13 @@ pub(crate) fn given_part(given: &[u8], start: usize, len: usize) -> &[u8]
     &after[..len.min(after.len())]
 }
 
-/// The greatest number of elements inside each other.
-const MOST_LEVELS: usize = 64;
-
 /// A level: the bytes inside an element, or all.
 #[derive(Clone, Copy)]
 pub(crate) struct Level<'c, 'a> {
-    /// Where they begin.
-    pub(crate) place: Place,
     /// Whether an end-of-contents ends it.
     pub(crate) is_open: bool,
+    /// Whether it is only tried how far they follow: no row is told.
+    pub(crate) is_trial: bool,
     /// The components that may come.
     pub(crate) components: &'c [Component],
     /// The bytes.
@@ -135,52 +132,53 @@ pub(crate) struct Level<'c, 'a> {
 /// Tells the rows of a level, at most so many elements, one after or inside the other. Returns the
 /// bytes after it, unless the rows end in it.
 #[cycle(walks)]
-pub(crate) fn walk<'a, R: Rows>(
+fn walk<'a, R: Rows>(
     rows: &mut R,
     rules: &Rules,
     most: usize,
+    place: Place,
     level: &Level<'_, 'a>,
 ) -> Option<&'a [u8]>
-    requires within { level.now.place.offset + length level.now.bytes.now ≤ level.now.place.end }
-    ensures rows { R.tells rows.old rows.new (rows_of (rules_of rules.now) most level.now.is_open
-        level.now.place level.now.components.now level.now.bytes.now) }
-    ensures rest { option_map (λ rest. rest.now) result ≡ rest_of rules.now.is_loose most
-        level.now.place.depth level.now.is_open level.now.components.now level.now.bytes.now }
+    requires within { place.offset + length level.now.bytes.now ≤ place.end }
+    ensures rows { R.tells rows.old rows.new
+        (level_rows (rules_of rules.now) most place level.now) }
+    ensures rest { option_map (λ rest. rest.now) result
+        ≡ level_rest rules.now.is_loose most place.depth level.now }
     ensures len { IfSome result (λ rest. length rest.now ≤ length level.now.bytes.now) }
 {
     let mut most = most;
-    let mut place = level.place;
-    let mut components = level.components;
-    let mut bytes = level.bytes;
+    let mut place = place;
+    let mut level = *level;
     while most > 0 {
+        let components = level.components;
+        let bytes = level.bytes;
         if let Some(len) = end_at(rules.is_loose, level.is_open, components, bytes) {
-            draw_end(rows, place, components, len);
+            draw_end(rows, place, &level, len);
             return Some(&bytes[len..]);
         }
-        if place.depth >= MOST_LEVELS {
-            break;
-        }
-        let Some(step) = step_by(rules.is_loose, rules.is_loose, components, bytes) else {
+        let Some(step) = step_at(rules.is_loose, place.depth, components, bytes) else {
             break;
         };
         most -= 1;
-        let rest = draw_step(rows, rules, most, place, components, &step)?;
+        let rest = draw_step(rows, rules, most, place, &level, &step)?;
         place.offset += bytes.len() - rest.len();
-        components = step.others;
-        bytes = rest;
+        level.components = step.others;
+        level.bytes = rest;
     }
-    let len = place.end - place.offset;
-    let content = given_part(rules.given, place.offset, len);
-    rows.not_drawn(place, components, len, content);
+    draw_left(rows, rules, place, &level);
     None
 }
 
 /// Tells the rows where a level ends, by so many bytes.
-fn draw_end<R: Rows>(rows: &mut R, place: Place, components: &[Component], len: usize)
-    ensures { R.tells rows.old rows.new (end_rows place components.now len) }
+fn draw_end<R: Rows>(rows: &mut R, place: Place, level: &Level, len: usize)
+    ensures { R.tells rows.old rows.new
+        (told level.now.is_trial (end_rows place level.now.components.now len)) }
 {
-    if !may_end(components) {
-        rows.not_drawn(place, components, 0, &[]);
+    if level.is_trial {
+        return;
+    }
+    if !may_end(level.components) {
+        rows.not_drawn(place, level.components, 0, &[]);
     }
     if len > 0 {
         let around = Place {
@@ -191,50 +189,61 @@ fn draw_end<R: Rows>(rows: &mut R, place: Place, components: &[Component], len: 
     }
 }
 
-/// Tells the rows of an element and of what is inside it. Returns the bytes after it, unless the
-/// rows end in it.
+/// Tells the row of the bytes of a level that aren't drawn: all up to the end.
+fn draw_left<R: Rows>(rows: &mut R, rules: &Rules, place: Place, level: &Level)
+    requires within { place.offset ≤ place.end }
+    ensures { R.tells rows.old rows.new
+        (level_rows (rules_of rules.now) 0 place level.now) }
+{
+    if level.is_trial {
+        return;
+    }
+    let len = place.end - place.offset;
+    let content = given_part(rules.given, place.offset, len);
+    rows.not_drawn(place, level.components, len, content);
+}
+
+/// Tells the rows of an element of a level and of what is inside it. Returns the bytes after it,
+/// unless the rows end in it.
 #[cycle(walks)]
 pub(crate) fn draw_step<'a, R: Rows>(
     rows: &mut R,
     rules: &Rules,
     most: usize,
     place: Place,
-    components: &[Component],
+    level: &Level,
     step: &Step<'_, 'a>,
 ) -> Option<&'a [u8]>
     requires within { place.offset + step.now.header.len + length step.now.content.now ≤ place.end }
     requires depth { place.depth < 64 }
-    ensures rows { R.tells rows.old rows.new
-        (step_rows (rules_of rules.now) most place components.now
-        (step_of step.now)) }
+    ensures rows { R.tells rows.old rows.new (told level.now.is_trial (step_rows
+        (rules_of rules.now) most place level.now.components.now (step_of step.now))) }
     ensures rest { option_map (λ rest. rest.now) result
         ≡ rest_after rules.now.is_loose most (place.depth + 1) (step_of step.now) }
     ensures len { IfSome result
         (λ rest. length rest.now ≤ length step.now.content.now + length step.now.rest.now) }
 {
-    let opened = opened_of(rules.is_loose, most, place.depth + 1, step);
-    draw_element(rows, rules, place, components, opened.is_some(), step);
-    let Some(structure) = opened else {
+    let mut inside = Place {
+        offset: place.offset + step.header.len,
+        depth: place.depth + 1,
+        ..place
+    };
+    let opened = opened_of(rows, rules, most, inside, step);
+    draw_element(rows, rules, place, level, opened.is_some(), step);
+    let Some((structure, front, is_loose)) = opened else {
         return Some(step.rest);
     };
     let is_open = step.header.content_len.is_none();
-    let front = front_len(step.component.2);
-    let level = Level {
-        place: Place {
-            offset: place.offset + step.header.len + front,
-            depth: place.depth + 1,
-            ..place
-        },
+    inside.offset += front;
+    let elements = Level {
         is_open,
+        is_trial: level.is_trial,
         components: structure.components(),
-        bytes: elements_of(step),
+        bytes: &step.content[front..],
     };
-    let inside = inside_rules(rules, step.component.2);
-    let after = walk(rows, &inside, most, &level)?;
-    if is_open {
-        return Some(after);
-    }
-    Some(step.rest)
+    let rules = Rules { is_loose, ..*rules };
+    let after = walk(rows, &rules, most, inside, &elements)?;
+    Some(if is_open { after } else { step.rest })
 }
 
 /// Tells the row of an element, whose content is rows or not.
@@ -242,197 +251,114 @@ fn draw_element<R: Rows>(
     rows: &mut R,
     rules: &Rules,
     place: Place,
-    components: &[Component],
+    level: &Level,
     opened: bool,
     step: &Step,
 )
     requires within { place.offset + step.now.header.len + length step.now.content.now ≤ place.end }
-    ensures { R.tells rows.old rows.new (Drawn place (view (rules_of rules.now) place components.now
-        opened (step_of step.now)) ∷ []) }
+    ensures { R.tells rows.old rows.new (told level.now.is_trial (Drawn place
+        (view (rules_of rules.now) place level.now.components.now opened
+        (step_of step.now)) ∷ [])) }
 {
+    if level.is_trial {
+        return;
+    }
+    let header = step.header;
     let content = step.content;
-    let shown = shown_len(rules.shows_small, &step.header, step.component.2, content);
-    let len = if step.header.content_len.is_none() {
-        0
-    } else {
-        content.len()
-    };
-    let start = place.offset + step.header.len;
+    let shown = shown_len(rules.shows_small, &header, step.component.2, content);
+    let start = place.offset + header.len;
     let element = Element {
-        header: step.header,
+        header,
         head: step.head,
         component: step.component,
-        expected: expected_of(step.follows, components),
+        expected: if step.follows { &[] } else { level.components },
         follows: step.follows,
-        len,
+        len: if header.content_len.is_none() {
+            0
+        } else {
+            content.len()
+        },
         shown: &content[..shown],
-        content: given_of(rules.given, opened, start, content.len()),
+        content: if opened {
+            &[]
+        } else {
+            given_part(rules.given, start, content.len())
+        },
         opened,
     };
     rows.element(place, &element);
 }
 
-/// Borrows the components that were expected, if the element is none of them.
-fn expected_of(follows: bool, components: &[Component]) -> &[Component]
-    ensures { result.now ≡ (if follows then [] else components.now) }
-{
-    if follows { &[] } else { components }
-}
-
-/// Borrows so many bytes after these of what is given, if they are no rows.
-fn given_of(given: &[u8], opened: bool, start: usize, len: usize) -> &[u8]
-    ensures { result.now ≡ (if opened then [] else given_part given.now start len) }
-{
-    if opened {
-        &[]
-    } else {
-        given_part(given, start, len)
-    }
-}
-
-/// Returns the rules inside a content. One that follows its structure to its end is drawn so.
-fn inside_rules<'a>(rules: &Rules<'a>, content: Content) -> Rules<'a>
-    ensures { rules_of result ≡ inside_rules (rules_of rules.now) content }
-{
-    match content {
-        Content::Whole(_) | Content::Bits(_) => Rules {
-            is_loose: false,
-            ..*rules
-        },
-        _ => *rules,
-    }
-}
-
-/// Returns the number of bytes of a content before its elements: of a BIT STRING that of its unused
-/// bits (X.690 section 8.6.2).
-fn front_len(content: Content) -> usize
-    ensures { result ≡ front_len content }
-{
-    match content {
-        Content::Bits(_) => 1,
-        _ => 0,
-    }
-}
-
-/// Borrows the elements of an element's content.
-fn elements_of<'a>(step: &Step<'_, 'a>) -> &'a [u8]
-    requires { front_len step.now.component.2 ≤ length step.now.content.now }
-    ensures { result.now ≡ inside_bytes (step_of step.now) }
-{
-    &step.content[front_len(step.component.2)..]
-}
-
-/// Returns `true` if a content of a BIT STRING has bits, of which none is unused (X.690 section
-/// 8.6.2).
-fn has_bits(content: &[u8]) -> bool
-    ensures { result ≡ has_bits content.now }
-{
-    match content {
-        [0x00, _, ..] => true,
-        _ => false,
-    }
-}
-
-/// Returns the structure that an element's content is drawn as. What is inside it begins at this
-/// depth, and has at most so many elements. Where it has no structure, it is any elements if it has
-/// an indefinite length, and in a loose walk if it is constructed.
-#[cycle(follows)]
+/// Returns the structure that an element's content is drawn as, the number of bytes before its
+/// elements, of which there are at most so many, and whether these may follow or not: not, if the
+/// content is rows because they do. Where it has no structure, it is any elements if it has an
+/// indefinite length, or is constructed and has no component or is drawn loosely.
+#[cycle(walks)]
 #[tactic(auto, unfolding(crate::specs::Rows::opened_in))]
-fn opened_of(is_loose: bool, most: usize, depth: usize, step: &Step) -> Option<Structure>
-    ensures exact { result ≡ opened_of is_loose most depth (step_of step.now) }
-    ensures front { IfSome result
-        (λ _. front_len step.now.component.2 ≤ length step.now.content.now) }
-{
-    match step.component.2 {
-        Content::Inside(structure) => Some(structure),
-        Content::Whole(structure) => {
-            rest_of(most, depth, false, structure.components(), step.content)?;
-            Some(structure)
-        }
-        Content::Bits(structure) => {
-            if !has_bits(step.content) {
-                return None;
-            }
-            rest_of(
-                most,
-                depth,
-                false,
-                structure.components(),
-                &step.content[1..],
-            )?;
-            Some(structure)
-        }
-        content => {
-            let header = &step.header;
-            if header.content_len.is_none()
-                || header.tag.constructed && is_elements(is_loose, content)
-            {
-                Some(Structure::Any)
-            } else {
-                None
-            }
-        }
-    }
-}
-
-/// Returns `true` if the content of a constructed element is any elements.
-fn is_elements(is_loose: bool, content: Content) -> bool
-    ensures { result ≡ is_elements is_loose content }
-{
-    match content {
-        Content::Free => true,
-        _ => is_loose,
-    }
-}
-
-/// Returns the bytes after a level, if its bytes follow the components.
-#[cycle(follows)]
-fn rest_of<'a>(
+fn opened_of<R: Rows>(
+    rows: &mut R,
+    rules: &Rules,
     most: usize,
-    depth: usize,
-    is_open: bool,
-    components: &[Component],
-    bytes: &'a [u8],
-) -> Option<&'a [u8]>
-    ensures exact { option_map (λ rest. rest.now) result
-        ≡ rest_of false most depth is_open components.now bytes.now }
-    ensures within { IfSome result (λ rest. length rest.now ≤ length bytes.now) }
+    place: Place,
+    step: &Step,
+) -> Option<(Structure, usize, bool)>
+    requires within { place.offset + length step.now.content.now ≤ place.end }
+    ensures rows { R.tells rows.old rows.new [] }
+    ensures exact { option_map (λ opened. opened.0) result
+        ≡ opened_of rules.now.is_loose most place.depth (step_of step.now) }
+    ensures inside { IfSome result (λ opened. (opened.1 ≡ front_len step.now.component.2)
+        × (opened.1 ≤ length step.now.content.now)
+        × (opened.2 ≡ inside_loose step.now.component.2 rules.now.is_loose)) }
 {
-    let mut most = most;
-    let mut components = components;
-    let mut bytes = bytes;
-    while most > 0 {
-        if let Some(len) = end_at(false, is_open, components, bytes) {
-            return Some(&bytes[len..]);
+    let header = &step.header;
+    let is_loose = rules.is_loose;
+    match step.component.2 {
+        Content::Inside(structure) => Some((structure, 0, is_loose)),
+        Content::Whole(structure) => {
+            follows(rows, rules, most, place, structure, step.content).then_some((
+                structure, 0, false,
+            ))
         }
-        if depth >= MOST_LEVELS {
-            return None;
+        Content::Bits(structure) => match step.content {
+            [0x00, bits @ ..] if !bits.is_empty() => {
+                follows(rows, rules, most, place, structure, bits).then_some((structure, 1, false))
+            }
+            _ => None,
+        },
+        content => {
+            let is_elements = is_loose || matches!(&content, Content::Free);
+            (header.content_len.is_none() || header.tag.constructed && is_elements).then_some((
+                Structure::Any,
+                0,
+                is_loose,
+            ))
         }
-        let step = step_by(false, false, components, bytes)?;
-        most -= 1;
-        bytes = rest_after(most, depth + 1, step)?;
-        components = step.others;
     }
-    None
 }
 
-/// Returns the bytes after an element, if what is inside it follows.
-#[cycle(follows)]
-fn rest_after<'a>(most: usize, depth: usize, step: Step<'_, 'a>) -> Option<&'a [u8]>
-    ensures exact { option_map (λ rest. rest.now) result
-        ≡ rest_after false most depth (step_of step.entry) }
-    ensures within { IfSome result
-        (λ rest. length rest.now ≤ length step.entry.content.now + length step.entry.rest.now) }
+/// Returns `true` if bytes follow a structure to its end. It tells no row.
+#[cycle(walks)]
+fn follows<R: Rows>(
+    rows: &mut R,
+    rules: &Rules,
+    most: usize,
+    place: Place,
+    structure: Structure,
+    bytes: &[u8],
+) -> bool
+    requires within { place.offset + length bytes.now ≤ place.end }
+    ensures rows { R.tells rows.old rows.new [] }
+    ensures exact { result ≡ is_followed most place.depth structure bytes.now }
 {
-    let rest = step.rest;
-    let is_open = step.header.content_len.is_none();
-    let Some(structure) = opened_of(false, most, depth, &step) else {
-        return Some(rest);
+    let trial = Level {
+        is_open: false,
+        is_trial: true,
+        components: structure.components(),
+        bytes,
     };
-    let elements = elements_of(&step);
-    let after = rest_of(most, depth, is_open, structure.components(), elements)?;
-    if is_open {
-        return Some(after);
-    }
-    Some(rest)
+    let strict = Rules {
+        is_loose: false,
+        ..*rules
+    };
+    walk(rows, &strict, most, place, &trial).is_some()
 }
