@@ -4,7 +4,6 @@ pub mod CharacterLemmas
 pub mod CurveLemmas
 pub mod DerLemmas
 pub mod DrawingLemmas
-pub mod EncodedLemmas
 pub mod FaultLemmas
 pub mod FaultWalkLemmas
 pub mod HeaderLemmas
