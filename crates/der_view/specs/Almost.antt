@@ -3,7 +3,6 @@ use Rattle.std.specs.Prelude.{ℕ, ◌+◌, ◌==◌, ◌||◌, Bool, true, fals
 use Rattle.std.specs.Prelude.{length, take, drop, codes, count_by, Option, Some, None, is_some}
 use Rattle.std.specs.Prelude.{option_and_then, option_map}
 use Rattle.std.specs.List.{list_any}
-use Rattle.std.specs.Str.{bytes_eq}
 use Rattle.der_view.specs.Blocks.{after_front, as_label, is_this}
 use Rattle.der_view.specs.Encoded.{place_of}
 use Rattle.der_view.specs.declared.text.almost.Armour.{Armour}

@@ -161,13 +161,11 @@ abbrev pub block_by : ℕ → List ℕ → List (List ℕ) → Option CutView �
 block_by line label lines None = block_of line label (concat lines) false
 block_by line label lines (Some cut) = block_of line label cut.before (is_end cut.line label)
 
-abbrev pub block_before : ℕ → List ℕ → List (List ℕ) → BlockView
-block_before line label lines = block_by line label lines (cut_at kinds.Boundary lines)
-
 -- the blocks that begin in these lines: one more if the line before them is a first line
 abbrev pub with_block : Option (List ℕ) → ℕ → List (List ℕ) → List BlockView → List BlockView
 with_block None line lines blocks = blocks
-with_block (Some label) line lines blocks = block_before line label lines ∷ blocks
+with_block (Some label) line lines blocks =
+    block_by line label lines (cut_at kinds.Boundary lines) ∷ blocks
 
 -- the blocks in the lines after so many others
 abbrev pub blocks_in : ℕ → List (List ℕ) → List BlockView

@@ -1,5 +1,5 @@
 -- The picture of an input: those of its sources, one after the other.
-use Rattle.std.specs.Prelude.{ℕ, ◌↔◌, ◌||◌, Bool, true, false, IsTrue, List, [], ◌∷◌, ◌++◌, codes}
+use Rattle.std.specs.Prelude.{ℕ, ◌↔◌, ◌||◌, Bool, false, IsTrue, List, [], ◌∷◌, ◌++◌, codes}
 use Rattle.std.specs.Prelude.{length, Option, Some, None, is_none, option_map, if◌then◌else◌}
 use Rattle.std.specs.Fmt.{decimal}
 use Rattle.sec1.specs.KeyFaults.{key_fault}
@@ -13,7 +13,7 @@ use Rattle.der_view.specs.Pictures.{plan_of, rows_by}
 use Rattle.der_view.specs.Printing.{line_text, rows_text}
 use Rattle.der_view.specs.Said.{file_note, note_text, said_text}
 use Rattle.der_view.specs.Sentences.{reason_of}
-use Rattle.der_view.specs.Sources.{SourceView, Der, Pem, Text, Wide, sources_of}
+use Rattle.der_view.specs.Sources.{SourceView, Der, Pem, Text, sources_of}
 use Rattle.der_view.specs.declared.known.Known.{Known}
 use Rattle.der_view.specs.declared.plan.Plan.{Plan}
 use Rattle.der_view.specs.declared.said.Reading.{Reading}

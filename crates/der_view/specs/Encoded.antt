@@ -1,7 +1,7 @@
 -- What hexadecimal and base64 encode.
-use Rattle.std.specs.Prelude.{◌≡◌, ℕ, ◌+◌, ◌≤◌, ◌==◌, ◌||◌, ◌&&◌, not, nat_eq, Bool, List, [], ◌∷◌}
-use Rattle.std.specs.Prelude.{filter, length, take, if◌then◌else◌, Option, Some, None}
-use Rattle.std.specs.Prelude.{Result, Ok, Err}
+use Rattle.std.specs.Prelude.{◌≡◌, ℕ, ◌+◌, ◌≤◌, ◌==◌, ◌||◌, ◌&&◌, nat_eq, Bool, List, [], ◌∷◌}
+use Rattle.std.specs.Prelude.{length, take, if◌then◌else◌, Option, Some, None}
+use Rattle.std.specs.Prelude.{Result, Ok, Err, true, false}
 use Rattle.std.specs.Char.{is_ascii_alphanumeric}
 use Rattle.std.specs.List.{cons_option, starts_with}
 use Rattle.base64.specs.Engines.{standard, standard_no_pad}
@@ -13,9 +13,21 @@ use Rattle.der_view.specs.Pictures.{plan_of}
 abbrev pub is_blank : ℕ → Bool
 is_blank byte = byte == 0x20 || byte == 0x09 || byte == 0x0D || byte == 0x0A
 
--- the text with no blank in it
-abbrev pub stripped : List ℕ → List ℕ
-stripped text = filter (λ byte. not (is_blank byte)) text
+-- the digit of base64 for a byte after another one, if it is one: any that is no blank; or in what
+-- is almost base64 those of base64 and base64url (RFC 4648 sections 4 and 5), without ends of lines
+-- that are written as a backslash and a letter
+abbrev pub digit_of : Bool → ℕ → ℕ → Option ℕ
+digit_of false previous byte = if is_blank byte then None else Some byte
+digit_of true previous byte =
+    if previous == 0x5C && (byte == 0x6E || byte == 0x72) then None
+    else (if is_ascii_alphanumeric byte || (byte == 0x2B || byte == 0x2F) then Some byte
+    else (if byte == 0x2D then Some 0x2B else (if byte == 0x5F then Some 0x2F else None)))
+
+-- the digits in a text after this byte
+abbrev pub digits_in : Bool → ℕ → List ℕ → List ℕ
+digits_in is_almost previous [] = []
+digits_in is_almost previous (byte ∷ text) =
+    cons_option (digit_of is_almost previous byte) (digits_in is_almost byte text)
 
 -- what was decoded, if there is something
 abbrev pub found_of : {E : Type 0} → Result (List ℕ) E → Option (List ℕ)
@@ -24,7 +36,7 @@ found_of (Err e) = None
 
 -- the bytes that base64 encodes (RFC 4648 section 4), blanks left out; None if it is none
 abbrev pub base64_bytes : List ℕ → Option (List ℕ)
-base64_bytes text = found_of (base64_decode_of standard (stripped text))
+base64_bytes text = found_of (base64_decode_of standard (digits_in false 0 text))
 
 -- what may stand between hexadecimal digits: a blank, a colon or a comma
 abbrev pub is_separator : ℕ → Bool
@@ -56,27 +68,13 @@ place_of text other = place_from 0 text other
 
 -- ---- base64 that is no such
 
--- the digit of base64 for one of base64 or base64url (RFC 4648 sections 4 and 5)
-abbrev pub digit_of : ℕ → Option ℕ
-digit_of byte =
-    if is_ascii_alphanumeric byte || (byte == 0x2B || byte == 0x2F) then Some byte
-    else (if byte == 0x2D then Some 0x2B else (if byte == 0x5F then Some 0x2F else None))
-
--- the digits in a text after this byte, without padding and without ends of lines that are written
--- as a backslash and a letter
-abbrev pub mended_digits : ℕ → List ℕ → List ℕ
-mended_digits previous [] = []
-mended_digits previous (byte ∷ text) =
-    if previous == 0x5C && (byte == 0x6E || byte == 0x72) then mended_digits byte text
-    else cons_option (digit_of byte) (mended_digits byte text)
-
 abbrev pub tree_in : Option (List ℕ) → Option (List ℕ)
 tree_in None = None
 tree_in (Some bytes) = if (plan_of bytes).is_tree then Some bytes else None
 
 -- the bytes that such digits encode, if these are one whole element
 unfoldable pub mended_bytes : List ℕ → Option (List ℕ)
-mended_bytes text = tree_in (found_of (base64_decode_of standard_no_pad (mended_digits 0 text)))
+mended_bytes text = tree_in (found_of (base64_decode_of standard_no_pad (digits_in true 0 text)))
 
 -- these bytes are at the front of the memory, so many of them, or there are none
 abbrev pub IsDecoded : Option (List ℕ) → Option ℕ → List ℕ → Type 0

@@ -18,8 +18,8 @@ use Rattle.hex.specs.Hex.{decode_of as hex_decode_of}
 use Rattle.der_view.specs.Almost.{ArmourView, armour_by, armour_flaw, armour_of, before_dashes, begin_armour}
 use Rattle.der_view.specs.Almost.{body_flaw, front_of, label_before}
 use Rattle.der_view.specs.Blocks.{BlockView}
-use Rattle.der_view.specs.Encoded.{base64_bytes, digit_of, found_of, hex_bytes, hex_digits, is_blank, is_separator}
-use Rattle.der_view.specs.Encoded.{mended_bytes, mended_digits, stripped, tree_in}
+use Rattle.der_view.specs.Encoded.{base64_bytes, digit_of, digits_in, found_of, hex_bytes, hex_digits, is_separator}
+use Rattle.der_view.specs.Encoded.{mended_bytes, tree_in}
 use Rattle.std.specs.List.{cons_option}
 use Rattle.der_view.specs.Parts.{Content, Bytes, Said, almost_by, almost_content, base64_by, base64_content}
 use Rattle.der_view.specs.Parts.{block_content}
@@ -117,18 +117,24 @@ outcome_within : (e : Option DecodeError) (bytes : List ℕ) (most : ℕ) → le
 outcome_within None bytes most fits = fits
 outcome_within (Some e) bytes most fits = omega arith
 
-stripped_within : (text : List ℕ) → length (stripped text) ≤ length text
-stripped_within text =
-    let left : ℕ → Bool = λ byte. not (is_blank byte) in
-    omega (arith, length-filter left text, count_by-le-length left text)
+digits_short : (is_almost : Bool) (previous : ℕ) (text : List ℕ)
+    → length (digits_in is_almost previous text) ≤ length text
+digits_short is_almost previous [] = omega arith
+digits_short is_almost previous (byte ∷ text) =
+    let one = by (digit_of is_almost previous byte) (digits_in is_almost byte text) in
+    omega (arith, one, digits_short is_almost byte text)
+  where
+    by : (digit : Option ℕ) (digits : List ℕ) → length (cons_option digit digits) ≤ length digits + 1
+    by None digits = omega arith
+    by (Some digit) digits = omega arith
 
 base64_within : (text : List ℕ) → length (unwrap_or (base64_bytes text) []) ≤ length text
 base64_within text =
-    outcome_within _ (decoded_bytes standard.decode_table standard.padding.value (stripped text)) (length text)
+    outcome_within _ (decoded_bytes standard.decode_table standard.padding.value (digits_in false 0 text)) (length text)
     (omega (
       arith,
-      stripped_within text,
-      all_within standard.decode_table standard.padding.value (stripped text),
+      digits_short false 0 text,
+      all_within standard.decode_table standard.padding.value (digits_in false 0 text),
     ))
 
 digits_within : (text : List ℕ) → length (hex_digits text) ≤ length text
@@ -161,22 +167,6 @@ hex_within text =
 
 -- ---- what is almost base64
 
-mended_within : (previous : ℕ) (text : List ℕ) → length (mended_digits previous text) ≤ length text
-mended_within previous [] = omega arith
-mended_within previous (byte ∷ text) =
-    let rest : length (mended_digits byte text) ≤ length text = mended_within byte text in
-    elim (previous == 0x5C && (byte == 0x6E || byte == 0x72))
-    as (λ v. length (cond v (mended_digits byte text) (cons_option (digit_of byte) (mended_digits byte text)))
-    ≤ length (byte ∷ text)) [
-      | true ↦ omega arith
-      | false ↦ let one = by (digit_of byte) (mended_digits byte text) (length text) rest in omega arith
-    ]
-  where
-    by : (digit : Option ℕ) (digits : List ℕ) (most : ℕ) → length digits ≤ most
-        → length (cons_option digit digits) ≤ most + 1
-    by None digits most fits = omega arith
-    by (Some digit) digits most fits = omega arith
-
 tree_within : (found : Option (List ℕ)) (most : ℕ) → length (unwrap_or found []) ≤ most
     → length (unwrap_or (tree_in found) []) ≤ most
 tree_within None most fits = omega arith
@@ -189,11 +179,11 @@ unfolding mended_bytes
 almost_within text =
     tree_within _ (length text)
     (outcome_within _
-    (decoded_bytes standard_no_pad.decode_table standard_no_pad.padding.value (mended_digits 0 text)) (length text)
+    (decoded_bytes standard_no_pad.decode_table standard_no_pad.padding.value (digits_in true 0 text)) (length text)
     (omega (
       arith,
-      mended_within 0 text,
-      all_within standard_no_pad.decode_table standard_no_pad.padding.value (mended_digits 0 text),
+      digits_short true 0 text,
+      all_within standard_no_pad.decode_table standard_no_pad.padding.value (digits_in true 0 text),
     )))
 
 content_within : (encoding : Encoding) (flaw : Flaw) (said : Sentence) (found : Option (List ℕ)) (most : ℕ)

@@ -5,7 +5,7 @@ ghost use Rattle.der_view.specs.Almost.{begin_armour, body_flaw, is_end_of, labe
 ghost use Rattle.der_view.specs.Parts.{IsIn, almost_content, mended_content};
 ghost use Rattle.der_view.specs.Encoded.{mended_bytes};
 
-use super::encoded::{place_of, strip_mended};
+use super::encoded::{place_of, strip};
 use super::pem::is_label;
 use super::{Encoding, Found};
 use crate::plan::plan_of;
@@ -82,7 +82,7 @@ pub(super) fn find_mended(
     ensures { IsIn bytes.new result
         (mended_content encoding (body_flaw body.now flaw) said (mended_bytes body.now)) }
 {
-    let count = strip_mended(body, digits);
+    let count = strip(body, true, digits);
     match STANDARD_NO_PAD.decode_slice_unchecked(&digits[..count], bytes) {
         Ok(len) if plan_of(&bytes[..len]).is_tree => {
             Found::Decoded(encoding, body_flaw(body, flaw), len)

@@ -1,8 +1,7 @@
 //! Hexadecimal and base64, decoded into memory that is given.
 ghost use Rattle.std.specs.Prelude.{◌≡◌, ◌≤◌, ◌+◌, length, take, IfSome};
-ghost use Rattle.der_view.specs.Encoded.{IsDecoded, base64_bytes, digit_of, hex_bytes, hex_digits};
-ghost use Rattle.der_view.specs.Encoded.{is_blank, is_separator, mended_digits};
-ghost use Rattle.der_view.specs.Encoded.{place_of, stripped};
+ghost use Rattle.der_view.specs.Encoded.{IsDecoded, base64_bytes, digit_of, digits_in, hex_bytes};
+ghost use Rattle.der_view.specs.Encoded.{hex_digits, is_blank, is_separator, place_of};
 
 use base64::engine::general_purpose::STANDARD;
 
@@ -13,21 +12,46 @@ fn is_blank(byte: u8) -> bool
     byte == b' ' || byte == b'\t' || byte == b'\r' || byte == b'\n'
 }
 
-/// Writes the bytes of a text that are no blanks to the front of `digits`, and returns their
-/// number.
-fn strip(text: &[u8], digits: &mut [u8]) -> usize
+/// Writes the digits of base64 in a text to the front of `digits`, and returns their number: all
+/// bytes but blanks, or if the text is almost base64, what [`digit_of`] returns.
+pub(super) fn strip(text: &[u8], is_almost: bool, digits: &mut [u8]) -> usize
     requires { length text.now ≤ length digits.old }
-    ensures digits { take result digits.new ≡ stripped text.now }
+    ensures digits { take result digits.new ≡ digits_in is_almost 0 text.now }
     ensures within { result ≤ length text.now }
 {
+    let mut rest = text;
+    let mut previous = 0;
     let mut count = 0;
-    for byte in text {
-        if !is_blank(*byte) {
-            digits[count] = *byte;
+    while let [byte, after @ ..] = rest {
+        if let Some(digit) = digit_of(is_almost, previous, *byte) {
+            digits[count] = digit;
             count += 1;
         }
+        previous = *byte;
+        rest = after;
     }
     count
+}
+
+/// Returns the digit of base64 for a byte after another one, if it is one: any that is no blank, or
+/// in what is almost base64 those of base64 and base64url (RFC 4648 sections 4 and 5), without ends
+/// of lines that are written as a backslash and a letter.
+fn digit_of(is_almost: bool, previous: u8, byte: u8) -> Option<u8>
+    ensures { result ≡ digit_of is_almost previous byte }
+{
+    if !is_almost {
+        if is_blank(byte) { None } else { Some(byte) }
+    } else if previous == b'\\' && (byte == b'n' || byte == b'r') {
+        None
+    } else if byte.is_ascii_alphanumeric() || byte == b'+' || byte == b'/' {
+        Some(byte)
+    } else if byte == b'-' {
+        Some(b'+')
+    } else if byte == b'_' {
+        Some(b'/')
+    } else {
+        None
+    }
 }
 
 /// Writes the bytes that base64 encodes (RFC 4648 section 4), blanks and ends of lines left out, to
@@ -38,7 +62,7 @@ pub(super) fn base64_into(text: &[u8], digits: &mut [u8], bytes: &mut [u8]) -> O
     requires bytes { length text.now + 2 ≤ length bytes.old }
     ensures { IsDecoded (base64_bytes text.now) result bytes.new }
 {
-    let count = strip(text, digits);
+    let count = strip(text, false, digits);
     STANDARD
         .decode_slice_unchecked(&digits[..count], bytes)
         .ok()
@@ -92,46 +116,6 @@ pub(super) fn hex_into(text: &[u8], digits: &mut [u8], bytes: &mut [u8]) -> Opti
     match hex::decode_to_slice(&digits[..count], &mut bytes[..count / 2]) {
         Ok(()) => Some(count / 2),
         Err(_) => None,
-    }
-}
-
-/// Writes the digits of base64 in a text to the front of `digits`, those of base64url as such,
-/// without ends of lines that are written as a backslash and a letter, and returns their number.
-pub(super) fn strip_mended(text: &[u8], digits: &mut [u8]) -> usize
-    requires { length text.now ≤ length digits.old }
-    ensures digits { take result digits.new ≡ mended_digits 0 text.now }
-    ensures within { result ≤ length text.now }
-{
-    let mut rest = text;
-    let mut previous = 0;
-    let mut count = 0;
-    while let [byte, after @ ..] = rest {
-        let is_escape = previous == b'\\' && (*byte == b'n' || *byte == b'r');
-        match digit_of(*byte) {
-            Some(digit) if !is_escape => {
-                digits[count] = digit;
-                count += 1;
-            }
-            _ => {}
-        }
-        previous = *byte;
-        rest = after;
-    }
-    count
-}
-
-/// Returns the digit of base64 for one of base64 or base64url (RFC 4648 sections 4 and 5).
-fn digit_of(byte: u8) -> Option<u8>
-    ensures { result ≡ digit_of byte }
-{
-    if byte.is_ascii_alphanumeric() || byte == b'+' || byte == b'/' {
-        Some(byte)
-    } else if byte == b'-' {
-        Some(b'+')
-    } else if byte == b'_' {
-        Some(b'/')
-    } else {
-        None
     }
 }
 

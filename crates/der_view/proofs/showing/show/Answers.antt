@@ -1,4 +1,4 @@
-use Rattle.std.proofs.Common.{[], ◌++◌, ◌≡◌, ◌||◌, List, ap, append-nil, append_assoc, refl, sym, ◌∙◌, arith}
+use Rattle.std.proofs.Common.{[], ◌++◌, ◌||◌, List, ap, append-nil, append_assoc, refl, sym, ◌∙◌, arith}
 use Rattle.std.proofs.Math.Bool.{or-false, or_assoc}
 use Rattle.der_view.specs.Drawings.{has_key, picture_text, some_key, source_text, sources_text}
 use Rattle.der_view.specs.Sources.{SourceView, source_view, total_len}

@@ -1,4 +1,4 @@
-use Rattle.std.proofs.Common.{◌≡◌, ◌+◌, ap, arith, drop, length, refl, sym, take, ◌∙◌}
+use Rattle.std.proofs.Common.{arith, sym, ◌∙◌}
 use Rattle.der_view.specs.Blocks.{line_len}
 use Rattle.der_view.proofs.BlockLemmas.{cut_here, cut_later}
 use Rattle.der_view.proofs.text.pem.cut.Goals as goal

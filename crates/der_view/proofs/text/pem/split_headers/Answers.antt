@@ -1,4 +1,4 @@
-use Rattle.std.proofs.Common.{refl, sym, ◌∙◌}
+use Rattle.std.proofs.Common.{sym, ◌∙◌}
 use Rattle.der_view.proofs.BlockLemmas.{concat-lines_of}
 use Rattle.der_view.proofs.text.pem.split_headers.Goals as goal
 
