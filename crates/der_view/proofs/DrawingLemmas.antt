@@ -1,26 +1,22 @@
 -- What is written of sources, in pieces.
-use Rattle.std.proofs.Common.{◌≡◌, ◌≤◌, ℕ, Bool, true, false, List, [], ◌∷◌, ◌++◌, length, take, Option, Some, None}
-use Rattle.std.proofs.Common.{Result, Ok, Err, OnOk}
-use Rattle.std.proofs.Common.{refl, sym, ap, ◌∙◌, append-nil}
+use Rattle.std.proofs.Common.{◌≡◌, ℕ, Bool, true, false, List, [], ◌∷◌, ◌++◌, Option, Some, None}
+use Rattle.std.proofs.Common.{Result, Ok, Err, OnOk, refl, sym, ap, ◌∙◌}
 use Rattle.std.proofs.Math.Bool.{or-false}
 use Rattle.std.proofs.lemmas.List.{length-take-le}
 use Rattle.std.proofs.lemmas.Option.{same_Some}
 use Rattle.std.specs.Option.{option_map}
-use Rattle.der_view.specs.Drawings.{bytes_text, content_key, decoded_text, found_of, heading_line, heading_of}
-use Rattle.der_view.specs.Drawings.{is_key_of}
-use Rattle.der_view.specs.Drawings.{has_key, known_of, picture_text, reading_of, reading_with, some_key}
+use Rattle.der_view.specs.Drawings.{bytes_text, content_key, content_text, found_of, has_key, heading_line, heading_of}
+use Rattle.der_view.specs.Drawings.{is_key_of, known_of, picture_text, some_key, source_key, source_text}
 use Rattle.der_view.specs.Lines.{kept, shown}
-use Rattle.der_view.specs.Parts.{Content, IsIn, found_with}
+use Rattle.der_view.specs.Parts.{Content, IsIn, content_of, found_with}
 use Rattle.der_view.specs.Pictures.{picture, plan_of}
 use Rattle.der_view.specs.Printing.{line_text}
-use Rattle.der_view.specs.Said.{first_text, note_text, said_text}
+use Rattle.der_view.specs.Said.{first_text, said_text}
 use Rattle.der_view.specs.Sources.{Der, SourceView, has_begin, is_der, is_text, sources_by, sources_of, wide_note}
 use Rattle.der_view.specs.declared.said.Reading.TheVariants as readings
 use Rattle.der_view.specs.declared.sentences.Sentence.{Sentence}
-use Rattle.der_view.specs.declared.text.Encoding.{Encoding}
 use Rattle.der_view.specs.declared.text.Found.{Found}
 use Rattle.der_view.specs.declared.text.Found.TheVariants as founds
-use Rattle.der_view.specs.declared.text.almost.Flaw.{Flaw}
 
 -- what is found is that of its content
 found_is : (found : Found) (memory : List ℕ) (content : Content) → IsIn memory found content
@@ -31,42 +27,18 @@ found_is (founds.Decoded encoding flaw len) memory content (is, fits) =
     ∙ ap (λ (n : ℕ). founds.Decoded encoding flaw n) (length-take-le len memory fits)
 found_is (founds.Said note) memory content (is, fits) = ap (λ c. found_of c) (sym is)
 
--- the picture of a source, of which bytes were decoded; of which this is said; and of which neither is so
-pub decoded_is : (all : Bool) (source : SourceView) (found : Found) (memory : List ℕ) (content : Content)
-    (encoding : Encoding) (flaw : Flaw) (len : ℕ) → found ≡ founds.Decoded encoding flaw len
-    → IsIn memory found content
-    → (decoded_text all source content
-    ≡ heading_line (heading_of source found) ++ bytes_text all (reading_with (reading_of source) flaw)
-    (take len memory))
-    × (content_key content ≡ is_key_of (take len memory)) × (len ≤ length memory)
-unfolding decoded_text
-decoded_is all source found memory content encoding flaw len same is =
-    let part : IsIn memory (founds.Decoded encoding flaw len) content = rw same at is in (
-      rw (same, found_is (founds.Decoded encoding flaw len) memory content part, sym part.0) refl,
-      ap (λ c. content_key c) (sym part.0),
-      part.1,
-    )
-
-pub note_is : (all : Bool) (source : SourceView) (found : Found) (memory : List ℕ) (content : Content)
-    (note : Sentence) → found ≡ founds.Said note → IsIn memory found content
-    → (decoded_text all source content ≡ heading_line (heading_of source found) ++ note_text note)
-    × (false ≡ content_key content)
-unfolding decoded_text
-note_is all source found memory content note same is =
-    let part : IsIn memory (founds.Said note) content = rw same at is in (
-      rw (same, found_is (founds.Said note) memory content part, sym part.0) refl,
-      ap (λ c. content_key c) part.0,
-    )
-
-pub itself_is : (all : Bool) (source : SourceView) (found : Found) (memory : List ℕ) (content : Content)
-    → found ≡ founds.Itself → IsIn memory found content
-    → (decoded_text all source content ≡ heading_line (heading_of source found)) × (false ≡ content_key content)
-unfolding decoded_text
-itself_is all source found memory content same is =
-    let part : IsIn memory founds.Itself content = rw same at is in (
-      rw (same, found_is founds.Itself memory content part, sym part.0) (append-nil _),
-      ap (λ c. content_key c) part.0,
-    )
+-- the picture of a source in which this is found
+pub drawn_is : (all : Bool) (source : SourceView) (found : Found) (memory : List ℕ)
+    → IsIn memory found (content_of source)
+    → (source_text all source
+    ≡ heading_line (heading_of source found) ++ content_text all source (found_with found memory))
+    × (source_key source ≡ content_key source (found_with found memory))
+drawn_is all source found memory is = (
+  ap (λ (f : Found). heading_line (heading_of source f) ++ content_text all source (content_of source))
+      (found_is found memory (content_of source) is)
+      ∙ ap (λ (c : Content). heading_line (heading_of source found) ++ content_text all source c) (sym is.0),
+  ap (λ (c : Content). content_key source c) (sym is.0),
+)
 
 -- the line of a heading that is kept
 pub heading_is : (heading : Option (List ℕ)) (line : List ℕ) → Some line ≡ option_map kept heading

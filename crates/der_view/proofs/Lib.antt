@@ -3,7 +3,6 @@ pub mod BlockLemmas
 pub mod CharacterLemmas
 pub mod CurveLemmas
 pub mod DrawingLemmas
-pub mod EncodedLemmas
 pub mod FaultLemmas
 pub mod FaultWalkLemmas
 pub mod HeaderLemmas

@@ -1,83 +1,131 @@
--- The sources of an input: they are within it, and one more block.
-use Rattle.std.proofs.Common.{◌≡◌, ℕ, zero, suc, ◌+◌, ◌≤◌, Bool, true, false, cond, not, List, [], ◌∷◌, ◌++◌, length}
-use Rattle.std.proofs.Common.{take, drop, Option, Some, None, refl, sym, ap, ◌∙◌, arith, append_assoc, length-append}
-use Rattle.std.proofs.Common.{length-drop, codes, nat_eq, ◌||◌, ◌&&◌, subst}
-use Rattle.std.proofs.lemmas.Bool.{false≢true}
+-- The texts of an input's sources are together no longer than what may be text in it.
+use Rattle.std.proofs.Common.{◌≡◌, ℕ, ◌+◌, ◌-◌, ◌≤◌, ◌==◌, ◌&&◌, ◌||◌, not, Bool, true, false, cond, List, [], ◌∷◌}
+use Rattle.std.proofs.Common.{length, take, drop, Option, Some, None, refl, sym, ap, ◌∙◌, arith, codes, inl, inr, min}
+use Rattle.std.proofs.lemmas.Bool.{cases_Bool}
+use Rattle.std.proofs.lemmas.List.{length-append, length-drop, length-take, take-take}
 use Rattle.std.proofs.lemmas.Slice.Eq.{bytes_eq-Decides}
-use Rattle.std.specs.List.{after_first, before_first, concat, ends_with, position_or_len}
+use Rattle.std.specs.Char.{is_ascii_whitespace}
+use Rattle.std.specs.List.{concat, list_any, suffix_len}
+use Rattle.std.specs.Option.{option_map}
 use Rattle.std.specs.Str.{bytes_eq}
 use Rattle.der_view.proofs.BlockLemmas.{concat-lines_of}
-use Rattle.der_view.specs.Blocks.{BlockView, begins_with_headers, block_before, blocks_in, body_of, is_boundary}
-use Rattle.der_view.specs.Blocks.{is_empty_line, is_key_of_openssl, is_label_of_openssl, is_of_private_key, label_of}
-use Rattle.der_view.specs.Blocks.{line_text, lines_of, with_block}
-use Rattle.der_view.specs.Sources.{AreWithin, Der, Pem, SourceView, Text, Wide, blocks_or, or_source, pem_sources}
-use Rattle.der_view.specs.Sources.{has_begin, is_der, is_text, source_len, sources_by, sources_of, text_len, wide_note}
-use Rattle.der_view.specs.Sources.{without_mark}
+use Rattle.der_view.specs.Blocks.{BlockView, CutView, block_by, blocks_in, cut_at, is_of}
+use Rattle.der_view.specs.Blocks.{is_of_private_key, label_of, lines_of, past, split_by, split_headers, trimmed}
+use Rattle.der_view.specs.Blocks.{with_block}
+use Rattle.der_view.specs.Sources.{Der, SourceView, Text, blocks_or, has_begin, is_der, is_text, or_source, pem_sources}
+use Rattle.der_view.specs.Sources.{source_len, sources_by, sources_of, text_len, total_len, wide_note, without_mark}
 use Rattle.der_view.specs.declared.sentences.Sentence.{Sentence}
+use Rattle.der_view.specs.declared.text.pem.LineKind.{LineKind}
+use Rattle.der_view.specs.declared.text.pem.LineKind.TheVariants as kinds
 
-concat_split : (n : ℕ) (lines : List (List ℕ)) → concat (take n lines) ++ concat (drop n lines) ≡ concat lines
-concat_split zero lines = refl
-concat_split (suc n) [] = refl
-concat_split (suc n) (line ∷ lines) =
-    append_assoc line (concat (take n lines)) (concat (drop n lines))
-    ∙ ap (λ (t : List ℕ). line ++ t) (concat_split n lines)
+-- the length of what is before a cut, or of all; and that of the rest
+abbrev front_len : List (List ℕ) → Option CutView → ℕ
+front_len lines None = length (concat lines)
+front_len lines (Some cut) = length cut.before
 
-front_within : (n : ℕ) (lines : List (List ℕ)) → length (concat (take n lines)) ≤ length (concat lines)
-front_within n lines =
-    let size = ap (λ (t : List ℕ). length t) (concat_split n lines) in
-    omega (arith, size, length-append (concat (take n lines)) (concat (drop n lines)))
+abbrev rest_len : Option CutView → ℕ
+rest_len None = 0
+rest_len (Some cut) = length cut.line + length (concat cut.after)
 
-back_within : (n : ℕ) (lines : List (List ℕ)) → length (concat (drop n lines)) ≤ length (concat lines)
-back_within n lines =
-    let size = ap (λ (t : List ℕ). length t) (concat_split n lines) in
-    omega (arith, size, length-append (concat (take n lines)) (concat (drop n lines)))
+past_len : (line : List ℕ) (lines : List (List ℕ)) (cut : Option CutView)
+    → (front_len (line ∷ lines) (option_map (past 1 line) cut) ≡ length line + front_len lines cut)
+    × (rest_len (option_map (past 1 line) cut) ≡ rest_len cut)
+past_len line lines None = (length-append line (concat lines), refl)
+past_len line lines (Some cut) = (length-append line cut.before, refl)
 
-body_within : (inside : List ℕ) → length (body_of inside) ≤ length inside
+cut_len : (kind : LineKind) (lines : List (List ℕ))
+    → front_len lines (cut_at kind lines) + rest_len (cut_at kind lines) ≡ length (concat lines)
+cut_len kind [] = omega arith
+cut_len kind (line ∷ lines) = elim (cases_Bool (is_of kind line)) [
+  | inl takes ↦ rw takes (omega (arith, length-append line (concat lines)))
+  | inr others ↦
+      let more = past_len line lines (cut_at kind lines) in
+      rw others (omega (arith, more.0, more.1, cut_len kind lines, length-append line (concat lines)))
+]
+
+-- a body is no longer than what it is in
+body_within : (inside : List ℕ) → length (split_headers inside).1 ≤ length inside
 body_within inside =
-    let whole : length (concat (lines_of inside)) ≡ length inside =
-    ap (λ (t : List ℕ). length t) (concat-lines_of inside) in
-    elim (begins_with_headers inside)
-    as (λ (v : Bool). length (cond v (concat (after_first is_empty_line (lines_of inside))) inside) ≤ length inside) [
-      | true ↦ omega (arith, back_within (position_or_len is_empty_line (lines_of inside) + 1) (lines_of inside))
-      | false ↦ omega arith
+    by (cut_at kinds.Empty (lines_of inside))
+    (omega (arith, cut_len kinds.Empty (lines_of inside), ap length (concat-lines_of inside)))
+  where
+    by : (cut : Option CutView) → rest_len cut ≤ length inside → length (split_by inside cut).1 ≤ length inside
+    by None fits = omega arith
+    by (Some cut) fits = elim (cases_Bool (list_any (λ byte. byte == 0x3A) cut.before)) [
+      | inl headers ↦ rw headers (omega arith)
+      | inr none ↦ rw none (omega arith)
     ]
 
-with_within : (found : Option (List ℕ)) (most line : ℕ) (lines : List (List ℕ)) (blocks : List BlockView) (reads : Bool)
-    → length (concat lines) ≤ most → ((r : Bool) → AreWithin most (pem_sources r blocks))
-    → AreWithin most (pem_sources reads (with_block found line lines blocks))
-with_within None most line lines blocks reads fits rest = rest reads
-with_within (Some label) most line lines blocks reads fits rest =
-    let block : BlockView = block_before line label lines in
-    let within : length (body_of (concat (before_first is_boundary lines))) ≤ most =
-    omega (
+block_within : (line : ℕ) (label : List ℕ) (lines : List (List ℕ)) (cut : Option CutView)
+    → length (block_by line label lines cut).body ≤ front_len lines cut
+block_within line label lines None = body_within (concat lines)
+block_within line label lines (Some cut) = body_within cut.before
+
+-- the first line of a block is a boundary
+first_is_boundary : (line label : List ℕ) → label_of line ≡ Some label → is_of kinds.Boundary line ≡ true
+first_is_boundary line label is = elim (cases_Bool (bytes_eq (take 11 (trimmed line)) (codes "-----BEGIN "))) [
+  | inl passes ↦
+      let n : ℕ = length line - suffix_len is_ascii_whitespace line in
+      let same : take 11 (take n line) ≡ codes "-----BEGIN " =
+      (bytes_eq-Decides (take 11 (trimmed line)) (codes "-----BEGIN ")).0 passes in
+      let long : min 11 (min n (length line)) ≡ 11 =
+      sym (length-take 11 (take n line) ∙ ap (λ (m : ℕ). min 11 m) (length-take n line)) ∙ ap length same in
+      let front : take 5 line ≡ codes "-----" =
+      sym (take-take 5 n line (omega arith))
+      ∙ (sym (take-take 5 11 (take n line) (omega arith)) ∙ ap (λ (t : List ℕ). take 5 t) same) in
+      rw front refl
+  | inr fails ↦ cc (rw fails at is)
+]
+
+-- the bodies of blocks
+abbrev bodies_len : List BlockView → ℕ
+bodies_len [] = 0
+bodies_len (block ∷ blocks) = length block.body + bodies_len blocks
+
+bodies_by : (label : Option (List ℕ)) (number : ℕ) (line : List ℕ) (lines : List (List ℕ)) (blocks : List BlockView)
+    → label_of line ≡ label → bodies_len blocks ≤ rest_len (cut_at kinds.Boundary lines)
+    → bodies_len (with_block label number lines blocks) ≤ rest_len (cut_at kinds.Boundary (line ∷ lines))
+bodies_by (Some label) number line lines blocks is fits =
+    rw (first_is_boundary line label is)
+    (omega (
       arith,
-      body_within (concat (before_first is_boundary lines)),
-      front_within (position_or_len is_boundary lines) lines,
-    ) in
-    elim (is_of_private_key block)
-    as (λ (v : Bool). AreWithin most
-    (cond v (Pem block (reads && is_key_of_openssl block) ∷ pem_sources false blocks)
-    (Pem block false ∷ pem_sources reads blocks)))
-    [ true ↦ (within, rest false) | false ↦ (within, rest reads) ]
+      block_within number label lines (cut_at kinds.Boundary lines),
+      cut_len kinds.Boundary lines,
+    ))
+bodies_by None number line lines blocks is fits = elim (cases_Bool (is_of kinds.Boundary line)) [
+  | inl takes ↦ rw takes (omega (arith, cut_len kinds.Boundary lines))
+  | inr others ↦ rw others (omega (arith, (past_len line lines (cut_at kinds.Boundary lines)).1))
+]
 
-blocks_within : (most number : ℕ) (lines : List (List ℕ)) → length (concat lines) ≤ most
-    → (reads : Bool) → AreWithin most (pem_sources reads (blocks_in number lines))
-blocks_within most number [] fits reads = tt
-blocks_within most number (line ∷ lines) fits reads =
-    let less : length (concat lines) ≤ most = omega (arith, length-append line (concat lines)) in
-    with_within (label_of (line_text line)) most (number + 1) lines (blocks_in (number + 1) lines) reads less
-    (blocks_within most (number + 1) lines less)
+bodies_within : (number : ℕ) (lines : List (List ℕ))
+    → bodies_len (blocks_in number lines) ≤ rest_len (cut_at kinds.Boundary lines)
+bodies_within number [] = omega arith
+bodies_within number (line ∷ lines) =
+    bodies_by (label_of line) (number + 1) line lines (blocks_in (number + 1) lines) refl
+    (bodies_within (number + 1) lines)
 
-or_within : (most : ℕ) (other : SourceView) (sources : List SourceView) → source_len other ≤ most
-    → AreWithin most sources → AreWithin most (or_source other sources)
-or_within most other [] fits are = (fits, tt)
-or_within most other (source ∷ sources) fits are = are
+of_blocks : (reads : Bool) (blocks : List BlockView) → total_len (pem_sources reads blocks) ≡ bodies_len blocks
+of_blocks reads [] = refl
+of_blocks reads (block ∷ blocks) =
+    ap (λ (n : ℕ). length block.body + n) (of_blocks (reads && not (is_of_private_key block)) blocks)
 
-text_within : (most : ℕ) (other : SourceView) (text : List ℕ) → length text ≤ most → source_len other ≤ most
-    → AreWithin most (blocks_or other text)
-text_within most other text fits one =
-    let whole : length (concat (lines_of text)) ≡ length text = ap (λ (t : List ℕ). length t) (concat-lines_of text) in
-    or_within most other _ one (blocks_within most 0 (lines_of text) (omega arith) _)
+blocks_or_within : (most : ℕ) (other : SourceView) (text : List ℕ) → length text ≤ most → source_len other ≤ most
+    → total_len (blocks_or other text) ≤ most
+blocks_or_within most other text fits one =
+    let reads : Bool = list_any (λ byte. byte == 0x0A) text in
+    let blocks : List BlockView = blocks_in 0 (lines_of text) in
+    by (pem_sources reads blocks)
+    (omega (
+      arith,
+      of_blocks reads blocks,
+      bodies_within 0 (lines_of text),
+      cut_len kinds.Boundary (lines_of text),
+      ap length (concat-lines_of text),
+    ))
+  where
+    by : (sources : List SourceView) → total_len sources ≤ most → total_len (or_source (Some other) sources) ≤ most
+    by [] fits = omega arith
+    by (source ∷ sources) fits = fits
 
 mark_within : (text : List ℕ) → length (without_mark text) ≤ length text
 mark_within text =
@@ -86,52 +134,15 @@ mark_within text =
     [ true ↦ omega (arith, length-drop 3 text) | false ↦ omega arith ]
 
 by_within : (is_der is_text begins : Bool) (told : Option Sentence) (input : List ℕ)
-    → AreWithin (cond (is_text || begins) (length input) 0) (sources_by is_der is_text begins told input)
-by_within true is_text begins told input = (omega arith, tt)
+    → total_len (sources_by is_der is_text begins told input) ≤ cond (is_text || begins) (length input) 0
+by_within true is_text begins told input = omega arith
 by_within false true begins told input =
-    text_within (length input) (Text (without_mark input)) (without_mark input) (mark_within input) (mark_within input)
-by_within false false begins (Some told) input = (omega arith, tt)
-by_within false false true None input =
-    text_within (length input) (Der input) input (omega arith) (omega arith)
-by_within false false false None input = (omega arith, tt)
+    blocks_or_within (length input) (Text (without_mark input)) (without_mark input) (mark_within input)
+    (mark_within input)
+by_within false false begins (Some told) input = omega arith
+by_within false false true None input = blocks_or_within (length input) (Der input) input (omega arith) (omega arith)
+by_within false false false None input = omega arith
 
--- the sources of an input are within what may be text in it
-pub sources_within : (input : List ℕ) → AreWithin (text_len input) (sources_of input)
+pub sources_within : (input : List ℕ) → total_len (sources_of input) ≤ text_len input
 unfolding sources_of
 sources_within input = by_within (is_der input) (is_text input) (has_begin input) (wide_note input) input
-
--- a key that OpenSSL reads has a label of private keys
-ends_so : (label whole : List ℕ) → bytes_eq label whole ≡ true → ends_with nat_eq whole (codes "PRIVATE KEY") ≡ true
-    → ends_with nat_eq label (codes "PRIVATE KEY") ≡ true
-ends_so label whole same ends =
-    subst (λ (t : List ℕ). ends_with nat_eq t (codes "PRIVATE KEY") ≡ true)
-    (sym ((bytes_eq-Decides label whole).0 same))
-    ends
-
-label_by : (label : List ℕ) (a b c : Bool) → bytes_eq label (codes "EC PRIVATE KEY") ≡ a
-    → bytes_eq label (codes "PRIVATE KEY") ≡ b → bytes_eq label (codes "ENCRYPTED PRIVATE KEY") ≡ c
-    → ends_with nat_eq label (codes "PRIVATE KEY") ≡ false → (a || (b || c)) ≡ false
-label_by label true b c ha hb hc fail = absurd (false≢true (sym fail ∙ ends_so label (codes "EC PRIVATE KEY") ha refl))
-label_by label false true c ha hb hc fail = absurd (false≢true (sym fail ∙ ends_so label (codes "PRIVATE KEY") hb refl))
-label_by label false false true ha hb hc fail =
-    absurd (false≢true (sym fail ∙ ends_so label (codes "ENCRYPTED PRIVATE KEY") hc refl))
-label_by label false false false ha hb hc fail = refl
-
-no_key : (block : BlockView) → is_of_private_key block ≡ false → is_key_of_openssl block ≡ false
-no_key block fail =
-    let other : is_label_of_openssl block.label ≡ false = label_by block.label _ _ _ refl refl refl fail in
-    rw other (elim block.has_end as (λ (v : Bool). (v && false) ≡ false) [ true ↦ refl | false ↦ refl ])
-
-read_by : (v reads : Bool) (block : BlockView) (blocks : List BlockView) → is_of_private_key block ≡ v
-    → pem_sources reads (block ∷ blocks)
-    ≡ Pem block (reads && is_key_of_openssl block) ∷ pem_sources (reads && not v) blocks
-read_by true true block blocks h = rw h refl
-read_by true false block blocks h = rw h refl
-read_by false true block blocks h = rw (h, no_key block h) refl
-read_by false false block blocks h = rw h refl
-
--- the sources of one more block
-pub pem_sources-cons : (reads : Bool) (block : BlockView) (blocks : List BlockView)
-    → pem_sources reads (block ∷ blocks)
-    ≡ Pem block (reads && is_key_of_openssl block) ∷ pem_sources (reads && not (is_of_private_key block)) blocks
-pem_sources-cons reads block blocks = read_by (is_of_private_key block) reads block blocks refl

@@ -3,17 +3,11 @@ use Rattle.std.specs.Prelude.{ℕ, ◌+◌, ◌==◌, ◌||◌, Bool, true, fals
 use Rattle.std.specs.Prelude.{length, take, drop, codes, count_by, Option, Some, None, is_some}
 use Rattle.std.specs.Prelude.{option_and_then, option_map}
 use Rattle.std.specs.List.{list_any}
-use Rattle.std.specs.Str.{bytes_eq}
 use Rattle.der_view.specs.Blocks.{after_front, as_label, is_this}
 use Rattle.der_view.specs.Encoded.{place_of}
 use Rattle.der_view.specs.declared.text.almost.Armour.{Armour}
 use Rattle.der_view.specs.declared.text.almost.Flaw.{Flaw}
 use Rattle.der_view.specs.declared.text.almost.Flaw.TheVariants as flaws
-
--- whether a body has ends of lines that are written as a backslash and a letter
-unfoldable pub has_escape : List ℕ → Bool
-has_escape body =
-    is_some (place_of body (0x5C ∷ 0x6E ∷ [])) || is_some (place_of body (0x5C ∷ 0x72 ∷ []))
 
 -- whether a text has a byte
 abbrev pub has : List ℕ → ℕ → Bool
@@ -22,7 +16,8 @@ has text byte = list_any (λ other. other == byte) text
 -- what is wrong with a body that is almost base64, or else this
 unfoldable pub body_flaw : List ℕ → Flaw → Flaw
 body_flaw body other =
-    if has_escape body then flaws.Escaped
+    if is_some (place_of body (0x5C ∷ 0x6E ∷ [])) || is_some (place_of body (0x5C ∷ 0x72 ∷ []))
+    then flaws.Escaped
     else (if has body 0x2D || has body 0x5F then flaws.Url else other)
 
 -- what is between the dashes of PEM that no line begins with, or before those of END: the number of
@@ -86,21 +81,21 @@ unfoldable pub begin_armour : ℕ → List ℕ → Option ArmourView
 begin_armour line after =
     option_map (λ label. begin_by line (drop (length label + 5) after) label) (label_before after)
 
--- before an END in this line, which these bytes are after
-unfoldable pub end_armour : ℕ → List ℕ → List ℕ → Option ArmourView
-end_armour line body after =
-    option_map (λ label. record {
-      line = line;
-      label = label;
-      body = body;
-      has_begin = false;
-      has_end = true;
-    }) (label_before after)
+-- before an END in this line
+abbrev pub end_by : ℕ → List ℕ → List ℕ → ArmourView
+end_by line body label = record {
+  line = line;
+  label = label;
+  body = body;
+  has_begin = false;
+  has_end = true;
+}
 
 abbrev pub armour_by : List ℕ → Option ℕ → Option ℕ → Option ArmourView
 armour_by text (Some place) end = begin_armour (line_at text place) (drop (place + 11) text)
 armour_by text None (Some place) =
-    end_armour (line_at text place) (take place text) (drop (place + 9) text)
+    option_map (end_by (line_at text place) (take place text))
+    (label_before (drop (place + 9) text))
 armour_by text None None = None
 
 -- what is after the first BEGIN of a text, or before its first END

@@ -1,44 +1,31 @@
 -- The blocks of PEM in a text (RFC 7468).
-use Rattle.std.specs.Prelude.{ℕ, ◌+◌, ◌-◌, ◌==◌, ◌≡◌, ◌&&◌, ◌||◌, not, Bool, false, nat_le, nat_eq}
-use Rattle.std.specs.Prelude.{if◌then◌else◌, List, [], ◌∷◌, ◌++◌, length, take, drop, codes, find}
-use Rattle.std.specs.Prelude.{Option, Some, None, is_some, option_and_then}
+use Rattle.std.specs.Prelude.{ℕ, suc, ◌+◌, ◌-◌, ◌==◌, ◌&&◌, ◌||◌, not, Bool, false, nat_le, nat_eq}
+use Rattle.std.specs.Prelude.{if◌then◌else◌, List, [], ◌∷◌, ◌++◌, length, take, drop, codes}
+use Rattle.std.specs.Prelude.{Option, Some, None, is_some, option_and_then, option_map}
 use Rattle.std.specs.Char.{is_ascii_whitespace}
-use Rattle.std.specs.List.{after_first, before_first, concat, ends_with, list_all, list_any}
-use Rattle.std.specs.List.{onto_first, starts_with, suffix_len}
+use Rattle.std.specs.List.{concat, ends_with, list_all, list_any, onto_first, starts_with}
+use Rattle.std.specs.List.{suffix_len}
 use Rattle.std.specs.Str.{bytes_eq}
 use Rattle.der_view.specs.declared.text.pem.Block.{Block}
+use Rattle.der_view.specs.declared.text.pem.CutLine.{CutLine}
+use Rattle.der_view.specs.declared.text.pem.LineKind.{LineKind}
+use Rattle.der_view.specs.declared.text.pem.LineKind.TheVariants as kinds
 
--- a carriage return or a line feed
-abbrev pub is_line_end : ℕ → Bool
-is_line_end byte = byte == 0x0D || byte == 0x0A
+-- whether a line ends with this byte, which these are after (RFC 7468 section 3)
+abbrev pub ends_line : ℕ → List ℕ → Bool
+ends_line byte after =
+    byte == 0x0A || (byte == 0x0D && not (starts_with nat_eq after (0x0A ∷ [])))
 
--- the lines of a text, each with the CR LF, LF or CR that ends it (RFC 7468 section 3); the last
--- one may have none
+-- the lines of a text, each with the CR LF, LF or CR that ends it; the last one may have none
 abbrev pub lines_of : List ℕ → List (List ℕ)
 lines_of [] = []
-lines_of (byte ∷ []) = (byte ∷ []) ∷ []
-lines_of (byte ∷ next ∷ text) =
-    if is_line_end byte then
-    (if byte == 0x0D && next == 0x0A then (byte ∷ next ∷ []) ∷ lines_of text
-    else (byte ∷ []) ∷ lines_of (next ∷ text))
-    else onto_first byte (lines_of (next ∷ text))
+lines_of (byte ∷ text) =
+    if ends_line byte text then (byte ∷ []) ∷ lines_of text else onto_first byte (lines_of text)
 
--- what is after the end of a line, with which a text begins
-abbrev pub after_end : List ℕ → List ℕ
-after_end [] = []
-after_end (byte ∷ []) = []
-after_end (byte ∷ next ∷ text) = if byte == 0x0D && next == 0x0A then text else next ∷ text
-
--- a line without what ends it
-abbrev pub line_text : List ℕ → List ℕ
-line_text line = before_first is_line_end line
-
--- the first line of a text, without what ends it, and the text after it
-pub record IsFirstLine (text line rest : List ℕ) : Type 0 where
-  pub whole : List ℕ
-  pub first : lines_of text ≡ whole ∷ lines_of rest
-  pub joined : text ≡ whole ++ rest
-  pub is_text : line ≡ line_text whole
+-- the number of bytes of the first one
+abbrev pub line_len : List ℕ → ℕ
+line_len [] = 0
+line_len (byte ∷ text) = if ends_line byte text then 1 else suc (line_len text)
 
 -- a text without the white space at its end
 abbrev pub trimmed : List ℕ → List ℕ
@@ -87,37 +74,54 @@ is_this (Some text) label = bytes_eq text label
 abbrev pub is_end : List ℕ → List ℕ → Bool
 is_end line label = is_this (between (codes "-----END ") line) label
 
--- whether a line may be the first or the last one of a block, so that it is in no body
-abbrev pub is_boundary : List ℕ → Bool
-is_boundary line = starts_with nat_eq (line_text line) (codes "-----")
+-- whether a line is of a kind
+abbrev pub is_of : LineKind → List ℕ → Bool
+is_of kinds.Begin line = is_some (label_of line)
+is_of kinds.Boundary line = starts_with nat_eq line (codes "-----")
+is_of kinds.Empty line = length (trimmed line) == 0
+is_of kinds.Encryption line = starts_with nat_eq line (codes "Proc-Type: 4,ENCRYPTED")
 
--- whether a line is empty, but for white space
-abbrev pub is_blank : List ℕ → Bool
-is_blank text = length (trimmed text) == 0
+-- a line, how many are before it, the text of these, and the lines after it
+pub record CutView : Type 0 where
+  pub count : ℕ
+  pub before : List ℕ
+  pub line : List ℕ
+  pub after : List (List ℕ)
 
-abbrev pub is_empty_line : List ℕ → Bool
-is_empty_line line = is_blank (line_text line)
+abbrev pub cut_view : CutLine → CutView
+cut_view cut = record {
+  count = cut.count;
+  before = cut.before.now;
+  line = cut.line.now;
+  after = lines_of cut.after.now;
+}
 
--- whether what is between the first line and the last one begins with headers: there is an empty
--- line, with a colon before it (RFC 1421 section 4.4)
-abbrev pub begins_with_headers : List ℕ → Bool
-begins_with_headers inside =
-    is_some (find is_empty_line (lines_of inside))
-    && list_any (λ byte. byte == 0x3A) (concat (before_first is_empty_line (lines_of inside)))
+-- so many more lines before it, which are this text
+abbrev pub past : ℕ → List ℕ → CutView → CutView
+past count text cut = record {
+  count = count + cut.count;
+  before = text ++ cut.before;
+  line = cut.line;
+  after = cut.after;
+}
 
--- the lines of the headers, and those of the body
-abbrev pub headers_of : List ℕ → List ℕ
-headers_of inside =
-    if begins_with_headers inside then concat (before_first is_empty_line (lines_of inside)) else []
+-- the first of these lines that is of a kind
+abbrev pub cut_at : LineKind → List (List ℕ) → Option CutView
+cut_at kind [] = None
+cut_at kind (line ∷ lines) =
+    if is_of kind line then Some (record { count = 0; before = []; line = line; after = lines })
+    else option_map (past 1 line) (cut_at kind lines)
 
-abbrev pub body_of : List ℕ → List ℕ
-body_of inside =
-    if begins_with_headers inside then concat (after_first is_empty_line (lines_of inside))
-    else inside
+-- the headers in what is between the first line and the last one, and the body: there are headers
+-- if there is an empty line, with a colon before it (RFC 1421 section 4.4)
+abbrev pub split_by : List ℕ → Option CutView → List ℕ × List ℕ
+split_by inside None = ([], inside)
+split_by inside (Some cut) =
+    if list_any (λ byte. byte == 0x3A) cut.before then (cut.before, concat cut.after)
+    else ([], inside)
 
--- whether a header says that the body is encrypted (RFC 1421 section 4.6.1.1)
-abbrev pub is_of_encryption : List ℕ → Bool
-is_of_encryption line = starts_with nat_eq (line_text line) (codes "Proc-Type: 4,ENCRYPTED")
+abbrev pub split_headers : List ℕ → List ℕ × List ℕ
+split_headers inside = split_by inside (cut_at kinds.Empty (lines_of inside))
 
 -- a block: the number of its first line, of which that of a text has 1; its label, and its body
 -- without headers; whether it has headers, these say that it is encrypted, and it has its last line
@@ -145,33 +149,29 @@ abbrev pub block_of : ℕ → List ℕ → List ℕ → Bool → BlockView
 block_of line label inside has_end = record {
   line = line;
   label = label;
-  body = body_of inside;
-  has_headers = begins_with_headers inside;
-  is_encrypted = list_any is_of_encryption (lines_of (headers_of inside));
+  body = (split_headers inside).1;
+  has_headers = not (length (split_headers inside).0 == 0);
+  is_encrypted = is_some (cut_at kinds.Encryption (lines_of (split_headers inside).0));
   has_end = has_end;
 }
 
-abbrev pub is_ended : List ℕ → Option (List ℕ) → Bool
-is_ended label None = false
-is_ended label (Some line) = is_end (line_text line) label
-
 -- the block with this first line and label, before these lines: up to the first one that may be a
 -- last line, its body, or all of them
-abbrev pub block_before : ℕ → List ℕ → List (List ℕ) → BlockView
-block_before line label lines =
-    block_of line label (concat (before_first is_boundary lines))
-    (is_ended label (find is_boundary lines))
+abbrev pub block_by : ℕ → List ℕ → List (List ℕ) → Option CutView → BlockView
+block_by line label lines None = block_of line label (concat lines) false
+block_by line label lines (Some cut) = block_of line label cut.before (is_end cut.line label)
 
 -- the blocks that begin in these lines: one more if the line before them is a first line
 abbrev pub with_block : Option (List ℕ) → ℕ → List (List ℕ) → List BlockView → List BlockView
 with_block None line lines blocks = blocks
-with_block (Some label) line lines blocks = block_before line label lines ∷ blocks
+with_block (Some label) line lines blocks =
+    block_by line label lines (cut_at kinds.Boundary lines) ∷ blocks
 
 -- the blocks in the lines after so many others
 abbrev pub blocks_in : ℕ → List (List ℕ) → List BlockView
 blocks_in number [] = []
 blocks_in number (line ∷ lines) =
-    with_block (label_of (line_text line)) (number + 1) lines (blocks_in (number + 1) lines)
+    with_block (label_of line) (number + 1) lines (blocks_in (number + 1) lines)
 
 -- whether the label of a block ends in the words that those of private keys end in
 abbrev pub is_of_private_key : BlockView → Bool
@@ -179,12 +179,10 @@ is_of_private_key block = ends_with nat_eq block.label (codes "PRIVATE KEY")
 
 -- whether OpenSSL reads a key from a block, if it is the first one of a private key: it has its
 -- last line, one of three labels, and no headers but those of encryption
-abbrev pub is_label_of_openssl : List ℕ → Bool
-is_label_of_openssl label =
-    bytes_eq label (codes "EC PRIVATE KEY")
-    || (bytes_eq label (codes "PRIVATE KEY") || bytes_eq label (codes "ENCRYPTED PRIVATE KEY"))
-
 abbrev pub is_key_of_openssl : BlockView → Bool
 is_key_of_openssl block =
     block.has_end
-    && (is_label_of_openssl block.label && (not block.has_headers || block.is_encrypted))
+    && ((bytes_eq block.label (codes "EC PRIVATE KEY")
+    || (bytes_eq block.label (codes "PRIVATE KEY")
+    || bytes_eq block.label (codes "ENCRYPTED PRIVATE KEY")))
+    && (not block.has_headers || block.is_encrypted))

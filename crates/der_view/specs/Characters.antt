@@ -8,8 +8,8 @@ use Rattle.std.specs.List.{flat_map, list_all}
 use Rattle.std.specs.Str.{chars, is_utf8}
 use Rattle.der_types.specs.Strings.{is_ia5, is_numeric_string, is_printable, is_visible}
 use Rattle.der_view.specs.declared.characters.Characters.{Characters}
-use Rattle.der_view.specs.declared.characters.Encoding.{Encoding}
-use Rattle.der_view.specs.declared.characters.Encoding.TheVariants as encodings
+use Rattle.der_view.specs.declared.characters.Encoded.{Encoded}
+use Rattle.der_view.specs.declared.characters.Encoded.TheVariants as encodings
 
 -- X.690 section 8.23.8: units of 16 bits, in two bytes each, the most significant first
 abbrev pub units_of : List ℕ → List ℕ
@@ -37,32 +37,28 @@ abbrev pub before_none : List (Option ℕ) → List ℕ
 before_none (Some code ∷ codes) = code ∷ before_none codes
 before_none _ = []
 
--- X.690 section 8.23: the codes of the characters (ISO/IEC 10646) in these bytes
-abbrev pub codes_by : Encoding → List ℕ → List ℕ
-codes_by encodings.Utf8 bytes = chars bytes
-codes_by encodings.Utf16 bytes = before_none (utf16_chars (units_of bytes))
-codes_by encodings.Latin1 bytes = bytes
+abbrev pub utf16_codes : List ℕ → List ℕ
+utf16_codes bytes = before_none (utf16_chars (units_of bytes))
 
--- the codes of the characters that are left
+-- X.690 section 8.23: the codes of the characters (ISO/IEC 10646) that are left
+abbrev pub codes_in : Encoded → List ℕ
+codes_in (encodings.Utf8 text) = chars text.now
+codes_in (encodings.Utf16 bytes) = utf16_codes bytes.now
+codes_in (encodings.Latin1 bytes) = bytes.now
+
 abbrev pub codes_of : Characters → List ℕ
-codes_of characters = codes_by characters.encoding characters.bytes.now
+codes_of characters = codes_in characters.encoded
 
 -- the codes of the characters of the string type with this tag number; none of a type that is no
 -- string's, nor of bytes that aren't its characters
-abbrev pub encoding_of : ℕ → Option Encoding
-encoding_of number =
-    if number == 12 then Some encodings.Utf8
-    else (if (nat_le 18 number && nat_le number 22) || (nat_le 25 number && nat_le number 27)
-    then Some encodings.Latin1
-    else (if number == 30 then Some encodings.Utf16 else None))
-
-abbrev pub string_codes_by : Option Encoding → Bool → List ℕ → Option (List ℕ)
-string_codes_by (Some encoding) true bytes = Some (codes_by encoding bytes)
-string_codes_by _ _ bytes = None
-
 abbrev pub string_codes : ℕ → List ℕ → Option (List ℕ)
 string_codes number bytes =
-    string_codes_by (encoding_of number) (are_characters number bytes) bytes
+    if are_characters number bytes then
+    (if number == 12 then Some (chars bytes)
+    else (if (nat_le 18 number && nat_le number 22) || (nat_le 25 number && nat_le number 27)
+    then Some bytes
+    else (if number == 30 then Some (utf16_codes bytes) else None)))
+    else None
 
 -- a character as it is shown: itself if it prints in ASCII, `"` and `\` after a `\`, and another
 -- one by its code in hexadecimal

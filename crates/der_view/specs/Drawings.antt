@@ -1,5 +1,5 @@
 -- The picture of an input: those of its sources, one after the other.
-use Rattle.std.specs.Prelude.{ℕ, ◌↔◌, ◌||◌, Bool, true, false, IsTrue, List, [], ◌∷◌, ◌++◌, codes}
+use Rattle.std.specs.Prelude.{ℕ, ◌↔◌, ◌||◌, Bool, false, IsTrue, List, [], ◌∷◌, ◌++◌, codes}
 use Rattle.std.specs.Prelude.{length, Option, Some, None, is_none, option_map, if◌then◌else◌}
 use Rattle.std.specs.Fmt.{decimal}
 use Rattle.sec1.specs.KeyFaults.{key_fault}
@@ -13,7 +13,7 @@ use Rattle.der_view.specs.Pictures.{plan_of, rows_by}
 use Rattle.der_view.specs.Printing.{line_text, rows_text}
 use Rattle.der_view.specs.Said.{file_note, note_text, said_text}
 use Rattle.der_view.specs.Sentences.{reason_of}
-use Rattle.der_view.specs.Sources.{SourceView, Der, Pem, Text, Wide, sources_of}
+use Rattle.der_view.specs.Sources.{SourceView, Der, Pem, Text, sources_of}
 use Rattle.der_view.specs.declared.known.Known.{Known}
 use Rattle.der_view.specs.declared.plan.Plan.{Plan}
 use Rattle.der_view.specs.declared.said.Reading.{Reading}
@@ -71,13 +71,6 @@ pem_heading line label found has_end =
     ++ (decimal line
     ++ (codes ", " ++ (label ++ (codes ": " ++ (found_text found ++ end_text has_end)))))
 
-abbrev pub encoding_word : Encoding → List ℕ
-encoding_word encodings.Hexadecimal = codes "hexadecimal: "
-encoding_word _ = codes "base64: "
-
-abbrev pub plain_heading : Encoding → Found → List ℕ
-plain_heading encoding found = encoding_word encoding ++ found_text found
-
 abbrev pub armour_heading : Found → ArmourView → List ℕ
 armour_heading found armour = pem_heading armour.line armour.label found armour.has_end
 
@@ -88,9 +81,9 @@ text_heading text (founds.Said note) = None
 text_heading text (founds.Decoded encodings.Pem flaw len) =
     option_map (armour_heading (founds.Decoded encodings.Pem flaw len)) (armour_of text)
 text_heading text (founds.Decoded encodings.Hexadecimal flaw len) =
-    Some (plain_heading encodings.Hexadecimal (founds.Decoded encodings.Hexadecimal flaw len))
+    Some (codes "hexadecimal: " ++ found_text (founds.Decoded encodings.Hexadecimal flaw len))
 text_heading text (founds.Decoded encodings.Base64 flaw len) =
-    Some (plain_heading encodings.Base64 (founds.Decoded encodings.Base64 flaw len))
+    Some (codes "base64: " ++ found_text (founds.Decoded encodings.Base64 flaw len))
 
 abbrev pub heading_of : SourceView → Found → Option (List ℕ)
 heading_of (Pem block is_read) found = Some (pem_heading block.line block.label found block.has_end)
@@ -120,30 +113,27 @@ found_of Itself = founds.Itself
 found_of (Bytes encoding flaw bytes) = founds.Decoded encoding flaw (length bytes)
 found_of (Said note) = founds.Said note
 
-abbrev pub content_text : Bool → Reading → Content → List ℕ
-content_text all reading Itself = []
-content_text all reading (Bytes encoding flaw bytes) =
-    bytes_text all (reading_with reading flaw) bytes
-content_text all reading (Said note) = note_text note
-
--- the picture of a source with this content
-unfoldable pub decoded_text : Bool → SourceView → Content → List ℕ
-decoded_text all source content =
-    heading_line (heading_of source (found_of content))
-    ++ content_text all (reading_of source) content
+-- the picture of a content of a source
+abbrev pub content_text : Bool → SourceView → Content → List ℕ
+content_text all source (Bytes encoding flaw bytes) =
+    bytes_text all (reading_with (reading_of source) flaw) bytes
+content_text all source (Said note) = note_text note
+content_text all (Der input) Itself = bytes_text all readings.Der input
+content_text all source Itself = []
 
 abbrev pub source_text : Bool → SourceView → List ℕ
-source_text all (Der input) = bytes_text all readings.Der input
-source_text all source = decoded_text all source (content_of source)
+source_text all source =
+    heading_line (heading_of source (found_of (content_of source)))
+    ++ content_text all source (content_of source)
 
 -- whether it is a key's
-abbrev pub content_key : Content → Bool
-content_key (Bytes encoding flaw bytes) = is_key_of bytes
-content_key _ = false
+abbrev pub content_key : SourceView → Content → Bool
+content_key source (Bytes encoding flaw bytes) = is_key_of bytes
+content_key (Der input) Itself = is_key_of input
+content_key source content = false
 
 abbrev pub source_key : SourceView → Bool
-source_key (Der input) = is_key_of input
-source_key source = content_key (content_of source)
+source_key source = content_key source (content_of source)
 
 -- ---- an input
 

@@ -1,22 +1,33 @@
 -- What hexadecimal and base64 encode.
-use Rattle.std.specs.Prelude.{◌≡◌, ℕ, ◌==◌, ◌||◌, ◌&&◌, not, Bool, false, List, [], ◌∷◌, filter}
-use Rattle.std.specs.Prelude.{length, nat_le, ◌+◌}
-use Rattle.std.specs.Prelude.{take, ◌≤◌}
-use Rattle.std.specs.Prelude.{if◌then◌else◌, Option, Some, None, Result, Ok, Err}
+use Rattle.std.specs.Prelude.{◌≡◌, ℕ, ◌+◌, ◌≤◌, ◌==◌, ◌||◌, ◌&&◌, nat_eq, Bool, List, [], ◌∷◌}
+use Rattle.std.specs.Prelude.{length, take, if◌then◌else◌, Option, Some, None}
+use Rattle.std.specs.Prelude.{Result, Ok, Err, true, false}
 use Rattle.std.specs.Char.{is_ascii_alphanumeric}
+use Rattle.std.specs.List.{cons_option, starts_with}
 use Rattle.base64.specs.Engines.{standard, standard_no_pad}
 use Rattle.base64.specs.GeneralPurpose.{decode_of as base64_decode_of}
 use Rattle.hex.specs.Hex.{decode_of as hex_decode_of}
-use Rattle.std.specs.Str.{bytes_eq}
 use Rattle.der_view.specs.Pictures.{plan_of}
 
 -- a space, a tab, a carriage return or a line feed
 abbrev pub is_blank : ℕ → Bool
 is_blank byte = byte == 0x20 || byte == 0x09 || byte == 0x0D || byte == 0x0A
 
--- the text with no blank in it
-abbrev pub stripped : List ℕ → List ℕ
-stripped text = filter (λ byte. not (is_blank byte)) text
+-- the digit of base64 for a byte after another one, if it is one: any that is no blank; or in what
+-- is almost base64 those of base64 and base64url (RFC 4648 sections 4 and 5), without ends of lines
+-- that are written as a backslash and a letter
+abbrev pub digit_of : Bool → ℕ → ℕ → Option ℕ
+digit_of false previous byte = if is_blank byte then None else Some byte
+digit_of true previous byte =
+    if previous == 0x5C && (byte == 0x6E || byte == 0x72) then None
+    else (if is_ascii_alphanumeric byte || (byte == 0x2B || byte == 0x2F) then Some byte
+    else (if byte == 0x2D then Some 0x2B else (if byte == 0x5F then Some 0x2F else None)))
+
+-- the digits in a text after this byte
+abbrev pub digits_in : Bool → ℕ → List ℕ → List ℕ
+digits_in is_almost previous [] = []
+digits_in is_almost previous (byte ∷ text) =
+    cons_option (digit_of is_almost previous byte) (digits_in is_almost byte text)
 
 -- what was decoded, if there is something
 abbrev pub found_of : {E : Type 0} → Result (List ℕ) E → Option (List ℕ)
@@ -25,7 +36,7 @@ found_of (Err e) = None
 
 -- the bytes that base64 encodes (RFC 4648 section 4), blanks left out; None if it is none
 abbrev pub base64_bytes : List ℕ → Option (List ℕ)
-base64_bytes text = found_of (base64_decode_of standard (stripped text))
+base64_bytes text = found_of (base64_decode_of standard (digits_in false 0 text))
 
 -- what may stand between hexadecimal digits: a blank, a colon or a comma
 abbrev pub is_separator : ℕ → Bool
@@ -40,25 +51,16 @@ hex_digits (byte ∷ next ∷ text) =
     else (if is_separator byte then hex_digits (next ∷ text)
     else byte ∷ next ∷ hex_digits text)
 
--- bytes, of which there are some
-abbrev pub some_bytes : Option (List ℕ) → Option (List ℕ)
-some_bytes (Some (byte ∷ bytes)) = Some (byte ∷ bytes)
-some_bytes _ = None
-
--- the bytes that hexadecimal digits encode, one or more; None if these aren't such digits
+-- the bytes that hexadecimal digits encode; None if these aren't such digits
 abbrev pub hex_bytes : List ℕ → Option (List ℕ)
-hex_bytes text = some_bytes (found_of (hex_decode_of (hex_digits text)))
-
--- whether a text begins with another
-abbrev pub begins_with : List ℕ → List ℕ → Bool
-begins_with text other =
-    nat_le (length other) (length text) && bytes_eq (take (length other) text) other
+hex_bytes text = found_of (hex_decode_of (hex_digits text))
 
 -- the first place from this one on at which a text has another
 abbrev pub place_from : ℕ → List ℕ → List ℕ → Option ℕ
 place_from place [] other = None
 place_from place (byte ∷ bytes) other =
-    if begins_with (byte ∷ bytes) other then Some place else place_from (place + 1) bytes other
+    if starts_with nat_eq (byte ∷ bytes) other then Some place
+    else place_from (place + 1) bytes other
 
 -- the first place at which a text has another
 unfoldable pub place_of : List ℕ → List ℕ → Option ℕ
@@ -66,41 +68,13 @@ place_of text other = place_from 0 text other
 
 -- ---- base64 that is no such
 
--- a digit of base64 or base64url (RFC 4648 sections 4 and 5)
-abbrev pub is_digit : ℕ → Bool
-is_digit byte =
-    is_ascii_alphanumeric byte
-    || (byte == 0x2B || (byte == 0x2F || (byte == 0x2D || byte == 0x5F)))
-
--- that of base64
-abbrev pub standard_digit : ℕ → ℕ
-standard_digit byte =
-    if byte == 0x2D then 0x2B else (if byte == 0x5F then 0x2F else byte)
-
-abbrev pub with_digit : ℕ → List ℕ → List ℕ
-with_digit byte text = if is_digit byte then standard_digit byte ∷ text else text
-
--- bytes begin with the letter of an end of a line
-abbrev pub is_escape : List ℕ → Bool
-is_escape [] = false
-is_escape (byte ∷ bytes) = byte == 0x6E || byte == 0x72
-
--- the digits in a text, without padding and without ends of lines that are written as a backslash
--- and a letter
-abbrev pub mended_digits : List ℕ → List ℕ
-mended_digits [] = []
-mended_digits (byte ∷ []) = with_digit byte []
-mended_digits (byte ∷ next ∷ text) =
-    if byte == 0x5C && (next == 0x6E || next == 0x72) then mended_digits text
-    else with_digit byte (mended_digits (next ∷ text))
-
 abbrev pub tree_in : Option (List ℕ) → Option (List ℕ)
 tree_in None = None
 tree_in (Some bytes) = if (plan_of bytes).is_tree then Some bytes else None
 
 -- the bytes that such digits encode, if these are one whole element
 unfoldable pub mended_bytes : List ℕ → Option (List ℕ)
-mended_bytes text = tree_in (found_of (base64_decode_of standard_no_pad (mended_digits text)))
+mended_bytes text = tree_in (found_of (base64_decode_of standard_no_pad (digits_in true 0 text)))
 
 -- these bytes are at the front of the memory, so many of them, or there are none
 abbrev pub IsDecoded : Option (List ℕ) → Option ℕ → List ℕ → Type 0

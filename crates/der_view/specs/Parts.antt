@@ -3,10 +3,10 @@ use Rattle.std.specs.Prelude.{◌≡◌, ℕ, ◌≤◌, ◌==◌, ◌||◌, ◌
 use Rattle.std.specs.Prelude.{List, [], ◌∷◌, length, take, drop, codes, Option, Some, None}
 use Rattle.std.specs.Prelude.{is_some}
 use Rattle.std.specs.Char.{is_ascii_whitespace}
-use Rattle.std.specs.List.{before_first, prefix_len}
+use Rattle.std.specs.List.{prefix_len}
 use Rattle.std.specs.Str.{bytes_eq}
 use Rattle.der_view.specs.Almost.{ArmourView, armour_flaw, armour_of, body_flaw, has}
-use Rattle.der_view.specs.Blocks.{BlockView, is_line_end}
+use Rattle.der_view.specs.Blocks.{BlockView, line_len}
 use Rattle.der_view.specs.Encoded.{base64_bytes, hex_bytes, mended_bytes, place_of}
 use Rattle.der_view.specs.Sources.{SourceView, Der, Pem, Text, Wide, begins}
 use Rattle.der_view.specs.declared.sentences.Sentence.{Sentence}
@@ -65,11 +65,6 @@ almost_content text said = almost_by text said (armour_of text)
 
 -- ---- a block of PEM
 
--- of one that is encrypted (RFC 1421): a key that OpenSSL reads, or any other
-abbrev pub encrypted_note : Bool → Sentence
-encrypted_note is_key =
-    if is_key then sentences.EncryptedEcKey else sentences.EncryptedBlock
-
 -- of OpenSSH's own form: its body in base64, and its bytes
 unfoldable pub openssh_note : List ℕ → List ℕ → Sentence
 openssh_note body bytes =
@@ -87,7 +82,9 @@ unfoldable pub block_content : BlockView → Bool → Content
 block_content block is_read =
     if begins block.label (codes "PGP ") then Said sentences.Pgp
     else (if block.is_encrypted
-    then Said (encrypted_note (is_read && bytes_eq block.label (codes "EC PRIVATE KEY")))
+    then Said
+    (if is_read && bytes_eq block.label (codes "EC PRIVATE KEY") then sentences.EncryptedEcKey
+    else sentences.EncryptedBlock)
     else pem_content block (base64_bytes block.body))
 
 -- ---- a text with no block
@@ -106,11 +103,6 @@ putty_note line =
     if finds line (codes "ssh-ed25519") || finds line (codes "ssh-ed448")
     then sentences.PuttyEdwards else sentences.Putty
 
--- whether a text begins as a public key of OpenSSH does
-abbrev pub is_ssh : List ℕ → Bool
-is_ssh text =
-    begins text (codes "ssh-") || (begins text (codes "ecdsa-sha2-") || begins text (codes "sk-"))
-
 -- a text without white space in front
 abbrev pub trimmed_start : List ℕ → List ℕ
 trimmed_start text = drop (prefix_len is_ascii_whitespace text) text
@@ -126,8 +118,11 @@ is_json text = is_object (trimmed_start text)
 -- of a text that encodes nothing, by how it begins
 unfoldable pub note_of : List ℕ → Sentence
 note_of text =
-    if begins text (codes "PuTTY-User-Key-File-") then putty_note (before_first is_line_end text)
-    else (if is_ssh text then sentences.Ssh
+    if begins text (codes "PuTTY-User-Key-File-") then
+    putty_note (take (line_len text) text)
+    else (if begins text (codes "ssh-")
+    || (begins text (codes "ecdsa-sha2-") || begins text (codes "sk-"))
+    then sentences.Ssh
     else (if is_json text then sentences.Json else sentences.Text))
 
 abbrev pub base64_by : List ℕ → Option (List ℕ) → Content
@@ -139,8 +134,8 @@ unfoldable pub base64_content : List ℕ → Content
 base64_content text = base64_by text (base64_bytes text)
 
 abbrev pub hex_by : List ℕ → Option (List ℕ) → Content
-hex_by text (Some bytes) = Bytes encodings.Hexadecimal flaws.Nothing bytes
-hex_by text None = base64_content text
+hex_by text (Some (byte ∷ bytes)) = Bytes encodings.Hexadecimal flaws.Nothing (byte ∷ bytes)
+hex_by text found = base64_content text
 
 abbrev pub text_by : List ℕ → Option Sentence → Content
 text_by text (Some note) = Said note

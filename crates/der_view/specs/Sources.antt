@@ -1,8 +1,8 @@
 -- What an input is: DER, or a text that encodes some.
-use Rattle.std.specs.Prelude.{◌≡◌, ℕ, ◌≤◌, ◌==◌, ◌&&◌, ◌||◌, not, nat_le, Bool, true, false}
+use Rattle.std.specs.Prelude.{ℕ, ◌+◌, ◌==◌, ◌&&◌, ◌||◌, not, nat_le, Bool, true, false}
 use Rattle.std.specs.Prelude.{if◌then◌else◌, List, [], ◌∷◌, length, take, drop, Option, Some, None}
 use Rattle.std.specs.Prelude.{option_map, is_some, codes, nat_eq}
-use Rattle.std.specs.List.{AllByRecursion, cons_option, list_all, list_any, starts_with}
+use Rattle.std.specs.List.{list_all, list_any, starts_with}
 use Rattle.std.specs.Str.{bytes_eq, is_utf8}
 use Rattle.der_view.specs.Blocks.{BlockView, block_view, blocks_in, is_key_of_openssl}
 use Rattle.der_view.specs.Blocks.{is_of_private_key, lines_of}
@@ -72,19 +72,19 @@ wide_note input =
 abbrev pub pem_sources : Bool → List BlockView → List SourceView
 pem_sources reads [] = []
 pem_sources reads (block ∷ blocks) =
-    if is_of_private_key block then
-    Pem block (reads && is_key_of_openssl block) ∷ pem_sources false blocks
-    else Pem block false ∷ pem_sources reads blocks
+    Pem block (reads && is_key_of_openssl block)
+    ∷ pem_sources (reads && not (is_of_private_key block)) blocks
 
-abbrev pub or_source : SourceView → List SourceView → List SourceView
-or_source other [] = other ∷ []
-or_source other (source ∷ sources) = source ∷ sources
+abbrev pub or_source : Option SourceView → List SourceView → List SourceView
+or_source None sources = sources
+or_source (Some other) [] = other ∷ []
+or_source (Some other) (source ∷ sources) = source ∷ sources
 
 -- the blocks of PEM of an input, or else this source. OpenSSL reads no lines that end in a carriage
 -- return alone.
 abbrev pub blocks_or : SourceView → List ℕ → List SourceView
 blocks_or other input =
-    or_source other
+    or_source (Some other)
     (pem_sources (list_any (λ byte. byte == 0x0A) input) (blocks_in 0 (lines_of input)))
 
 -- a text without the byte order mark of UTF-8 (RFC 3629 section 6)
@@ -111,16 +111,11 @@ source_len (Pem block is_read) = length block.body
 source_len (Text text) = length text
 source_len (Wide note) = 0
 
--- each source is of so many bytes of text at most
-abbrev pub AreWithin : ℕ → List SourceView → Type 0
-AreWithin most sources = AllByRecursion (λ source. source_len source ≤ most) sources
+abbrev pub total_len : List SourceView → ℕ
+total_len [] = 0
+total_len (source ∷ sources) = source_len source + total_len sources
 
--- a source that is read already, and the blocks in these lines
+-- the blocks in these lines, or else a source that isn't read yet
 abbrev pub sources_left : Option Source → Bool → ℕ → List ℕ → List SourceView
-sources_left next reads number text =
-    cons_option (option_map source_view next) (pem_sources reads (blocks_in number (lines_of text)))
-
--- a source is read already, or none is left
-abbrev pub IsAhead : Option Source → List SourceView → Type 0
-IsAhead None sources = sources ≡ []
-IsAhead (Some source) sources = Unit {0}
+sources_left other reads number text =
+    or_source (option_map source_view other) (pem_sources reads (blocks_in number (lines_of text)))

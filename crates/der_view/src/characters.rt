@@ -1,30 +1,27 @@
 //! The characters of a string.
-ghost use Rattle.std.specs.Prelude.{◌≡◌, ◌==◌, ◌<◌, ◌+◌, ◌-◌, ◌*◌, [], ◌∷◌, IfSome, MatchOption};
-ghost use Rattle.std.specs.Prelude.{length, option_map};
-ghost use Rattle.std.specs.Prelude.{◌&&◌, None, Some, if◌then◌else◌};
-ghost use Rattle.std.specs.Char.Utf16.{is_high_surrogate, is_low_surrogate};
-ghost use Rattle.der_view.specs.Characters.{are_characters, codes_by, codes_of, encoding_of};
-ghost use Rattle.der_view.specs.Characters.{is_utf16, string_codes};
-ghost use Rattle.der_view.specs.Characters.{units_of};
+ghost use Rattle.std.specs.Prelude.{◌≡◌, ◌==◌, ◌<◌, ◌+◌, ◌*◌, ◌%◌, [], ◌∷◌, ◌&&◌, MatchOption};
+ghost use Rattle.std.specs.Prelude.{Some, chars, length, nat_le, nat_lt, option_map};
+ghost use Rattle.std.specs.Char.Utf16.{is_high_surrogate, is_low_surrogate, utf16_chars};
+ghost use Rattle.der_view.specs.Characters.{are_characters, codes_of, is_utf16, string_codes};
+ghost use Rattle.der_view.specs.Characters.{units_of, utf16_codes};
 
 use der_types::kind::{Ia5String, Kind, NumericString, PrintableString, Utf8String, VisibleString};
 
-/// How characters are encoded.
+/// Bytes that stand for characters.
 #[derive(Clone, Copy)]
-enum Encoding {
+enum Encoded<'a> {
     /// In UTF-8 (X.690 section 8.23.10).
-    Utf8,
+    Utf8(&'a str),
     /// In UTF-16, the most significant byte first (X.690 section 8.23.8).
-    Utf16,
+    Utf16(&'a [u8]),
     /// In a byte each, as ISO 8859-1 has them.
-    Latin1,
+    Latin1(&'a [u8]),
 }
 
 /// The characters of a string, from the next one on.
 #[derive(Clone, Copy)]
 pub struct Characters<'a> {
-    encoding: Encoding,
-    bytes: &'a [u8],
+    encoded: Encoded<'a>,
 }
 
 impl<'a> Characters<'a> {
@@ -33,8 +30,7 @@ impl<'a> Characters<'a> {
         ensures { codes_of result ≡ bytes.now }
     {
         Characters {
-            encoding: Encoding::Latin1,
-            bytes,
+            encoded: Encoded::Latin1(bytes),
         }
     }
 
@@ -43,8 +39,20 @@ impl<'a> Characters<'a> {
     pub(crate) fn of_string(number: u32, bytes: &'a [u8]) -> Option<Characters<'a>>
         ensures { option_map codes_of result ≡ string_codes number bytes.now }
     {
-        match encoding_of(number) {
-            Some(encoding) if are_characters(number, bytes) => Some(Characters { encoding, bytes }),
+        if !are_characters(number, bytes) {
+            return None;
+        }
+        match number {
+            12 => match str::from_utf8(bytes) {
+                Ok(text) => Some(Characters {
+                    encoded: Encoded::Utf8(text),
+                }),
+                Err(_) => None,
+            },
+            18..=22 | 25..=27 => Some(Characters::latin1(bytes)),
+            30 => Some(Characters {
+                encoded: Encoded::Utf16(bytes),
+            }),
             _ => None,
         }
     }
@@ -54,22 +62,23 @@ impl<'a> Characters<'a> {
         ensures { MatchOption result ((codes_of self.old ≡ []) × (self.new ≡ self.old))
             (λ code. codes_of self.old ≡ code ∷ codes_of self.new) }
     {
-        let (character, rest) = split_character(self.encoding, self.bytes)?;
-        self.bytes = rest;
-        Some(character)
-    }
-}
-
-/// Returns how the characters of a string type of X.680 are encoded (X.690 section 8.23); `None` if
-/// the type is none.
-fn encoding_of(number: u32) -> Option<Encoding>
-    ensures { result ≡ encoding_of number }
-{
-    match number {
-        12 => Some(Encoding::Utf8),
-        18..=22 | 25..=27 => Some(Encoding::Latin1),
-        30 => Some(Encoding::Utf16),
-        _ => None,
+        match self.encoded {
+            Encoded::Utf8(text) => {
+                let (code, rest) = split_utf8(text)?;
+                self.encoded = Encoded::Utf8(rest);
+                Some(code)
+            }
+            Encoded::Utf16(bytes) => {
+                let (code, rest) = split_utf16(bytes)?;
+                self.encoded = Encoded::Utf16(rest);
+                Some(code)
+            }
+            Encoded::Latin1(bytes) => {
+                let (code, rest) = bytes.split_first()?;
+                self.encoded = Encoded::Latin1(rest);
+                Some(u32::from(*code))
+            }
+        }
     }
 }
 
@@ -101,61 +110,14 @@ fn are_utf16(bytes: &[u8]) -> bool
     rest.is_empty()
 }
 
-/// Returns the first character and the bytes after it; `None` if the bytes don't begin with one.
-fn split_character(encoding: Encoding, bytes: &[u8]) -> Option<(u32, &[u8])>
-    ensures { MatchOption result (codes_by encoding bytes.now ≡ [])
-        (λ split. codes_by encoding bytes.now ≡ split.0 ∷ codes_by encoding split.1.now) }
+/// Returns the first character of a text and the text after it.
+fn split_utf8(text: &str) -> Option<(u32, &str)>
+    ensures { MatchOption result (chars text.now ≡ [])
+        (λ split. chars text.now ≡ split.0 ∷ chars split.1.now) }
 {
-    match encoding {
-        Encoding::Utf8 => split_utf8(bytes),
-        Encoding::Utf16 => split_utf16(bytes),
-        Encoding::Latin1 => split_latin1(bytes),
-    }
-}
-
-/// Returns the first character in ISO 8859-1 and the bytes after it.
-fn split_latin1(bytes: &[u8]) -> Option<(u32, &[u8])>
-    ensures { MatchOption result (codes_by Encoding.Latin1 bytes.now ≡ [])
-        (λ split. codes_by Encoding.Latin1 bytes.now
-        ≡ split.0 ∷ codes_by Encoding.Latin1 split.1.now) }
-{
-    match bytes {
-        [byte, rest @ ..] => Some((u32::from(*byte), rest)),
-        [] => None,
-    }
-}
-
-/// Returns the first character in UTF-8 (RFC 3629 section 3), whose bytes were tested, and the
-/// bytes after it.
-fn split_utf8(bytes: &[u8]) -> Option<(u32, &[u8])>
-    ensures { MatchOption result (codes_by Encoding.Utf8 bytes.now ≡ [])
-        (λ split. codes_by Encoding.Utf8 bytes.now ≡ split.0 ∷ codes_by Encoding.Utf8 split.1.now) }
-{
-    let (first, rest) = bytes.split_first()?;
-    if *first < 0x80 {
-        return Some((u32::from(*first), rest));
-    }
-    let (second, rest) = rest.split_first()?;
-    if *first < 0xE0 {
-        return Some((0x40 * bits(*first, 0xC0) + bits(*second, 0x80), rest));
-    }
-    let (third, rest) = rest.split_first()?;
-    let high = 0x40 * bits(*second, 0x80) + bits(*third, 0x80);
-    if *first < 0xF0 {
-        return Some((0x1000 * bits(*first, 0xE0) + high, rest));
-    }
-    let (fourth, rest) = rest.split_first()?;
-    Some((
-        0x4_0000 * bits(*first, 0xF0) + 0x40 * high + bits(*fourth, 0x80),
-        rest,
-    ))
-}
-
-/// Returns the bits of a character in a byte: what it has above its mark.
-fn bits(byte: u8, mark: u8) -> u32
-    ensures { result ≡ byte - mark }
-{
-    u32::from(byte.saturating_sub(mark))
+    let mut characters = text.chars();
+    let first = characters.next()?;
+    Some((u32::from(first), characters.as_str()))
 }
 
 /// Returns the first unit of 16 bits, the most significant byte first, and the bytes after it;
@@ -175,15 +137,15 @@ fn split_unit(bytes: &[u8]) -> Option<(u32, &[u8])>
 /// Returns the first character in UTF-16 (ISO/IEC 10646 section 9.4) and the bytes after it; `None`
 /// if the bytes don't begin with one.
 fn split_utf16(bytes: &[u8]) -> Option<(u32, &[u8])>
-    ensures codes { MatchOption result (codes_by Encoding.Utf16 bytes.now ≡ [])
-        (λ split. codes_by Encoding.Utf16 bytes.now
-        ≡ split.0 ∷ codes_by Encoding.Utf16 split.1.now) }
-    ensures valid { MatchOption result (is_utf16 bytes.now ≡ (length bytes.now == 0))
-        (λ split. is_utf16 bytes.now ≡ is_utf16 split.1.now) }
-    ensures shorter { IfSome result (λ split. length split.1.now < length bytes.now) }
+    ensures { MatchOption result
+        ((utf16_codes bytes.now ≡ []) × (is_utf16 bytes.now ≡ (length bytes.now == 0)))
+        (λ split. (utf16_chars (units_of bytes.now)
+        ≡ Some split.0 ∷ utf16_chars (units_of split.1.now))
+        × (length bytes.now % 2 ≡ length split.1.now % 2)
+        × (length split.1.now < length bytes.now)) }
 {
     let (high, after) = split_unit(bytes)?;
-    if high < 0xD800 || high >= 0xE000 {
+    if !is_surrogate(high) {
         return Some((high, after));
     }
     let (low, rest) = split_unit(after)?;
@@ -192,6 +154,13 @@ fn split_utf16(bytes: &[u8]) -> Option<(u32, &[u8])>
     } else {
         None
     }
+}
+
+/// Returns `true` if a unit is one of the two of a character.
+fn is_surrogate(unit: u32) -> bool
+    ensures { result ≡ (nat_le 0xD800 unit && nat_lt unit 0xE000) }
+{
+    unit >= 0xD800 && unit < 0xE000
 }
 
 /// Returns `true` if the two units are those of one character.

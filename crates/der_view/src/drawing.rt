@@ -1,19 +1,13 @@
 //! The picture of an input: what is printed of it.
-ghost use Rattle.std.specs.Prelude.{◌≡◌, ◌++◌, ◌≤◌, ◌+◌, ◌*◌, false, length, IfOk, OnOk};
-ghost use Rattle.std.specs.Prelude.{option_map};
-ghost use Rattle.der_view.specs.Drawings.{IsKey, bytes_text, decoded_text, encoding_word, end_text};
-ghost use Rattle.der_view.specs.Drawings.{flaw_words, found_text, has_key, heading_line};
-ghost use Rattle.der_view.specs.Drawings.{heading_of};
-ghost use Rattle.der_view.specs.Drawings.{is_key_of, known_of, pem_heading, picture_text};
-ghost use Rattle.der_view.specs.Drawings.{reading_of};
-ghost use Rattle.der_view.specs.Drawings.{reading_with, source_key, source_text};
-ghost use Rattle.der_view.specs.Drawings.{content_key, content_text, plain_heading, text_heading};
-ghost use Rattle.der_view.specs.Lines.{kept, shown};
-ghost use Rattle.der_view.specs.Parts.{content_of};
+ghost use Rattle.std.specs.Prelude.{◌≡◌, ◌++◌, ◌≤◌, ◌+◌, ◌*◌, length, IfOk, OnOk, option_map};
+ghost use Rattle.der_view.specs.Drawings.{IsKey, end_text, flaw_words, found_text};
+ghost use Rattle.der_view.specs.Drawings.{has_key, heading_of, is_key_of, known_of, pem_heading};
+ghost use Rattle.der_view.specs.Drawings.{picture_text, reading_of, reading_with};
+ghost use Rattle.der_view.specs.Drawings.{text_heading};
+ghost use Rattle.der_view.specs.Lines.{kept};
 ghost use Rattle.der_view.specs.Pictures.{plan_of};
-ghost use Rattle.der_view.specs.Printing.{line_text};
-ghost use Rattle.der_view.specs.Said.{line_if, misfit_text, note_text, said_lines, said_text};
-ghost use Rattle.der_view.specs.Sources.{source_len, source_view, text_len};
+ghost use Rattle.der_view.specs.Said.{line_if, misfit_text, said_lines, said_text};
+ghost use Rattle.der_view.specs.Sources.{source_view, text_len};
 
 use crate::faults::key_fault;
 use crate::form::draw_rows;
@@ -21,13 +15,14 @@ use crate::known::Known;
 use crate::line::Line;
 use crate::output::Output;
 use crate::plan::{Plan, plan_of};
-use crate::printer::{write_line, write_rows};
+use crate::printer::write_line;
 use crate::said::{
     Reading, SaidLines, advice_of, file_note, first_line, key_misfit, line_of, misfit_line,
     point_misfit,
 };
 use crate::sentences::Sentence;
-use crate::text::{Encoding, Flaw, Found, Source, Sources, armour_of};
+use crate::showing::{Options, show};
+use crate::text::{Encoding, Flaw, Found, Source, armour_of};
 use sec1::BorrowedKey;
 
 /// Writes the picture of an input: of DER, or of what its text encodes. Returns whether some part
@@ -48,109 +43,14 @@ pub fn draw<W: Output>(
     ensures text { OnOk result (W.appends writer.old writer.new (picture_text all input.now)) }
     ensures key { IfOk result (λ found. found ≡ has_key input.now) }
 {
-    // By halves: to know how long a text is, each byte of a key would be looked at.
-    let (digits, bytes) = room.split_at_mut(room.len() / 2 - 1);
-    let mut sources = Sources::new(input);
-    let mut has_key = false;
-    while let Some(source) = sources.next_source() {
-        let is_key = draw_source(writer, &source, digits, bytes, all)?;
-        has_key |= is_key;
-    }
-    Ok(has_key)
-}
-
-/// Writes the picture of a source. Returns whether it is a key's.
-fn draw_source<W: Output>(
-    writer: &mut W,
-    source: &Source,
-    digits: &mut [u8],
-    bytes: &mut [u8],
-    all: bool,
-) -> Result<bool, W::Error>
-    requires digits { source_len (source_view source.now) ≤ length digits.old }
-    requires bytes { source_len (source_view source.now) + 2 ≤ length bytes.old }
-    ensures text { OnOk result
-        (W.appends writer.old writer.new (source_text all (source_view source.now))) }
-    ensures key { IfOk result (λ is_key. is_key ≡ source_key (source_view source.now)) }
-{
-    match source {
-        Source::Der(input) => draw_bytes(writer, *input, Reading::Der, all),
-        _ => draw_text(writer, source, digits, bytes, all),
-    }
-}
-
-/// Writes the picture of a source that is text. Returns whether it is a key's.
-fn draw_text<W: Output>(
-    writer: &mut W,
-    source: &Source,
-    digits: &mut [u8],
-    bytes: &mut [u8],
-    all: bool,
-) -> Result<bool, W::Error>
-    requires digits { source_len (source_view source.now) ≤ length digits.old }
-    requires bytes { source_len (source_view source.now) + 2 ≤ length bytes.old }
-    ensures text { OnOk result (W.appends writer.old writer.new
-        (decoded_text all (source_view source.now) (content_of (source_view source.now)))) }
-    ensures key { IfOk result
-        (λ is_key. is_key ≡ content_key (content_of (source_view source.now))) }
-{
-    let found = source.find(digits, bytes);
-    write_heading(writer, source, &found)?;
-    match found {
-        Found::Decoded(_, flaw, len) => {
-            draw_bytes(
-                writer,
-                &bytes[..len],
-                reading_with(source.reading(), flaw),
-                all,
-            )
-        }
-        Found::Said(note) => {
-            write_note(writer, note)?;
-            Ok(false)
-        }
-        Found::Itself => Ok(false),
-    }
-}
-
-/// Writes the line above the picture of a source, if it has one.
-pub(crate) fn write_heading<W: Output>(
-    writer: &mut W,
-    source: &Source,
-    found: &Found,
-) -> Result<(), W::Error>
-    ensures { OnOk result (W.appends writer.old writer.new
-        (heading_line (heading_of (source_view source.now) found.now))) }
-{
-    match source.heading(found) {
-        Some(line) => write_line(writer, &line),
-        None => Ok(()),
-    }
-}
-
-/// Writes the picture of bytes. Returns whether they are a key's.
-#[tactic(auto, unfolding(crate::specs::Drawings::bytes_text))]
-fn draw_bytes<W: Output>(
-    writer: &mut W,
-    bytes: &[u8],
-    reading: Reading,
-    all: bool,
-) -> Result<bool, W::Error>
-    ensures text { OnOk result
-        (W.appends writer.old writer.new (bytes_text all reading bytes.now)) }
-    ensures key { IfOk result (λ is_key. is_key ≡ is_key_of bytes.now) }
-{
-    let plan = plan_of(bytes);
-    write_rows(writer, plan, bytes, all)?;
-    let is_key = is_read_as_key(bytes);
-    write_said(
-        writer,
-        is_key,
-        reading,
-        file_note(bytes),
-        &known_of(plan, bytes),
-    )?;
-    Ok(is_key)
+    let options = Options {
+        all,
+        json: false,
+        levels: 0,
+        offset: 0,
+        file: &[],
+    };
+    show(writer, input, room, &options)
 }
 
 /// Returns `true` if the bytes are those of a key (RFC 5915 section 3).
@@ -242,31 +142,15 @@ fn write_misfit<W: Output>(
 }
 
 /// Writes a line with this text, if it isn't empty.
-fn write_text<W: Output>(writer: &mut W, front: &str, text: &str) -> Result<(), W::Error>
+pub(crate) fn write_text<W: Output>(writer: &mut W, front: &str, text: &str) -> Result<(), W::Error>
     ensures { OnOk result (W.appends writer.old writer.new (line_if front.now text.now)) }
 {
     if text.is_empty() {
-        Ok(())
-    } else {
-        write_line(writer, &joined(front, text))
+        return Ok(());
     }
-}
-
-/// Returns a line with these two texts.
-fn joined(front: &str, text: &str) -> Line
-    ensures { result ≡ kept (front.now ++ text.now) }
-{
     let mut line = line_of(front);
     line.push_str(text);
-    line
-}
-
-/// Writes what is said of a source that isn't drawn.
-pub(crate) fn write_note<W: Output>(writer: &mut W, note: Sentence) -> Result<(), W::Error>
-    ensures { OnOk result (W.appends writer.old writer.new (note_text note)) }
-{
-    write_text(writer, "", note.words())?;
-    write_text(writer, "  ", note.command())
+    write_line(writer, &line)
 }
 
 /// Returns how OpenSSL reads bytes of a text with this flaw, which it would read so without.
@@ -345,28 +229,19 @@ fn text_line(text: &[u8], found: &Found) -> Option<Line>
             let armour = armour_of(text)?;
             Some(pem_line(armour.line, armour.label, found, armour.has_end))
         }
-        Found::Decoded(encoding, _, _) => Some(plain_line(*encoding, found)),
+        Found::Decoded(Encoding::Hexadecimal, _, _) => Some(plain_line("hexadecimal: ", found)),
+        Found::Decoded(Encoding::Base64, _, _) => Some(plain_line("base64: ", found)),
         _ => None,
     }
 }
 
-/// Returns the line above the picture of a text in this encoding.
-fn plain_line(encoding: Encoding, found: &Found) -> Line
-    ensures { result ≡ kept (plain_heading encoding found.now) }
+/// Returns the line above the picture of a text in the encoding with this name.
+fn plain_line(encoding: &str, found: &Found) -> Line
+    ensures { result ≡ kept (encoding.now ++ found_text found.now) }
 {
-    let mut line = line_of(encoding_word(encoding));
+    let mut line = line_of(encoding);
     line.push_found(found);
     line
-}
-
-/// Returns the name of an encoding without armour.
-fn encoding_word(encoding: Encoding) -> &'static str
-    ensures { result.now ≡ encoding_word encoding }
-{
-    match encoding {
-        Encoding::Hexadecimal => "hexadecimal: ",
-        _ => "base64: ",
-    }
 }
 
 impl Line {

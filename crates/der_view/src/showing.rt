@@ -1,15 +1,15 @@
 //! Pictures in other forms: as lines of JSON, of one element alone, or of the outermost levels.
 ghost use Rattle.std.specs.Prelude.{◌≡◌, ◌≤◌, ◌+◌, ◌*◌, IfOk, OnOk, length, true};
-ghost use Rattle.der_view.specs.Drawings.{content_key, has_key, is_key_of, picture_text};
-ghost use Rattle.der_view.specs.Drawings.{source_key};
-ghost use Rattle.der_view.specs.Parts.{content_of};
+ghost use Rattle.der_view.specs.Drawings.{bytes_text, has_key, heading_line, heading_of};
+ghost use Rattle.der_view.specs.Drawings.{is_key_of, picture_text, source_key, source_text};
+ghost use Rattle.der_view.specs.Pictures.{rows_by};
+ghost use Rattle.der_view.specs.Printing.{rows_text};
+ghost use Rattle.der_view.specs.Said.{note_text};
 ghost use Rattle.der_view.specs.Shows.{are_plain};
 ghost use Rattle.der_view.specs.Sources.{source_len, source_view, text_len};
 
 use crate::characters::Characters;
-use crate::drawing::{
-    draw, is_read_as_key, known_of, reading_with, write_heading, write_note, write_said,
-};
+use crate::drawing::{is_read_as_key, known_of, reading_with, write_said, write_text};
 use crate::form::draw_rows;
 use crate::grammar::Component;
 use crate::json::{JsonRows, Object, mark_of, write_last, write_said_object};
@@ -17,7 +17,7 @@ use crate::line::Line;
 use crate::output::Output;
 use crate::part::drawn_element;
 use crate::plan::{Plan, plan_of};
-use crate::printer::{Printer, write_line};
+use crate::printer::{Printer, write_line, write_rows};
 use crate::said::{Reading, file_note};
 use crate::sentences::Sentence;
 use crate::text::{Encoding, Found, Source, Sources, armour_of};
@@ -38,17 +38,8 @@ pub struct Options<'a> {
     pub file: &'a [u8],
 }
 
-impl Options<'_> {
-    /// Returns `true` if the picture is the one that [`draw`] writes.
-    fn are_plain(&self) -> bool
-        ensures { result ≡ are_plain self.now }
-    {
-        !self.json && self.levels == 0 && self.offset == 0
-    }
-}
-
-/// Writes the picture of an input as [`draw`] does, or as the options ask. Returns whether some
-/// part of what is drawn is a key (RFC 5915 section 3).
+/// Writes the picture of an input as [`draw`](crate::draw) does, or as the options ask. Returns
+/// whether some part of what is drawn is a key (RFC 5915 section 3).
 ///
 /// `room` is memory for what is decoded, of [`room_len`](crate::room_len) bytes.
 ///
@@ -67,23 +58,7 @@ pub fn show<W: Output>(
         (W.appends writer.old writer.new (picture_text options.now.all input.now)) }
     ensures key { IfOk result (λ found. options.now.offset ≡ 0 → found ≡ has_key input.now) }
 {
-    if options.are_plain() {
-        draw(writer, input, room, options.all)
-    } else {
-        show_sources(writer, input, room, options)
-    }
-}
-
-/// Writes the pictures of the sources of an input. Returns whether one is a key's.
-fn show_sources<W: Output>(
-    writer: &mut W,
-    input: &[u8],
-    room: &mut [u8],
-    options: &Options,
-) -> Result<bool, W::Error>
-    requires { 2 * text_len input.now + 2 ≤ length room.old }
-    ensures { IfOk result (λ found. options.now.offset ≡ 0 → found ≡ has_key input.now) }
-{
+    // By halves: to know how long a text is, each byte of a key would be looked at.
     let (digits, bytes) = room.split_at_mut(room.len() / 2 - 1);
     let mut sources = Sources::new(input);
     let mut has_key = false;
@@ -104,30 +79,10 @@ fn show_source<W: Output>(
 ) -> Result<bool, W::Error>
     requires digits { source_len (source_view source.now) ≤ length digits.old }
     requires bytes { source_len (source_view source.now) + 2 ≤ length bytes.old }
-    ensures { IfOk result (λ is_key. options.now.offset ≡ 0
+    ensures text { are_plain options.now ≡ true → OnOk result (W.appends writer.old writer.new
+        (source_text options.now.all (source_view source.now))) }
+    ensures key { IfOk result (λ is_key. options.now.offset ≡ 0
         → is_key ≡ source_key (source_view source.now)) }
-{
-    match source {
-        Source::Der(input) => {
-            write_head(writer, source, &Found::Itself, options)?;
-            show_bytes(writer, *input, Reading::Der, options)
-        }
-        _ => show_text(writer, source, digits, bytes, options),
-    }
-}
-
-/// Writes the picture of a source that is text. Returns whether it is a key's.
-fn show_text<W: Output>(
-    writer: &mut W,
-    source: &Source,
-    digits: &mut [u8],
-    bytes: &mut [u8],
-    options: &Options,
-) -> Result<bool, W::Error>
-    requires digits { source_len (source_view source.now) ≤ length digits.old }
-    requires bytes { source_len (source_view source.now) + 2 ≤ length bytes.old }
-    ensures { IfOk result (λ is_key. options.now.offset ≡ 0
-        → is_key ≡ content_key (content_of (source_view source.now))) }
 {
     let found = source.find(digits, bytes);
     write_head(writer, source, &found, options)?;
@@ -140,17 +95,23 @@ fn show_text<W: Output>(
             show_note(writer, note, options)?;
             Ok(false)
         }
-        Found::Itself => Ok(false),
+        Found::Itself => match source {
+            Source::Der(input) => show_bytes(writer, *input, Reading::Der, options),
+            _ => Ok(false),
+        },
     }
 }
 
 /// Writes what is said of a source that isn't drawn.
-fn show_note<W: Output>(writer: &mut W, note: Sentence, options: &Options) -> Result<(), W::Error> {
+fn show_note<W: Output>(writer: &mut W, note: Sentence, options: &Options) -> Result<(), W::Error>
+    ensures { are_plain options.now ≡ true
+        → OnOk result (W.appends writer.old writer.new (note_text note)) }
+{
     if options.json {
-        write_last(writer, note.words().as_bytes(), note.command())
-    } else {
-        write_note(writer, note)
+        return write_last(writer, note.words().as_bytes(), note.command());
     }
+    write_text(writer, "", note.words())?;
+    write_text(writer, "  ", note.command())
 }
 
 /// Writes what stands above the picture of a source, in which `found` was found.
@@ -159,11 +120,16 @@ fn write_head<W: Output>(
     source: &Source,
     found: &Found,
     options: &Options,
-) -> Result<(), W::Error> {
+) -> Result<(), W::Error>
+    ensures { are_plain options.now ≡ true → OnOk result (W.appends writer.old writer.new
+        (heading_line (heading_of (source_view source.now) found.now))) }
+{
     if options.json {
-        write_first(writer, options.file, source, found)
-    } else {
-        write_heading(writer, source, found)
+        return write_first(writer, options.file, source, found);
+    }
+    match source.heading(found) {
+        Some(line) => write_line(writer, &line),
+        None => Ok(()),
     }
 }
 
@@ -175,7 +141,9 @@ fn show_bytes<W: Output>(
     reading: Reading,
     options: &Options,
 ) -> Result<bool, W::Error>
-    ensures { IfOk result (λ is_key. options.now.offset ≡ 0 → is_key ≡ is_key_of bytes.now) }
+    ensures text { are_plain options.now ≡ true → OnOk result
+        (W.appends writer.old writer.new (bytes_text options.now.all reading bytes.now)) }
+    ensures key { IfOk result (λ is_key. options.now.offset ≡ 0 → is_key ≡ is_key_of bytes.now) }
 {
     if options.offset == 0 {
         return show_part(writer, bytes, reading, options);
@@ -199,71 +167,93 @@ fn show_bytes<W: Output>(
 }
 
 /// Writes the picture of bytes. Returns whether they are a key's.
+#[tactic(auto, unfolding(crate::specs::Drawings::bytes_text))]
 fn show_part<W: Output>(
     writer: &mut W,
     bytes: &[u8],
     reading: Reading,
     options: &Options,
 ) -> Result<bool, W::Error>
-    ensures { IfOk result (λ is_key. is_key ≡ is_key_of bytes.now) }
+    ensures text { are_plain options.now ≡ true → OnOk result
+        (W.appends writer.old writer.new (bytes_text options.now.all reading bytes.now)) }
+    ensures key { IfOk result (λ is_key. is_key ≡ is_key_of bytes.now) }
 {
     let plan = plan_of(bytes);
     let is_key = is_read_as_key(bytes);
     let known = known_of(plan, bytes);
+    let file = file_note(bytes);
     if options.json {
         let mut rows = JsonRows::new(writer, plan, options.all);
         draw_levels(&mut rows, plan, bytes, options);
         rows.finish()?;
-        let mark = mark_of(plan, bytes);
-        write_said_object(writer, is_key, reading, file_note(bytes), &known, mark)?;
-    } else {
-        let mut rows = Printer::new(writer, plan, options.all);
-        draw_levels(&mut rows, plan, bytes, options);
-        rows.finish()?;
-        write_said(writer, is_key, reading, file_note(bytes), &known)?;
+        write_said_object(writer, is_key, reading, file, &known, mark_of(plan, bytes))?;
+        return Ok(is_key);
     }
+    write_levels(writer, plan, bytes, options)?;
+    write_said(writer, is_key, reading, file, &known)?;
     Ok(is_key)
+}
+
+/// Writes the rows of bytes of the levels that are asked for.
+fn write_levels<W: Output>(
+    writer: &mut W,
+    plan: Plan,
+    bytes: &[u8],
+    options: &Options,
+) -> Result<(), W::Error>
+    ensures { are_plain options.now ≡ true → OnOk result (W.appends writer.old writer.new
+        (rows_text plan options.now.all (rows_by plan options.now.all bytes.now))) }
+{
+    if options.levels == 0 {
+        return write_rows(writer, plan, bytes, options.all);
+    }
+    let mut rows = Printer::new(writer, plan, options.all);
+    draw_levels(&mut rows, plan, bytes, options);
+    rows.finish()
 }
 
 /// Tells the rows of bytes of the levels that are asked for.
 fn draw_levels<R: Rows>(rows: &mut R, plan: Plan, bytes: &[u8], options: &Options) {
-    if options.levels == 0 {
-        draw_rows(rows, plan, bytes, options.all);
-    } else {
-        let mut outer = OuterRows {
-            rows,
-            levels: options.levels,
-        };
-        draw_rows(&mut outer, plan, bytes, options.all);
-    }
+    let mut outer = OuterRows {
+        rows,
+        levels: options.levels,
+    };
+    draw_rows(&mut outer, plan, bytes, options.all);
 }
 
-/// Tells rows on, if fewer elements are around them than there are levels.
+/// Tells rows on, if fewer elements are around them than there are levels, or there is no limit.
 #[derive(Drop)]
 struct OuterRows<'a, R: Rows> {
     /// Who is told.
     rows: &'a mut R,
-    /// The number of levels.
+    /// The number of levels; 0 for no limit.
     levels: usize,
+}
+
+impl<R: Rows> OuterRows<'_, R> {
+    /// Returns `true` if a row at this place is told.
+    fn tells_at(&self, place: Place) -> bool {
+        self.levels == 0 || place.depth < self.levels
+    }
 }
 
 impl<R: Rows> Rows for OuterRows<'_, R> {
     ghost tells = { λ _ _ _. Unit {0} };
 
     fn element(&mut self, place: Place, element: &Element) {
-        if place.depth < self.levels {
+        if self.tells_at(place) {
             self.rows.element(place, element);
         }
     }
 
     fn end_of_contents(&mut self, place: Place) {
-        if place.depth < self.levels {
+        if self.tells_at(place) {
             self.rows.end_of_contents(place);
         }
     }
 
     fn not_drawn(&mut self, place: Place, expected: &[Component], len: usize, content: &[u8]) {
-        if place.depth < self.levels {
+        if self.tells_at(place) {
             self.rows.not_drawn(place, expected, len, content);
         }
     }
@@ -281,13 +271,15 @@ fn write_first<W: Output>(
     found: &Found,
 ) -> Result<(), W::Error> {
     let mut object = Object::new(writer);
-    if let Some(len) = found_len(source, found) {
+    let (form, len) = form_of(source, found);
+    if let Some(len) = len {
         object.write_number("bytes", len)?;
     }
     if !file.is_empty() {
-        object.write_text("file", name_of_file(file))?;
+        let name = Characters::of_string(12, file).unwrap_or(Characters::latin1(file));
+        object.write_text("file", name)?;
     }
-    object.write_text_if("form", form_text(source, found).as_bytes())?;
+    object.write_text_if("form", form.as_bytes())?;
     if let Some((line, label)) = block_of(source, found) {
         object.write_text("label", Characters::latin1(label))?;
         object.write_number("line", line)?;
@@ -295,32 +287,15 @@ fn write_first<W: Output>(
     object.end()
 }
 
-/// Returns the characters of the name of a file, which is UTF-8 or else a byte each.
-fn name_of_file(file: &[u8]) -> Characters<'_> {
-    match Characters::of_string(12, file) {
-        Some(characters) => characters,
-        None => Characters::latin1(file),
-    }
-}
-
-/// Returns the number of bytes that were found, if some were.
-fn found_len(source: &Source, found: &Found) -> Option<usize> {
+/// Returns how an input is encoded, and the number of bytes that were found, if some were.
+fn form_of(source: &Source, found: &Found) -> (&'static str, Option<usize>) {
     match (source, found) {
-        (Source::Der(input), _) => Some(input.len()),
-        (_, Found::Decoded(_, _, len)) => Some(*len),
-        _ => None,
-    }
-}
-
-/// Returns how an input is encoded.
-fn form_text(source: &Source, found: &Found) -> &'static str {
-    match (source, found) {
-        (Source::Der(_), _) => "der",
-        (Source::Pem { .. }, _) => "pem",
-        (_, Found::Decoded(Encoding::Pem, _, _)) => "pem",
-        (_, Found::Decoded(Encoding::Hexadecimal, _, _)) => "hex",
-        (_, Found::Decoded(Encoding::Base64, _, _)) => "base64",
-        _ => "text",
+        (Source::Der(input), _) => ("der", Some(input.len())),
+        (_, Found::Decoded(Encoding::Pem, _, len)) => ("pem", Some(*len)),
+        (_, Found::Decoded(Encoding::Hexadecimal, _, len)) => ("hex", Some(*len)),
+        (_, Found::Decoded(Encoding::Base64, _, len)) => ("base64", Some(*len)),
+        (Source::Pem { .. }, _) => ("pem", None),
+        _ => ("text", None),
     }
 }
 

@@ -1,16 +1,15 @@
 //! What an input is: DER, or a text that encodes some.
-ghost use Rattle.std.specs.Prelude.{◌≡◌, ◌≤◌, ◌+◌, ◌*◌, ◌-◌, ◌^◌, [], ◌∷◌, List, length, min};
-ghost use Rattle.std.specs.Prelude.{MatchOption, option_map};
-ghost use Rattle.std.specs.List.{before_first, cons_option, list_all};
-ghost use Rattle.std.specs.Str.{is_utf8};
-ghost use Rattle.der_view.specs.Blocks.{block_view, blocks_in, is_line_end, lines_of};
+ghost use Rattle.std.specs.Prelude.{◌≡◌, ◌<◌, ◌≤◌, ◌+◌, ◌*◌, ◌-◌, ◌^◌, [], ◌∷◌, List, length, min};
+ghost use Rattle.std.specs.Prelude.{MatchOption, take};
+ghost use Rattle.std.specs.List.{list_all};
+ghost use Rattle.der_view.specs.Blocks.{block_view, line_len};
 ghost use Rattle.der_view.specs.Parts.{IsIn, base64_content, block_content, content_of};
-ghost use Rattle.der_view.specs.Parts.{dump_note, encrypted_note, is_json, is_ssh, note_of};
-ghost use Rattle.der_view.specs.Parts.{openssh_note, putty_note, text_content, trimmed_start};
-ghost use Rattle.der_view.specs.Sources.{IsAhead, SourceView, Text, blocks_or, has_begin};
-ghost use Rattle.der_view.specs.Sources.{is_der, is_raw_len, is_text, is_text_byte, pem_sources};
-ghost use Rattle.der_view.specs.Sources.{source_len, source_view, sources_left, sources_of};
-ghost use Rattle.der_view.specs.Sources.{text_len, wide_note, without_mark};
+ghost use Rattle.der_view.specs.Parts.{dump_note, is_json, note_of, openssh_note, putty_note};
+ghost use Rattle.der_view.specs.Parts.{text_content, trimmed_start};
+ghost use Rattle.der_view.specs.Sources.{SourceView, blocks_or, has_begin, is_der, is_raw_len};
+ghost use Rattle.der_view.specs.Sources.{is_text, is_text_byte, source_len, source_view};
+ghost use Rattle.der_view.specs.Sources.{sources_left, sources_of, text_len, wide_note};
+ghost use Rattle.der_view.specs.Sources.{without_mark};
 
 mod almost;
 mod encoded;
@@ -20,9 +19,10 @@ use crate::plan::plan_of;
 use crate::sentences::Sentence;
 pub use almost::{Armour, Flaw, armour_of};
 use almost::{find_almost, find_mended};
+use der_types::kind::{Kind, Utf8String};
 use encoded::{base64_into, hex_into, place_of};
 pub use pem::Block;
-use pem::{Blocks, line_len};
+use pem::{line_len, next_block};
 use std::marker::Model;
 
 /// How bytes are encoded in an input.
@@ -68,22 +68,23 @@ pub enum Found {
 /// The sources of an input that are still to come, in order. A contract sees them.
 #[derive(Drop)]
 pub struct Sources<'a> {
-    /// The next source.
-    next: Option<Source<'a>>,
-    /// The blocks of PEM after it.
-    blocks: Blocks<'a>,
+    /// The lines whose blocks of PEM are still to come.
+    rest: &'a [u8],
+    /// The number of lines before them.
+    number: usize,
     /// Whether OpenSSL reads the next key.
     reads: bool,
+    /// The source that there is if there is no block.
+    other: Option<Source<'a>>,
 }
 
 impl<'a> Model for Sources<'a> {
     ghost Value = { List SourceView };
 
-    ghost view = { λ sources. sources_left sources.next sources.reads
-        sources.blocks.lines.number sources.blocks.lines.rest.now };
+    ghost view = { λ sources. sources_left sources.other sources.reads sources.number
+        sources.rest.now };
 
-    ghost invariant = { λ sources. IsAhead sources.next (pem_sources sources.reads
-        (blocks_in sources.blocks.lines.number (lines_of sources.blocks.lines.rest.now))) };
+    ghost invariant = { λ sources. sources.number + length sources.rest.now < 2 ^ 64 };
 }
 
 /// Returns the number of bytes of memory that decoding an input needs: twice the length of one that
@@ -111,7 +112,7 @@ pub fn text_len(input: &[u8]) -> usize
 fn is_text(input: &[u8]) -> bool
     ensures { result ≡ is_text input.now }
 {
-    !input.is_empty() && has_no_controls(input) && is_utf8(input)
+    !input.is_empty() && has_no_controls(input) && Utf8String::test(input)
 }
 
 /// Returns `true` if no byte is a control character but the tab, the line feed and the carriage
@@ -120,16 +121,6 @@ fn has_no_controls(input: &[u8]) -> bool
     ensures { result ≡ list_all is_text_byte input.now }
 {
     input.iter().all(|byte| *byte >= 0x20 || matches!(byte, b'\t' | b'\n' | b'\r'))
-}
-
-/// Returns `true` if the bytes are UTF-8 (RFC 3629).
-fn is_utf8(bytes: &[u8]) -> bool
-    ensures { result ≡ is_utf8 bytes.now }
-{
-    match str::from_utf8(bytes) {
-        Ok(_) => true,
-        Err(_) => false,
-    }
 }
 
 /// Returns `true` if `-----BEGIN ` is in the input, with which a block of PEM begins.
@@ -194,48 +185,29 @@ impl<'a> Sources<'a> {
         ensures { result ≡ sources_of input.now }
     {
         if is_der(input) {
-            Sources::of(Source::Der(input))
-        } else if is_text(input) {
-            Sources::of_text(without_mark(input))
-        } else if let Some(note) = wide_note(input) {
-            Sources::of(Source::Wide(note))
-        } else if has_begin(input) {
-            Sources::of_blocks(input, Source::Der(input))
-        } else {
-            Sources::of(Source::Der(input))
+            return Sources::of(&[], Source::Der(input));
+        }
+        if is_text(input) {
+            let text = without_mark(input);
+            return Sources::of(text, Source::Text(text));
+        }
+        match wide_note(input) {
+            Some(note) => Sources::of(&[], Source::Wide(note)),
+            None if has_begin(input) => Sources::of(input, Source::Der(input)),
+            None => Sources::of(&[], Source::Der(input)),
         }
     }
 
-    /// Returns one source.
-    fn of(source: Source<'a>) -> Sources<'a>
-        ensures { result ≡ source_view source.entry ∷ [] }
+    /// Returns the blocks of PEM in a text, or if it has none, this source.
+    fn of(text: &'a [u8], other: Source<'a>) -> Sources<'a>
+        ensures { result ≡ blocks_or (source_view other.entry) text.now }
     {
         Sources {
-            next: Some(source),
-            blocks: Blocks::new(&[]),
-            reads: false,
-        }
-    }
-
-    /// Returns the sources of a text: its blocks of PEM, or if it has none, itself.
-    fn of_text(text: &'a [u8]) -> Sources<'a>
-        ensures { result ≡ blocks_or (Text text.now) text.now }
-    {
-        Sources::of_blocks(text, Source::Text(text))
-    }
-
-    /// Returns the blocks of PEM in an input, or if it has none, this source.
-    fn of_blocks(input: &'a [u8], other: Source<'a>) -> Sources<'a>
-        ensures { result ≡ blocks_or (source_view other.entry) input.now }
-    {
-        let mut blocks = Blocks::new(input);
-        // OpenSSL reads no lines that end in a carriage return alone.
-        let mut reads = input.contains(&b'\n');
-        let first = next_block(&mut blocks, &mut reads);
-        Sources {
-            next: Some(first_or(first, other)),
-            blocks,
-            reads,
+            rest: text,
+            number: 0,
+            // OpenSSL reads no lines that end in a carriage return alone.
+            reads: text.contains(&b'\n'),
+            other: Some(other),
         }
     }
 
@@ -244,43 +216,18 @@ impl<'a> Sources<'a> {
         ensures { MatchOption result ((self.old ≡ []) × (self.new ≡ self.old))
             (λ source. self.old ≡ source_view source ∷ self.new) }
     {
-        match self.next {
-            None => None,
-            Some(source) => {
-                self.next = next_block(&mut self.blocks, &mut self.reads);
-                Some(source)
+        let other = self.other;
+        self.other = None;
+        match next_block(self.rest, self.number) {
+            None => other,
+            Some((block, rest)) => {
+                let is_read = self.reads & block.is_key_of_openssl();
+                self.rest = rest;
+                self.number = block.line;
+                self.reads &= !block.is_of_private_key();
+                Some(Source::Pem { block, is_read })
             }
         }
-    }
-}
-
-/// Returns the next block of PEM. `reads` says whether OpenSSL reads the next key.
-fn next_block<'a>(blocks: &mut Blocks<'a>, reads: &mut bool) -> Option<Source<'a>>
-    ensures next { pem_sources reads.old
-        (blocks_in blocks.old.lines.number (lines_of blocks.old.lines.rest.now))
-        ≡ cons_option (option_map source_view result) (pem_sources reads.new
-        (blocks_in blocks.new.lines.number (lines_of blocks.new.lines.rest.now))) }
-    ensures ahead { IsAhead result (pem_sources reads.new
-        (blocks_in blocks.new.lines.number (lines_of blocks.new.lines.rest.now))) }
-{
-    match blocks.next_block() {
-        None => None,
-        Some(block) => {
-            let is_read = *reads & block.is_key_of_openssl();
-            *reads &= !block.is_of_private_key();
-            Some(Source::Pem { block, is_read })
-        }
-    }
-}
-
-/// Returns the source, or else the other.
-fn first_or<'a>(source: Option<Source<'a>>, other: Source<'a>) -> Source<'a>
-    ensures { MatchOption source.entry (source_view result ≡ source_view other.entry)
-        (λ source. result ≡ source) }
-{
-    match source {
-        Some(source) => source,
-        None => other,
     }
 }
 
@@ -313,35 +260,26 @@ fn find_in_block(block: &Block, is_read: bool, digits: &mut [u8], bytes: &mut [u
     }
     if block.is_encrypted {
         let is_key = is_read && block.label == b"EC PRIVATE KEY".as_slice();
-        return Found::Said(encrypted_note(is_key));
+        return Found::Said(if is_key {
+            Sentence::EncryptedEcKey
+        } else {
+            Sentence::EncryptedBlock
+        });
     }
-    match base64_into(block.body, digits, bytes) {
-        Some(len) => {
-            if block.label == b"OPENSSH PRIVATE KEY".as_slice() {
-                Found::Said(openssh_note(block.body, &bytes[..len]))
-            } else {
-                Found::Decoded(Encoding::Pem, Flaw::Nothing, len)
-            }
+    let body = block.body;
+    match base64_into(body, digits, bytes) {
+        Some(len) if block.label == b"OPENSSH PRIVATE KEY".as_slice() => {
+            Found::Said(openssh_note(body, &bytes[..len]))
         }
+        Some(len) => Found::Decoded(Encoding::Pem, Flaw::Nothing, len),
         None => find_mended(
-            block.body,
+            body,
             Encoding::Pem,
             Flaw::Foreign,
             Sentence::NoBase64,
             digits,
             bytes,
         ),
-    }
-}
-
-/// Returns what is said of a block that is encrypted: of a key that OpenSSL reads, or of any other.
-fn encrypted_note(is_key: bool) -> Sentence
-    ensures { result ≡ encrypted_note is_key }
-{
-    if is_key {
-        Sentence::EncryptedEcKey
-    } else {
-        Sentence::EncryptedBlock
     }
 }
 
@@ -370,8 +308,8 @@ fn find_in_text(text: &[u8], digits: &mut [u8], bytes: &mut [u8]) -> Found
         return Found::Said(note);
     }
     match hex_into(text, digits, bytes) {
-        Some(len) => Found::Decoded(Encoding::Hexadecimal, Flaw::Nothing, len),
-        None => find_in_base64(text, digits, bytes),
+        Some(len) if len > 0 => Found::Decoded(Encoding::Hexadecimal, Flaw::Nothing, len),
+        _ => find_in_base64(text, digits, bytes),
     }
 }
 
@@ -412,20 +350,16 @@ fn note_of(text: &[u8]) -> Sentence
 {
     if text.starts_with(b"PuTTY-User-Key-File-") {
         putty_note(first_line(text))
-    } else if is_ssh(text) {
+    } else if text.starts_with(b"ssh-")
+        || text.starts_with(b"ecdsa-sha2-")
+        || text.starts_with(b"sk-")
+    {
         Sentence::Ssh
     } else if is_json(text) {
         Sentence::Json
     } else {
         Sentence::Text
     }
-}
-
-/// Borrows the first line of a text.
-fn first_line(text: &[u8]) -> &[u8]
-    ensures { result.now ≡ before_first is_line_end text.now }
-{
-    &text[..line_len(text)]
 }
 
 /// Returns what is said of a key of PuTTY with this first line.
@@ -440,11 +374,11 @@ fn putty_note(line: &[u8]) -> Sentence
     }
 }
 
-/// Returns `true` if the text begins as a public key of OpenSSH does.
-fn is_ssh(text: &[u8]) -> bool
-    ensures { result ≡ is_ssh text.now }
+/// Borrows the first line of a text.
+fn first_line(text: &[u8]) -> &[u8]
+    ensures { result.now ≡ take (line_len text.now) text.now }
 {
-    text.starts_with(b"ssh-") || text.starts_with(b"ecdsa-sha2-") || text.starts_with(b"sk-")
+    &text[..line_len(text)]
 }
 
 /// Returns `true` if the text begins as an object of JSON with a member does (RFC 8259 section 4).

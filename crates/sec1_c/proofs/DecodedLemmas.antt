@@ -15,12 +15,12 @@ use Rattle.base64.specs.declared.decode.DecodeError.{DecodeError}
 use Rattle.hex.proofs.HexLemmas.{decode_of-ok}
 use Rattle.hex.specs.declared.error.FromHexError.{FromHexError}
 use Rattle.hex.specs.Hex.{decode_of as hex_decode_of}
-use Rattle.der_view.specs.Almost.{ArmourView, armour_by, armour_flaw, armour_of, before_dashes, begin_armour, begin_by}
-use Rattle.der_view.specs.Almost.{body_flaw, end_armour, front_of, line_at}
+use Rattle.der_view.specs.Almost.{ArmourView, armour_by, armour_flaw, armour_of, before_dashes, begin_armour}
+use Rattle.der_view.specs.Almost.{body_flaw, front_of, label_before}
 use Rattle.der_view.specs.Blocks.{BlockView}
-use Rattle.der_view.specs.Encoded.{base64_bytes, found_of, hex_bytes, hex_digits, is_blank, is_digit, is_separator}
-use Rattle.der_view.specs.Encoded.{mended_bytes, mended_digits, some_bytes, standard_digit, stripped, tree_in}
-use Rattle.der_view.specs.Encoded.{with_digit}
+use Rattle.der_view.specs.Encoded.{base64_bytes, digit_of, digits_in, found_of, hex_bytes, hex_digits, is_separator}
+use Rattle.der_view.specs.Encoded.{mended_bytes, tree_in}
+use Rattle.std.specs.List.{cons_option}
 use Rattle.der_view.specs.Parts.{Content, Bytes, Said, almost_by, almost_content, base64_by, base64_content}
 use Rattle.der_view.specs.Parts.{block_content}
 use Rattle.der_view.specs.Parts.{body_content, dump_note, hex_by, mended_content, note_of}
@@ -117,18 +117,24 @@ outcome_within : (e : Option DecodeError) (bytes : List ℕ) (most : ℕ) → le
 outcome_within None bytes most fits = fits
 outcome_within (Some e) bytes most fits = omega arith
 
-stripped_within : (text : List ℕ) → length (stripped text) ≤ length text
-stripped_within text =
-    let left : ℕ → Bool = λ byte. not (is_blank byte) in
-    omega (arith, length-filter left text, count_by-le-length left text)
+digits_short : (is_almost : Bool) (previous : ℕ) (text : List ℕ)
+    → length (digits_in is_almost previous text) ≤ length text
+digits_short is_almost previous [] = omega arith
+digits_short is_almost previous (byte ∷ text) =
+    let one = by (digit_of is_almost previous byte) (digits_in is_almost byte text) in
+    omega (arith, one, digits_short is_almost byte text)
+  where
+    by : (digit : Option ℕ) (digits : List ℕ) → length (cons_option digit digits) ≤ length digits + 1
+    by None digits = omega arith
+    by (Some digit) digits = omega arith
 
 base64_within : (text : List ℕ) → length (unwrap_or (base64_bytes text) []) ≤ length text
 base64_within text =
-    outcome_within _ (decoded_bytes standard.decode_table standard.padding.value (stripped text)) (length text)
+    outcome_within _ (decoded_bytes standard.decode_table standard.padding.value (digits_in false 0 text)) (length text)
     (omega (
       arith,
-      stripped_within text,
-      all_within standard.decode_table standard.padding.value (stripped text),
+      digits_short false 0 text,
+      all_within standard.decode_table standard.padding.value (digits_in false 0 text),
     ))
 
 digits_within : (text : List ℕ) → length (hex_digits text) ≤ length text
@@ -150,12 +156,6 @@ digits_within (byte ∷ next ∷ text) =
           [ true ↦ omega arith | false ↦ omega arith ]
     ]
 
-some_within : (found : Option (List ℕ)) (most : ℕ) → length (unwrap_or found []) ≤ most
-    → length (unwrap_or (some_bytes found) []) ≤ most
-some_within None most fits = omega arith
-some_within (Some []) most fits = omega arith
-some_within (Some (byte ∷ bytes)) most fits = fits
-
 pairs_within : (digits : List ℕ) (r : Result (List ℕ) FromHexError) → hex_decode_of digits ≡ r
     → length (unwrap_or (found_of r) []) ≤ length digits
 pairs_within digits (Err e) is = omega arith
@@ -163,29 +163,9 @@ pairs_within digits (Ok bytes) is = let ok = decode_of-ok digits bytes is in ome
 
 hex_within : (text : List ℕ) → length (unwrap_or (hex_bytes text) []) ≤ length text
 hex_within text =
-    some_within _ (length text)
-    (let few = pairs_within (hex_digits text) (hex_decode_of (hex_digits text)) refl in
-    omega (arith, digits_within text))
+    let few = pairs_within (hex_digits text) (hex_decode_of (hex_digits text)) refl in omega (arith, digits_within text)
 
 -- ---- what is almost base64
-
-with_within : (byte : ℕ) (text : List ℕ) (most : ℕ) → length text ≤ most → length (with_digit byte text) ≤ most + 1
-with_within byte text most fits =
-    elim (is_digit byte) as (λ v. length (cond v (standard_digit byte ∷ text) text) ≤ most + 1)
-    [ true ↦ omega arith | false ↦ omega arith ]
-
-mended_within : (text : List ℕ) → length (mended_digits text) ≤ length text
-mended_within [] = omega arith
-mended_within (byte ∷ []) = with_within byte [] 0 (omega arith)
-mended_within (byte ∷ next ∷ text) =
-    let short : length (mended_digits text) ≤ length text = mended_within text in
-    let less : length (mended_digits (next ∷ text)) ≤ length (next ∷ text) = mended_within (next ∷ text) in
-    elim (byte == 0x5C && (next == 0x6E || next == 0x72))
-    as (λ v. length (cond v (mended_digits text) (with_digit byte (mended_digits (next ∷ text))))
-    ≤ length (byte ∷ next ∷ text)) [
-      | true ↦ omega arith
-      | false ↦ let one = with_within byte (mended_digits (next ∷ text)) (length (next ∷ text)) less in omega arith
-    ]
 
 tree_within : (found : Option (List ℕ)) (most : ℕ) → length (unwrap_or found []) ≤ most
     → length (unwrap_or (tree_in found) []) ≤ most
@@ -199,11 +179,11 @@ unfolding mended_bytes
 almost_within text =
     tree_within _ (length text)
     (outcome_within _
-    (decoded_bytes standard_no_pad.decode_table standard_no_pad.padding.value (mended_digits text)) (length text)
+    (decoded_bytes standard_no_pad.decode_table standard_no_pad.padding.value (digits_in true 0 text)) (length text)
     (omega (
       arith,
-      mended_within text,
-      all_within standard_no_pad.decode_table standard_no_pad.padding.value (mended_digits text),
+      digits_short true 0 text,
+      all_within standard_no_pad.decode_table standard_no_pad.padding.value (digits_in true 0 text),
     )))
 
 content_within : (encoding : Encoding) (flaw : Flaw) (said : Sentence) (found : Option (List ℕ)) (most : ℕ)
@@ -232,30 +212,24 @@ abbrev IsShort : ℕ → Option ArmourView → Type 0
 IsShort most None = Unit {0}
 IsShort most (Some armour) = length armour.body ≤ most
 
-begin_short : (line most : ℕ) (after : List ℕ) (label : Option (List ℕ)) → length after ≤ most
-    → IsShort most (option_map (λ label. begin_by line (drop (length label + 5) after) label) label)
-begin_short line most after None fits = tt
-begin_short line most after (Some label) fits =
-    omega (arith, dashes_short (drop (length label + 5) after), length-drop (length label + 5) after)
-
-end_short : (line most : ℕ) (body : List ℕ) (label : Option (List ℕ)) → length body ≤ most
-    → IsShort most (option_map (λ label. record {
-      line = line;
-      label = label;
-      body = body;
-      has_begin = false;
-      has_end = true;
-    }) label)
-end_short line most body None fits = tt
-end_short line most body (Some label) fits = fits
+mapped_short : (most : ℕ) (armour : List ℕ → ArmourView) (label : Option (List ℕ))
+    → ((label : List ℕ) → length (armour label).body ≤ most) → IsShort most (option_map armour label)
+mapped_short most armour None fits = tt
+mapped_short most armour (Some label) fits = fits label
 
 armour_by_short : (text : List ℕ) (begin end : Option ℕ) → IsShort (length text) (armour_by text begin end)
-unfolding begin_armour end_armour
+unfolding begin_armour
 armour_by_short text (Some place) end =
-    begin_short (line_at text place) (length text) (drop (place + 11) text) _
-    (omega (arith, length-drop (place + 11) text))
+    let after : List ℕ = drop (place + 11) text in
+    mapped_short (length text) _ (label_before after) (λ label.
+    omega (
+      arith,
+      dashes_short (drop (length label + 5) after),
+      length-drop (length label + 5) after,
+      length-drop (place + 11) text,
+    ))
 armour_by_short text None (Some place) =
-    end_short (line_at text place) (length text) (take place text) _ (omega (arith, length-take place text))
+    mapped_short (length text) _ (label_before (drop (place + 9) text)) (λ label. omega (arith, length-take place text))
 armour_by_short text None None = tt
 
 armour_short : (text : List ℕ) → IsShort (length text) (armour_of text)
@@ -311,7 +285,8 @@ base64_content_within text = base64_by_within text (base64_bytes text) (base64_w
 
 hex_by_within : (text : List ℕ) (found : Option (List ℕ)) → length (unwrap_or found []) ≤ length text
     → length (decoded_in (hex_by text found)) ≤ length text
-hex_by_within text (Some bytes) fits = fits
+hex_by_within text (Some (byte ∷ bytes)) fits = fits
+hex_by_within text (Some []) fits = base64_content_within text
 hex_by_within text None fits = base64_content_within text
 
 text_by_within : (text : List ℕ) (note : Option Sentence) → length (decoded_in (text_by text note)) ≤ length text

@@ -14,6 +14,5 @@ pub mod PointLemmas
 pub mod PrivateKeyLemmas
 pub mod PublicKeyLemmas
 pub mod SignatureLemmas
-pub mod SourceLemmas
 pub mod StatusLemmas
 pub mod TextLemmas

@@ -5,7 +5,7 @@ use Rattle.std.proofs.KnownBytes.{Appends-kept, Appends-trans}
 use Rattle.std.proofs.lemmas.List.{length-take, take_all}
 use Rattle.std.specs.Io.KnownBytes.{Appends, Keeps}
 use Rattle.der_view.specs.Drawings.{picture_text}
-use Rattle.sec1_dump.specs.Shown.{IsShown, Shows, is_plain, limit, title}
+use Rattle.sec1_dump.specs.Shown.{IsShown, Shows, limit}
 use Rattle.sec1_dump.specs.declared.output.Style.{Style}
 
 -- what was read is all, unless it is one byte more than so many

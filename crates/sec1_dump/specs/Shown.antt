@@ -1,47 +1,30 @@
 -- What a run of the program shows of a file.
-use Rattle.std.specs.Prelude.{◌≡◌, ◌==◌, ◌&&◌, ◌≤◌, ℕ, Bool, not, true, false, if◌then◌else◌}
-use Rattle.std.specs.Prelude.{List, [], ◌++◌}
-use Rattle.std.specs.Prelude.{chars, codes, length, Option, Some, Result, Ok, Err, ⊤}
+use Rattle.std.specs.Prelude.{◌≡◌, ◌≤◌, ℕ, Bool, true, if◌then◌else◌}
+use Rattle.std.specs.Prelude.{List, [], ◌++◌, chars, codes, length, Option, Some, Result, Ok, Err}
 use Rattle.std.specs.Io.KnownBytes.{Appends}
 use Rattle.der_view.specs.Characters.{escaped_all}
 use Rattle.der_view.specs.Drawings.{has_key, picture_text}
+use Rattle.der_view.specs.Shows.{are_plain}
 use Rattle.sec1_dump.specs.declared.failure.Failure.{Failure}
-use Rattle.sec1_dump.specs.declared.failure.Failure.TheVariants.{Input, Memory, Output}
 use Rattle.sec1_dump.specs.declared.output.Style.{Style}
 
 -- the greatest length of an input in bytes
 abbrev pub limit : ℕ
 limit = 16777215
 
--- whether the failure is one of reading an input
-abbrev pub IsOfReading : Failure → Type 0
-IsOfReading (Input error) = ⊤
-IsOfReading Memory = ⊤
-IsOfReading failure = ⊥
-
--- whether the failure is one of writing what is shown
-abbrev pub IsOfWriting : Failure → Type 0
-IsOfWriting (Output error) = ⊤
-IsOfWriting Memory = ⊤
-IsOfWriting failure = ⊥
-
 -- the line with the name of a file above its pictures, if it is to be there
 abbrev pub title : Bool → Option (List ℕ) → List ℕ
 title true (Some file) = escaped_all (chars file) ++ codes ":\n"
 title named file = []
 
--- whether all of an input is drawn, in rows
-abbrev pub is_plain : Style → Bool
-is_plain style = not style.json && (style.levels == 0 && style.offset == 0)
-
 -- Some part of the input is a key, or none is. Of pictures in rows of all of it: they were written,
 -- below the name of the file.
 pub record IsShown (style : Style) (file : Option (List ℕ)) (input : List ℕ)
     (old new : Option (List ℕ)) (found : Bool) : Type 0 where
-  pub key : style.offset ≡ 0 → found ≡ has_key input
+  pub key : style.options.offset ≡ 0 → found ≡ has_key input
   pub appended :
-      is_plain style ≡ true
-      → Appends old new (title style.named file ++ picture_text style.all input)
+      are_plain style.options ≡ true
+      → Appends old new (title style.named file ++ picture_text style.options.all input)
 
 -- the input isn't too long, and all that is shown of it was written
 pub record Shows (style : Style) (file : Option (List ℕ)) (input : List ℕ)

@@ -10,6 +10,7 @@ use crate::output::{Style, show, status_of};
 use crate::text::escaped;
 use clap::error::ErrorKind;
 use clap::{Arg, ArgAction, ArgMatches, Command, Error, value_parser};
+use der_view::Options;
 use std::alloc::{AllocError, Global};
 use std::io::BufWriter;
 use std::process::ExitCode;
@@ -76,7 +77,7 @@ struct Program<'r, H> {
     /// The system.
     rt: &'r H,
     /// How files are shown.
-    style: Style,
+    style: Style<'r>,
 }
 
 impl<'r, H: AllocGlobal + Env + Eprint + Files + Input + Print> Program<'r, H> {
@@ -143,7 +144,7 @@ impl<'r, H: AllocGlobal + Env + Eprint + Files + Input + Print> Program<'r, H> {
 /// Shows the files that the arguments name, or standard input if they name none. Returns the
 /// status.
 fn dump<H: AllocGlobal + Env + Eprint + Files + Input + Print>(rt: &H, matches: &ArgMatches) -> u8 {
-    let style = Style {
+    let options = Options {
         all: matches.get_flag("all"),
         json: matches.get_flag("json"),
         levels: match matches.get_one::<usize>("depth") {
@@ -151,15 +152,16 @@ fn dump<H: AllocGlobal + Env + Eprint + Files + Input + Print>(rt: &H, matches: 
             None => 0,
         },
         offset: matches.get_one::<usize>("offset").unwrap_or(0),
-        named: false,
+        file: &[],
     };
-    match matches.get_strs("FILE") {
-        None => Program { rt, style }.status(None).1,
-        Some(paths) => {
-            let named = paths.len() > 1;
-            let style = Style { named, ..style };
-            Program { rt, style }.run(paths)
-        }
+    let paths = matches.get_strs("FILE").unwrap_or(&[]);
+    let named = paths.len() > 1;
+    let style = Style { options, named };
+    let program = Program { rt, style };
+    if paths.is_empty() {
+        program.status(None).1
+    } else {
+        program.run(paths)
     }
 }
 

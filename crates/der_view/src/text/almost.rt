@@ -1,15 +1,16 @@
 //! Texts that are almost PEM or base64.
 ghost use Rattle.std.specs.Prelude.{◌≡◌, ◌≤◌, ◌+◌, length, IfSome, option_map};
 ghost use Rattle.der_view.specs.Almost.{armour_flaw, armour_of, armour_view, before_dashes};
-ghost use Rattle.der_view.specs.Almost.{begin_armour, body_flaw, end_armour, has_escape, is_end_of};
-ghost use Rattle.der_view.specs.Almost.{label_before, line_at};
+ghost use Rattle.der_view.specs.Almost.{begin_armour, body_flaw, is_end_of, label_before, line_at};
 ghost use Rattle.der_view.specs.Parts.{IsIn, almost_content, mended_content};
 ghost use Rattle.der_view.specs.Encoded.{mended_bytes};
 
-use super::encoded::{mended_into, place_of};
+use super::encoded::{place_of, strip};
 use super::pem::is_label;
 use super::{Encoding, Found};
+use crate::plan::plan_of;
 use crate::sentences::Sentence;
+use base64::engine::general_purpose::STANDARD_NO_PAD;
 
 /// What is wrong with a text that is almost PEM or base64.
 #[derive(Clone, Copy)]
@@ -67,6 +68,7 @@ pub(super) fn find_almost(text: &[u8], said: Sentence, digits: &mut [u8], bytes:
 
 /// Returns what is in a body that is almost base64, if one whole element results, or else that this
 /// is said. `flaw` is what is wrong with it, if it is neither escaped nor base64url.
+#[tactic(auto, unfolding(crate::specs::Encoded::mended_bytes))]
 pub(super) fn find_mended(
     body: &[u8],
     encoding: Encoding,
@@ -80,9 +82,12 @@ pub(super) fn find_mended(
     ensures { IsIn bytes.new result
         (mended_content encoding (body_flaw body.now flaw) said (mended_bytes body.now)) }
 {
-    match mended_into(body, digits, bytes) {
-        Some(len) => Found::Decoded(encoding, body_flaw(body, flaw), len),
-        None => Found::Said(said),
+    let count = strip(body, true, digits);
+    match STANDARD_NO_PAD.decode_slice_unchecked(&digits[..count], bytes) {
+        Ok(len) if plan_of(&bytes[..len]).is_tree => {
+            Found::Decoded(encoding, body_flaw(body, flaw), len)
+        }
+        _ => Found::Said(said),
     }
 }
 
@@ -91,21 +96,13 @@ pub(super) fn find_mended(
 fn body_flaw(body: &[u8], other: Flaw) -> Flaw
     ensures { result ≡ body_flaw body.now other }
 {
-    if has_escape(body) {
+    if place_of(body, b"\\n").is_some() || place_of(body, b"\\r").is_some() {
         Flaw::Escaped
     } else if body.contains(&b'-') || body.contains(&b'_') {
         Flaw::Url
     } else {
         other
     }
-}
-
-/// Returns `true` if the body has ends of lines that are written as a backslash and a letter.
-#[tactic(auto, unfolding(crate::specs::Almost::has_escape))]
-fn has_escape(body: &[u8]) -> bool
-    ensures { result ≡ has_escape body.now }
-{
-    place_of(body, b"\\n").is_some() || place_of(body, b"\\r").is_some()
 }
 
 /// Returns what is wrong with PEM that no line begins with, if its body is base64.
@@ -132,17 +129,16 @@ pub fn armour_of(text: &[u8]) -> Option<Armour>
         Some(place) => begin_armour(line_at(text, place), &text[place + 11..]),
         None => {
             let place = place_of(text, b"-----END ")?;
-            end_armour(line_at(text, place), &text[..place], &text[place + 9..])
+            let label = label_before(&text[place + 9..])?;
+            Some(Armour {
+                line: line_at(text, place),
+                label,
+                body: &text[..place],
+                has_begin: false,
+                has_end: true,
+            })
         }
     }
-}
-
-/// Returns the number of the line in which this place of a text is; that of the first is 1.
-fn line_at(text: &[u8], place: usize) -> usize
-    requires { place ≤ length text.now }
-    ensures { result ≡ line_at text.now place }
-{
-    text[..place].iter().filter(|byte| **byte == b'\n').count() + 1
 }
 
 /// Returns what is between a BEGIN and the next five dashes. It has this line, and this is after
@@ -164,20 +160,12 @@ fn begin_armour(line: usize, after: &[u8]) -> Option<Armour>
     })
 }
 
-/// Returns what is before an END. It has this line, and this is after it.
-#[tactic(auto, unfolding(crate::specs::Almost::end_armour))]
-fn end_armour<'a>(line: usize, body: &'a [u8], after: &'a [u8]) -> Option<Armour<'a>>
-    ensures value { option_map armour_view result ≡ end_armour line body.now after.now }
-    ensures within { IfSome result (λ armour. length armour.body.now ≤ length body.now) }
+/// Returns the number of the line in which this place of a text is; that of the first is 1.
+fn line_at(text: &[u8], place: usize) -> usize
+    requires { place ≤ length text.now }
+    ensures { result ≡ line_at text.now place }
 {
-    let label = label_before(after)?;
-    Some(Armour {
-        line,
-        label,
-        body,
-        has_begin: false,
-        has_end: true,
-    })
+    text[..place].iter().filter(|byte| **byte == b'\n').count() + 1
 }
 
 /// Returns the label before the first five dashes of a text; `None` if there is none.

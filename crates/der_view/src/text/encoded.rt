@@ -1,12 +1,9 @@
 //! Hexadecimal and base64, decoded into memory that is given.
-ghost use Rattle.std.specs.Prelude.{◌≡◌, ◌≤◌, ◌<◌, ◌+◌, length, take, IfSome, IsTrue};
-ghost use Rattle.der_view.specs.Encoded.{IsDecoded, base64_bytes, begins_with, hex_bytes};
-ghost use Rattle.der_view.specs.Encoded.{hex_digits, is_blank, is_digit, is_escape, is_separator};
-ghost use Rattle.der_view.specs.Encoded.{mended_bytes, mended_digits, place_of, standard_digit};
-ghost use Rattle.der_view.specs.Encoded.{stripped};
+ghost use Rattle.std.specs.Prelude.{◌≡◌, ◌≤◌, ◌+◌, length, take, IfSome};
+ghost use Rattle.der_view.specs.Encoded.{IsDecoded, base64_bytes, digit_of, digits_in, hex_bytes};
+ghost use Rattle.der_view.specs.Encoded.{hex_digits, is_blank, is_separator, place_of};
 
-use crate::plan::plan_of;
-use base64::engine::general_purpose::{STANDARD, STANDARD_NO_PAD};
+use base64::engine::general_purpose::STANDARD;
 
 /// Returns `true` if the byte is a space, a tab, or part of the end of a line.
 fn is_blank(byte: u8) -> bool
@@ -15,21 +12,46 @@ fn is_blank(byte: u8) -> bool
     byte == b' ' || byte == b'\t' || byte == b'\r' || byte == b'\n'
 }
 
-/// Writes the bytes of a text that are no blanks to the front of `digits`, and returns their
-/// number.
-fn strip(text: &[u8], digits: &mut [u8]) -> usize
+/// Writes the digits of base64 in a text to the front of `digits`, and returns their number: all
+/// bytes but blanks, or if the text is almost base64, what [`digit_of`] returns.
+pub(super) fn strip(text: &[u8], is_almost: bool, digits: &mut [u8]) -> usize
     requires { length text.now ≤ length digits.old }
-    ensures digits { take result digits.new ≡ stripped text.now }
+    ensures digits { take result digits.new ≡ digits_in is_almost 0 text.now }
     ensures within { result ≤ length text.now }
 {
+    let mut rest = text;
+    let mut previous = 0;
     let mut count = 0;
-    for byte in text {
-        if !is_blank(*byte) {
-            digits[count] = *byte;
+    while let [byte, after @ ..] = rest {
+        if let Some(digit) = digit_of(is_almost, previous, *byte) {
+            digits[count] = digit;
             count += 1;
         }
+        previous = *byte;
+        rest = after;
     }
     count
+}
+
+/// Returns the digit of base64 for a byte after another one, if it is one: any that is no blank, or
+/// in what is almost base64 those of base64 and base64url (RFC 4648 sections 4 and 5), without ends
+/// of lines that are written as a backslash and a letter.
+fn digit_of(is_almost: bool, previous: u8, byte: u8) -> Option<u8>
+    ensures { result ≡ digit_of is_almost previous byte }
+{
+    if !is_almost {
+        if is_blank(byte) { None } else { Some(byte) }
+    } else if previous == b'\\' && (byte == b'n' || byte == b'r') {
+        None
+    } else if byte.is_ascii_alphanumeric() || byte == b'+' || byte == b'/' {
+        Some(byte)
+    } else if byte == b'-' {
+        Some(b'+')
+    } else if byte == b'_' {
+        Some(b'/')
+    } else {
+        None
+    }
 }
 
 /// Writes the bytes that base64 encodes (RFC 4648 section 4), blanks and ends of lines left out, to
@@ -40,7 +62,7 @@ pub(super) fn base64_into(text: &[u8], digits: &mut [u8], bytes: &mut [u8]) -> O
     requires bytes { length text.now + 2 ≤ length bytes.old }
     ensures { IsDecoded (base64_bytes text.now) result bytes.new }
 {
-    let count = strip(text, digits);
+    let count = strip(text, false, digits);
     STANDARD
         .decode_slice_unchecked(&digits[..count], bytes)
         .ok()
@@ -84,88 +106,16 @@ fn strip_hex(text: &[u8], digits: &mut [u8]) -> usize
 }
 
 /// Writes the bytes that hexadecimal digits encode to the front of `bytes`, and returns their
-/// number; `None` if the text isn't an even count of digits, two or more. `digits` is memory for
-/// its digits.
+/// number; `None` if the text isn't an even count of digits. `digits` is memory for its digits.
 pub(super) fn hex_into(text: &[u8], digits: &mut [u8], bytes: &mut [u8]) -> Option<usize>
     requires digits { length text.now ≤ length digits.old }
     requires bytes { length text.now ≤ length bytes.old }
     ensures { IsDecoded (hex_bytes text.now) result bytes.new }
 {
     let count = strip_hex(text, digits);
-    if count == 0 {
-        return None;
-    }
     match hex::decode_to_slice(&digits[..count], &mut bytes[..count / 2]) {
         Ok(()) => Some(count / 2),
         Err(_) => None,
-    }
-}
-
-/// Writes the digits of base64 in a text to the front of `digits`, those of base64url as such,
-/// without ends of lines that are written as a backslash and a letter, and returns their number.
-fn strip_mended(text: &[u8], digits: &mut [u8]) -> usize
-    requires { length text.now ≤ length digits.old }
-    ensures digits { take result digits.new ≡ mended_digits text.now }
-    ensures within { result ≤ length text.now }
-{
-    let mut rest = text;
-    let mut count = 0;
-    while let [byte, after @ ..] = rest {
-        if *byte == b'\\' && is_escape(after) {
-            rest = &after[1..];
-        } else {
-            if is_digit(*byte) {
-                digits[count] = standard_digit(*byte);
-                count += 1;
-            }
-            rest = after;
-        }
-    }
-    count
-}
-
-/// Returns `true` if these bytes after a backslash begin with the letter of an end of a line.
-fn is_escape(after: &[u8]) -> bool
-    ensures value { result ≡ is_escape after.now }
-    ensures some { IsTrue result → 0 < length after.now }
-{
-    matches!(after, [b'n' | b'r', ..])
-}
-
-/// Returns `true` if the byte is a digit of base64 or base64url (RFC 4648 sections 4 and 5).
-fn is_digit(byte: u8) -> bool
-    ensures { result ≡ is_digit byte }
-{
-    byte.is_ascii_alphanumeric() || byte == b'+' || byte == b'/' || byte == b'-' || byte == b'_'
-}
-
-/// Returns the digit of base64 for one of base64url.
-fn standard_digit(byte: u8) -> u8
-    ensures { result ≡ standard_digit byte }
-{
-    match byte {
-        b'-' => b'+',
-        b'_' => b'/',
-        _ => byte,
-    }
-}
-
-/// Writes the bytes that a text encodes which is almost base64 to the front of `bytes`, and returns
-/// their number; `None` if these aren't one whole element. `digits` is memory for its digits.
-#[tactic(auto, unfolding(crate::specs::Encoded::mended_bytes))]
-pub(super) fn mended_into(text: &[u8], digits: &mut [u8], bytes: &mut [u8]) -> Option<usize>
-    requires digits { length text.now ≤ length digits.old }
-    requires bytes { length text.now + 2 ≤ length bytes.old }
-    ensures { IsDecoded (mended_bytes text.now) result bytes.new }
-{
-    let count = strip_mended(text, digits);
-    let len = STANDARD_NO_PAD
-        .decode_slice_unchecked(&digits[..count], bytes)
-        .ok()?;
-    if plan_of(&bytes[..len]).is_tree {
-        Some(len)
-    } else {
-        None
     }
 }
 
@@ -178,18 +128,11 @@ pub(super) fn place_of(text: &[u8], other: &[u8]) -> Option<usize>
     let mut place = 0;
     let mut rest = text;
     while let [_, others @ ..] = rest {
-        if begins_with(rest, other) {
+        if rest.starts_with(other) {
             return Some(place);
         }
         rest = others;
         place += 1;
     }
     None
-}
-
-/// Returns `true` if a text begins with another.
-fn begins_with(text: &[u8], other: &[u8]) -> bool
-    ensures { result ≡ begins_with text.now other.now }
-{
-    other.len() <= text.len() && text.starts_with(other)
 }

@@ -1,91 +1,97 @@
 //! The blocks of PEM in a text (RFC 7468 section 2).
-ghost use Rattle.std.specs.Prelude.{◌≡◌, ◌≤◌, ◌<◌, ◌+◌, ◌-◌, ◌^◌, [], ◌∷◌, length, IfSome, None};
-ghost use Rattle.std.specs.Prelude.{MatchOption, find, is_some, option_map, position, true};
-ghost use Rattle.std.specs.List.{after_first, before_first, concat, list_all, list_any};
-ghost use Rattle.std.specs.List.{position_or_len};
-ghost use Rattle.der_view.specs.Blocks.{IsFirstLine, after_end, between, block_before, block_of};
-ghost use Rattle.der_view.specs.Blocks.{block_view, blocks_in, body_of, headers_of, is_blank};
-ghost use Rattle.der_view.specs.Blocks.{is_empty_line, is_end, is_key_of_openssl, is_label};
-ghost use Rattle.der_view.specs.Blocks.{is_label_byte, is_label_of_openssl, is_line_end};
-ghost use Rattle.der_view.specs.Blocks.{is_of_encryption, is_of_private_key, label_of, lines_of};
-ghost use Rattle.der_view.specs.Blocks.{trimmed};
+ghost use Rattle.std.specs.Prelude.{◌≡◌, ◌≤◌, ◌<◌, ◌+◌, ◌^◌, [], ◌∷◌, length, IfSome, true};
+ghost use Rattle.std.specs.Prelude.{MatchOption, option_map};
+ghost use Rattle.std.specs.List.{list_all};
+ghost use Rattle.der_view.specs.Blocks.{between, block_of, block_view, blocks_in, cut_at, cut_view};
+ghost use Rattle.der_view.specs.Blocks.{is_end, is_key_of_openssl, is_label, is_label_byte};
+ghost use Rattle.der_view.specs.Blocks.{is_of, is_of_private_key, label_of, line_len, lines_of};
+ghost use Rattle.der_view.specs.Blocks.{split_headers, trimmed};
 
 /// The greatest number of characters of a label.
 const LABEL_MOST: usize = 40;
 
-/// The lines of a text, each of which CR LF, LF or CR ends.
+/// A kind of lines of a text.
 #[derive(Clone, Copy)]
-pub(crate) struct Lines<'a> {
-    /// The lines that are left.
-    rest: &'a [u8],
-    /// The number of lines before them.
-    number: usize,
-    ghost counted: { number + length rest.now < 2 ^ 64 },
+enum LineKind {
+    /// The first line of a block.
+    Begin,
+    /// One that may be the first or the last line of a block, so that it is in no body.
+    Boundary,
+    /// One that is empty, but for white space.
+    Empty,
+    /// The header that says that the body is encrypted (RFC 1421 section 4.6.1.1).
+    Encryption,
 }
 
-impl<'a> Lines<'a> {
-    /// Returns the lines of a text.
-    pub fn new(text: &'a [u8]) -> Lines<'a>
-        ensures rest { result.rest.now ≡ text.now }
-        ensures number { result.number ≡ 0 }
+impl LineKind {
+    /// Returns `true` if a line is of this kind.
+    fn takes(self, line: &[u8]) -> bool
+        ensures { result ≡ is_of self line.now }
     {
-        Lines {
-            rest: text,
-            number: 0,
+        match self {
+            LineKind::Begin => label_of(line).is_some(),
+            LineKind::Boundary => line.starts_with(b"-----"),
+            LineKind::Empty => trimmed(line).is_empty(),
+            LineKind::Encryption => line.starts_with(b"Proc-Type: 4,ENCRYPTED"),
         }
-    }
-
-    /// Returns the next line without its end; `None`, changing nothing, if there is none.
-    pub fn next_line(&mut self) -> Option<&'a [u8]>
-        ensures next { MatchOption result
-            ((self.old.rest.now ≡ []) × (self.new.rest.now ≡ []))
-            (λ line. IsFirstLine self.old.rest.now line.now self.new.rest.now
-            × (self.new.number ≡ self.old.number + 1)) }
-        ensures shorter { IfSome result
-            (λ line. length self.new.rest.now < length self.old.rest.now) }
-    {
-        if self.rest.is_empty() {
-            return None;
-        }
-        let text = self.rest;
-        let len = line_len(text);
-        self.rest = after_end(&text[len..]);
-        self.number += 1;
-        Some(&text[..len])
     }
 }
 
-/// Returns the number of bytes before the first end of a line.
+/// A line of a text, and the lines around it.
+#[derive(Clone, Copy)]
+struct CutLine<'a> {
+    /// The number of lines before it.
+    count: usize,
+    /// These lines.
+    before: &'a [u8],
+    /// The line, with what ends it.
+    line: &'a [u8],
+    /// The lines after it.
+    after: &'a [u8],
+}
+
+/// Returns the first line of this kind in a text; `None` if there is none.
+fn cut(text: &[u8], kind: LineKind) -> Option<CutLine<'_>>
+    ensures value { option_map cut_view result ≡ cut_at kind (lines_of text.now) }
+    ensures takes { IfSome result (λ cut. is_of kind cut.line.now ≡ true) }
+    ensures within { IfSome result
+        (λ cut. cut.count + 1 + length cut.after.now ≤ length text.now) }
+{
+    let mut count = 0;
+    let mut len = 0;
+    while len < text.len() {
+        let (before, rest) = text.split_at(len);
+        let (line, after) = rest.split_at(line_len(rest));
+        if kind.takes(line) {
+            return Some(CutLine {
+                count,
+                before,
+                line,
+                after,
+            });
+        }
+        count += 1;
+        len += line.len();
+    }
+    None
+}
+
+/// Returns the number of bytes of the first line of a text, with the CR LF, LF or CR that ends it.
 pub(super) fn line_len(text: &[u8]) -> usize
-    ensures value { result ≡ position_or_len is_line_end text.now }
+    ensures value { result ≡ line_len text.now }
     ensures within { result ≤ length text.now }
+    ensures some { 0 < length text.now → 0 < result }
 {
-    line_end(text).unwrap_or(text.len())
-}
-
-/// Returns where the first end of a line is; `None` if there is none.
-fn line_end(text: &[u8]) -> Option<usize>
-    ensures { result ≡ position is_line_end text.now }
-{
-    text.iter().position(|byte| is_line_end(*byte))
-}
-
-/// Returns `true` if the byte is a carriage return or a line feed.
-fn is_line_end(byte: u8) -> bool
-    ensures { result ≡ is_line_end byte }
-{
-    byte == b'\r' || byte == b'\n'
-}
-
-/// Returns what is after the end of a line, which these bytes begin with unless they are empty.
-fn after_end(text: &[u8]) -> &[u8]
-    ensures value { result.now ≡ after_end text.now }
-    ensures shorter { length result.now ≤ length text.now - 1 }
-{
-    match text {
-        [b'\r', b'\n', rest @ ..] | [_, rest @ ..] => rest,
-        [] => text,
+    let mut len = 0;
+    let mut rest = text;
+    while let [byte, after @ ..] = rest {
+        len += 1;
+        if *byte == b'\n' || (*byte == b'\r' && !after.starts_with(b"\n")) {
+            return len;
+        }
+        rest = after;
     }
+    len
 }
 
 /// A block of PEM.
@@ -105,72 +111,34 @@ pub struct Block<'a> {
     pub has_end: bool,
 }
 
-/// The blocks of a text.
-#[derive(Drop)]
-pub struct Blocks<'a> {
-    /// The lines that are left.
-    lines: Lines<'a>,
-}
-
-impl<'a> Blocks<'a> {
-    /// Returns the blocks of a text.
-    pub fn new(text: &'a [u8]) -> Blocks<'a>
-        ensures rest { result.lines.rest.now ≡ text.now }
-        ensures number { result.lines.number ≡ 0 }
-    {
-        Blocks {
-            lines: Lines::new(text),
-        }
-    }
-
-    /// Returns the next block; `None` if there is none.
-    pub fn next_block(&mut self) -> Option<Block<'a>>
-        ensures { let old = blocks_in self.old.lines.number (lines_of self.old.lines.rest.now) in
-            let new = blocks_in self.new.lines.number (lines_of self.new.lines.rest.now) in
-            MatchOption result ((old ≡ []) × (new ≡ [])) (λ block. old ≡ block_view block ∷ new) }
-    {
-        while let Some(line) = self.lines.next_line() {
-            if let Some(label) = label_of(line) {
-                return Some(self.block(label));
-            }
-        }
-        None
-    }
-
-    /// Returns the block with this label, after its first line.
-    fn block(&mut self, label: &'a [u8]) -> Block<'a>
-        ensures value { block_view result ≡ block_before self.old.lines.number label.now
-            (lines_of self.old.lines.rest.now) }
-        ensures left { blocks_in self.new.lines.number (lines_of self.new.lines.rest.now)
-            ≡ blocks_in self.old.lines.number (lines_of self.old.lines.rest.now) }
-    {
-        let line = self.lines.number;
-        let text = self.lines.rest;
-        let mut before = self.lines;
-        while let Some(next) = self.lines.next_line() {
-            if next.starts_with(b"-----") {
-                self.lines = before;
-                let inside = &text[..text.len() - before.rest.len()];
-                return Block::new(line, label, inside, is_end(next, label));
-            }
-            before = self.lines;
-        }
-        Block::new(line, label, text, false)
-    }
-}
-
-/// Returns the line without the blanks at its end.
-fn without_trailing_blanks(line: &[u8]) -> &[u8]
-    ensures { result.now ≡ trimmed line.now }
+/// Returns the first block of a text before which are so many lines, and the lines after the
+/// block's first one; `None` if there is none.
+pub(super) fn next_block(text: &[u8], number: usize) -> Option<(Block<'_>, &[u8])>
+    requires { number + length text.now < 2 ^ 64 }
+    ensures value { MatchOption result (blocks_in number (lines_of text.now) ≡ [])
+        (λ next. blocks_in number (lines_of text.now)
+        ≡ block_view next.0 ∷ blocks_in next.0.line (lines_of next.1.now)) }
+    ensures within { IfSome result
+        (λ next. next.0.line + length next.1.now ≤ number + length text.now) }
 {
-    line.trim_ascii_end()
+    let begin = cut(text, LineKind::Begin)?;
+    let label = label_of(begin.line)?;
+    let line = number + begin.count + 1;
+    let after = begin.after;
+    match cut(after, LineKind::Boundary) {
+        Some(end) => {
+            let has_end = is_end(end.line, label);
+            Some((Block::new(line, label, end.before, has_end), after))
+        }
+        None => Some((Block::new(line, label, after, false), after)),
+    }
 }
 
-/// Returns `true` if the line is empty, but for blanks.
-fn is_blank(line: &[u8]) -> bool
-    ensures { result ≡ is_blank line.now }
+/// Returns a text without the white space at its end.
+fn trimmed(text: &[u8]) -> &[u8]
+    ensures { result.now ≡ trimmed text.now }
 {
-    without_trailing_blanks(line).is_empty()
+    text.trim_ascii_end()
 }
 
 /// Returns what a line has between this front and the dashes at its end; `None` if it is no such
@@ -178,9 +146,7 @@ fn is_blank(line: &[u8]) -> bool
 fn between<'a>(front: &[u8], line: &'a [u8]) -> Option<&'a [u8]>
     ensures { option_map (λ text. text.now) result ≡ between front.now line.now }
 {
-    without_trailing_blanks(line)
-        .strip_prefix(front)?
-        .strip_suffix(b"-----")
+    trimmed(line).strip_prefix(front)?.strip_suffix(b"-----")
 }
 
 /// Returns the label of a block's first line; `None` if the line is none.
@@ -202,14 +168,7 @@ pub(super) fn is_label(text: &[u8]) -> bool
 fn are_label_bytes(text: &[u8]) -> bool
     ensures { result ≡ list_all is_label_byte text.now }
 {
-    text.iter().all(|byte| is_label_byte(*byte))
-}
-
-/// Returns `true` if the byte may be in a label.
-fn is_label_byte(byte: u8) -> bool
-    ensures { result ≡ is_label_byte byte }
-{
-    matches!(byte, b'A'..=b'Z' | b'0'..=b'9' | b' ' | b'#' | b'.')
+    text.iter().all(|byte| matches!(byte, b'A'..=b'Z' | b'0'..=b'9' | b' ' | b'#' | b'.'))
 }
 
 /// Returns `true` if the line is the last one of a block with this label.
@@ -222,53 +181,16 @@ fn is_end(line: &[u8], label: &[u8]) -> bool
     }
 }
 
-/// Returns the lines before the first empty one, and those after it; `None` if there is none.
-fn around_empty_line(inside: &[u8]) -> Option<(&[u8], &[u8])>
-    ensures { MatchOption result (find is_empty_line (lines_of inside.now) ≡ None)
-        (λ parts. (is_some (find is_empty_line (lines_of inside.now)) ≡ true)
-        × (parts.0.now ≡ concat (before_first is_empty_line (lines_of inside.now)))
-        × (parts.1.now ≡ concat (after_first is_empty_line (lines_of inside.now)))) }
-{
-    let mut lines = Lines::new(inside);
-    let mut before = lines;
-    while let Some(line) = lines.next_line() {
-        if is_blank(line) {
-            return Some((&inside[..inside.len() - before.rest.len()], lines.rest));
-        }
-        before = lines;
-    }
-    None
-}
-
 /// Returns the headers of a block with these lines (RFC 1421 section 4.4), and the lines after
 /// them. The headers are the lines up to an empty one, if one of them has a colon.
 fn split_headers(inside: &[u8]) -> (&[u8], &[u8])
-    ensures headers { result.0.now ≡ headers_of inside.now }
-    ensures body { result.1.now ≡ body_of inside.now }
+    ensures headers { result.0.now ≡ (split_headers inside.now).0 }
+    ensures body { result.1.now ≡ (split_headers inside.now).1 }
 {
-    match around_empty_line(inside) {
-        Some((headers, body)) => {
-            if headers.contains(&b':') {
-                (headers, body)
-            } else {
-                (&inside[..0], inside)
-            }
-        }
-        None => (&inside[..0], inside),
+    match cut(inside, LineKind::Empty) {
+        Some(empty) if empty.before.contains(&b':') => (empty.before, empty.after),
+        _ => (&inside[..0], inside),
     }
-}
-
-/// Returns `true` if headers say that the body is encrypted (RFC 1421 section 4.6.1.1).
-fn are_of_encryption(headers: &[u8]) -> bool
-    ensures { result ≡ list_any is_of_encryption (lines_of headers.now) }
-{
-    let mut lines = Lines::new(headers);
-    while let Some(line) = lines.next_line() {
-        if line.starts_with(b"Proc-Type: 4,ENCRYPTED") {
-            return true;
-        }
-    }
-    false
 }
 
 impl<'a> Block<'a> {
@@ -282,7 +204,7 @@ impl<'a> Block<'a> {
             label,
             body,
             has_headers: !headers.is_empty(),
-            is_encrypted: are_of_encryption(headers),
+            is_encrypted: cut(headers, LineKind::Encryption).is_some(),
             has_end,
         }
     }
@@ -299,15 +221,11 @@ impl<'a> Block<'a> {
     pub fn is_key_of_openssl(&self) -> bool
         ensures { result ≡ is_key_of_openssl (block_view self.now) }
     {
-        self.has_end && self.has_label_of_openssl() && (!self.has_headers || self.is_encrypted)
-    }
-
-    /// Returns `true` if the label is one of those that OpenSSL reads a key of.
-    fn has_label_of_openssl(&self) -> bool
-        ensures { result ≡ is_label_of_openssl self.now.label.now }
-    {
-        self.label == b"EC PRIVATE KEY".as_slice()
-            || self.label == b"PRIVATE KEY".as_slice()
-            || self.label == b"ENCRYPTED PRIVATE KEY".as_slice()
+        let label = self.label;
+        self.has_end
+            && (label == b"EC PRIVATE KEY".as_slice()
+                || label == b"PRIVATE KEY".as_slice()
+                || label == b"ENCRYPTED PRIVATE KEY".as_slice())
+            && (!self.has_headers || self.is_encrypted)
     }
 }

@@ -3,10 +3,10 @@ use Rattle.std.proofs.Common.{append_assoc}
 use Rattle.std.proofs.Common.{subst}
 use Rattle.std.proofs.lemmas.List.{length-take-le}
 use Rattle.std.specs.List.{flat_map}
-use Rattle.der_view.specs.Sources.{SourceView, source_view}
+use Rattle.der_view.proofs.SourceLemmas.{sources_within}
+use Rattle.der_view.specs.Sources.{SourceView, source_view, total_len}
 use Rattle.sec1_c.proofs.DecodedLemmas.{decoded_within}
 use Rattle.sec1_c.proofs.PictureLineLemmas.{decoded-snoc, decoded_all, part_written, sources_lines-snoc}
-use Rattle.sec1_c.proofs.SourceLemmas.{sources_total, total_len}
 use Rattle.sec1_c.specs.PictureLines.{AreStored, IsDecodedAt, decoded_of, source_lines, sources_lines}
 use Rattle.sec1_c.proofs.picture.sec1_picture_lines.Goals as goal
 use Rattle.sec1_c.proofs.picture.sec1_picture_lines.Goals.{In_default}
@@ -14,7 +14,7 @@ use Rattle.sec1_c.proofs.picture.sec1_picture_lines.Goals.{In_default}
 pub loop-source-init : goal.loop-source-init
 loop-source-init c = record {
   room =
-      let total = sources_total c.args.input.now in
+      let total = sources_within c.args.input.now in
       let same = ap total_len c.new-sources.ensures in
       omega arith;
   within = omega arith;

@@ -1,4 +1,4 @@
-use Rattle.std.proofs.Common.{◌≡◌, ◌+◌, ℕ, length}
+use Rattle.std.proofs.Common.{◌≡◌, ◌+◌, length}
 use Rattle.der_view.specs.Encoded.{place_from}
 use Rattle.der_view.proofs.text.encoded.place_of.Given as goal
 

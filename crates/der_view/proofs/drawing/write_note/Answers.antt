@@ -1,8 +1,0 @@
-use Rattle.std.proofs.Common.{refl}
-use Rattle.der_view.proofs.DrawingLemmas.{then_on}
-use Rattle.der_view.proofs.drawing.write_note.Goals as goal
-
-pub returns : goal.returns
-returns g c =
-    then_on g.W.Output.appends g.met.W.Output.joined _ _ _ _ _ _ _ refl
-    (rw c.words.ensures at c.in_ok-write_text.ensures) (rw c.command.ensures at c.write_text-2.ensures)

@@ -1,0 +1,26 @@
+use Rattle.std.proofs.Common.{◌≡◌, [], ◌∷◌, List, Option, Some, None, refl, sym, ◌∙◌}
+use Rattle.std.specs.Option.{MatchOption, option_map}
+use Rattle.der_view.specs.Sources.{SourceView, or_source, source_view}
+use Rattle.der_view.specs.declared.text.Source.{Source}
+use Rattle.der_view.proofs.text.Sources.next_source.Goals as goal
+
+last : (other : Option Source) (old new : List SourceView) → or_source (option_map source_view other) [] ≡ old
+    → new ≡ [] → MatchOption other ((old ≡ []) × (new ≡ old)) (λ source. old ≡ source_view source ∷ new)
+last None old new is none = (sym is, none ∙ is)
+last (Some source) old new is none = rw none (sym is)
+
+more : (other : Option Source) (source : SourceView) (rest : List SourceView)
+    → or_source (option_map source_view other) (source ∷ rest) ≡ source ∷ rest
+more None source rest = refl
+more (Some other) source rest = refl
+
+pub returns-in-None : goal.returns-in-None
+returns-in-None c =
+    last c.self.inside.other c.args.self.now _ (rw c.in-None.ensures.value at c.self.view_is)
+    (rw c.in-None.ensures.value refl)
+
+pub returns-in-Some : goal.returns-in-Some
+returns-in-Some c =
+    sym c.self.view_is
+    ∙ rw (c.in-Some.ensures.value, c.is_key_of_openssl.ensures, c.is_of_private_key.ensures)
+    (more c.self.inside.other _ _)
