@@ -124,7 +124,7 @@ fn tag_at(bytes: &[u8]) -> Result<(Tag, usize), ElementFault>
 }
 
 /// Returns the class of a tag that begins with this byte.
-fn class_of(first: u8) -> Class
+pub(crate) fn class_of(first: u8) -> Class
     ensures { result ≡ class_of first }
 {
     match first / 0x40 {
