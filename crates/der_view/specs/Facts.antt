@@ -2,10 +2,12 @@
 use Rattle.std.specs.Prelude.{ℕ, ◌-◌, ◌/◌, ◌%◌, ◌==◌, ◌&&◌, ◌||◌, not, nat_lt, Bool, true, false}
 use Rattle.std.specs.Prelude.{if◌then◌else◌, List, [], ◌∷◌, length, Option, Some, None, is_some}
 use Rattle.std.specs.Prelude.{option_map, slice_index_or}
+use Rattle.std.specs.List.{list_any}
 use Rattle.der_view.specs.Grammar.{Component, Form}
 use Rattle.der_view.specs.Headers.{is_type}
 use Rattle.der_view.specs.Marks.{content_fault, length_fault, string_fault, tag_fault}
 use Rattle.der_view.specs.Rows.{ElementView, Row, Element, EndOfContents, NotDrawn, own_len}
+use Rattle.der_view.specs.Words.{same_name}
 use Rattle.der_view.specs.declared.facts.Kind.{Kind}
 use Rattle.der_view.specs.declared.facts.Kind.TheVariants as kinds
 use Rattle.der_view.specs.declared.facts.Point.{Point}
@@ -15,7 +17,6 @@ use Rattle.der_view.specs.declared.facts.Shown.{Shown}
 use Rattle.der_view.specs.declared.facts.Shown.TheVariants as shows
 use Rattle.der_view.specs.declared.grammar.Content.{Content}
 use Rattle.der_view.specs.declared.grammar.Content.TheVariants as contents
-use Rattle.der_view.specs.declared.grammar.forms.Secrecy.{Secrecy}
 use Rattle.der_view.specs.declared.grammar.forms.Secrecy.TheVariants as secrecies
 use Rattle.der_view.specs.declared.grammar.name.Name.{Name}
 use Rattle.der_view.specs.declared.grammar.name.Name.TheVariants as names
@@ -68,13 +69,9 @@ row_view row = record {
 -- ---- names
 
 -- a private key's form
-abbrev pub is_secrecy : Secrecy → Bool
-is_secrecy secrecies.Private = true
-is_secrecy _ = false
-
 abbrev pub is_private : Option Form → Bool
-is_private None = false
-is_private (Some form) = is_secrecy form.1
+is_private (Some (component, secrecies.Private)) = true
+is_private _ = false
 
 -- names are printed where the form is followed to its end, or cut, or has no private key
 abbrev pub shown_name : Plan → Name → Name
@@ -83,17 +80,10 @@ shown_name plan name =
 
 -- the components with private bytes
 abbrev pub is_private_name : Name → Bool
-is_private_name names.PrivateKey = true
-is_private_name names.TheKey = true
-is_private_name names.PrivateExponent = true
-is_private_name names.Prime1 = true
-is_private_name names.Prime2 = true
-is_private_name names.Exponent1 = true
-is_private_name names.Exponent2 = true
-is_private_name names.Coefficient = true
-is_private_name names.OtherPrimeInfos = true
-is_private_name names.X = true
-is_private_name _ = false
+is_private_name name =
+    list_any (same_name name) (names.PrivateKey ∷ names.TheKey ∷ names.PrivateExponent
+    ∷ names.Prime1 ∷ names.Prime2 ∷ names.Exponent1 ∷ names.Exponent2 ∷ names.Coefficient
+    ∷ names.OtherPrimeInfos ∷ names.X ∷ [])
 
 -- ---- contents
 

@@ -3,11 +3,13 @@ use Rattle.std.specs.Prelude.{ℕ, ◌+◌, ◌^◌, ◌-◌, ◌==◌, ◌&&◌
 use Rattle.std.specs.Prelude.{false, if◌then◌else◌, List, [], ◌∷◌, length, slice_index_or}
 use Rattle.std.specs.Prelude.{Option, Some, None, is_none}
 use Rattle.std.specs.List.{fold}
+use Rattle.std.proofs.Common.{◌≡◌, ◌++◌, sym, ap, ◌∙◌}
+use Rattle.std.proofs.lemmas.Grind.{fold-append}
 use Rattle.der_view.specs.Facts.{RowView, is_told, row_of}
 use Rattle.der_view.specs.Grammar.{Component, Form}
 use Rattle.der_view.specs.Headers.{is_type}
 use Rattle.der_view.specs.Identifiers.{identifier_in}
-use Rattle.der_view.specs.Rows.{Row, Element, EndOfContents, NotDrawn}
+use Rattle.der_view.specs.Rows.{Row, Element}
 use Rattle.der_view.specs.Words.{same_name}
 use Rattle.der_view.specs.declared.facts.Kind.{Kind}
 use Rattle.der_view.specs.declared.facts.Kind.TheVariants as kinds
@@ -151,3 +153,9 @@ with_next known row =
 -- what is known of rows after this
 abbrev pub with_rows : Known → List Row → Known
 with_rows known rows = fold with_next known rows
+
+pub with_rows-join : (a b c : Known) (first second : List Row) → b ≡ with_rows a first
+    → c ≡ with_rows b second → c ≡ with_rows a (first ++ second)
+with_rows-join a b c first second one two =
+    two ∙ (ap (λ (known : Known). with_rows known second) one ∙ sym
+    (fold-append with_next a first second))

@@ -34,13 +34,7 @@ use Rattle.der_view.specs.declared.sentences.Sentence.TheVariants as sentences
 
 -- ---- what bytes that aren't DER begin as
 
--- RFC 9580 sections 4.2.2 and 5.5.2: a key of version 4, with a length of two bytes, and as many
-abbrev pub is_pgp : List ℕ → Bool
-is_pgp bytes =
-    (slice_index bytes 0 == 0x95 || slice_index bytes 0 == 0x99)
-    && (slice_index bytes 3 == 0x04
-    && nat_le (slice_index bytes 1 * 256 + slice_index bytes 2) (length bytes - 3))
-
+-- RFC 9580 sections 4.2.2 and 5.5.2: a key of OpenPGP of version 4 has a length of two bytes
 unfoldable pub file_note : List ℕ → Option Sentence
 file_note bytes =
     if begins bytes (0xFE ∷ 0xED ∷ 0xFE ∷ 0xED ∷ []) || begins bytes
@@ -49,7 +43,10 @@ file_note bytes =
     else (if begins bytes (0x1F ∷ 0x8B ∷ 0x08 ∷ []) then Some sentences.Gzip
     else (if begins bytes (0x1E ∷ 0xF1 ∷ 0xB5 ∷ 0xB0 ∷ []) then Some sentences.Pvk
     else (if begins bytes (0x03 ∷ 0xD9 ∷ 0xA2 ∷ 0x9A ∷ []) then Some sentences.Keepass
-    else (if is_pgp bytes then Some sentences.PgpKey else None))))
+    else (if (slice_index bytes 0 == 0x95 || slice_index bytes 0 == 0x99)
+    && slice_index bytes 3 == 0x04
+    && nat_le (slice_index bytes 1 * 256 + slice_index bytes 2) (length bytes - 3)
+    then Some sentences.PgpKey else None))))
 
 -- ---- what they are
 
@@ -79,20 +76,21 @@ curve_by content = find (λ curve. bytes_eq (curve_content curve) content) ALL
 abbrev pub is_ec : List ℕ → Bool
 is_ec content = bytes_eq content (0x2A ∷ 0x86 ∷ 0x48 ∷ 0xCE ∷ 0x3D ∷ 0x02 ∷ 0x01 ∷ [])
 
--- the name of an identifier, that of a curve or another, or else other words
-abbrev pub named_or : Option (List ℕ) → Option Curve → List ℕ → List ℕ
-named_or (Some name) (Some curve) other =
-    codes "This names the curve " ++ (name ++ codes ": it has no private key.")
-named_or (Some name) None other =
-    codes "This names " ++ (name ++ codes ": it has no private key.")
-named_or None curve other = other
+-- one text of a curve with a name, one of another identifier with a name, and one of the others
+abbrev pub by_name : Option (List ℕ) → Option Curve → List ℕ → List ℕ → List ℕ → List ℕ
+by_name (Some name) (Some curve) of_curve of_named other = of_curve
+by_name (Some name) None of_curve of_named other = of_named
+by_name None curve of_curve of_named other = other
 
 -- bytes that are all of the form with this name
 abbrev pub whole_text : Name → Known → List ℕ
 whole_text name known =
     let text = concat (form_word 0 name ∷ form_word 1 name ∷ form_word 2 name ∷ []) in
+    let named = λ (front : List ℕ). identified [] front [] [] (codes ": it has no private key.")
+    (name_by known.curve) (arcs_by known.curve) in
     if same_name name names.NamedCurve
-    then named_or (name_by known.curve) (curve_by known.curve) text
+    then by_name (name_by known.curve) (curve_by known.curve)
+    (named (codes "This names the curve ")) (named (codes "This names ")) text
     else (if same_name name names.PrivateKeyInfo && not (is_ec known.algorithm)
     then identified (codes "This is PKCS #8 (RFC 5958) with another key") (codes ": ")
     (codes ": ") [] (codes ". It has no EC key.") (name_by known.algorithm)

@@ -9,23 +9,23 @@ use Rattle.der_view.specs.declared.sentences.Advice.{Advice}
 use Rattle.der_view.specs.declared.sentences.Sentence.{Sentence}
 use Rattle.der_view.specs.declared.sentences.TheConstants.{COMMANDS, FORMS, FORM_WORDS, SENTENCES}
 
-abbrev Text : Type 0
+abbrev pub Text : Type 0
 Text = record { now : List ℕ }
 
 abbrev none : Text
 none = record { now = [] }
 
-abbrev sentence_row : Sentence → Text × Text × Text
+unfoldable pub sentence_row : Sentence → Text × Text × Text
 sentence_row sentence = slice_index_or SENTENCES (tag_of sentences sentence) (none, none, none)
 
 -- why a block isn't drawn; what is said; and the command that helps
-unfoldable pub reason_of : Sentence → List ℕ
+abbrev pub reason_of : Sentence → List ℕ
 reason_of sentence = (sentence_row sentence).0.now
 
-unfoldable pub words_of : Sentence → List ℕ
+abbrev pub words_of : Sentence → List ℕ
 words_of sentence = (sentence_row sentence).1.now
 
-unfoldable pub command_of : Sentence → List ℕ
+abbrev pub command_of : Sentence → List ℕ
 command_of sentence = (sentence_row sentence).2.now
 
 -- the place of a name among these, or their number
@@ -39,12 +39,12 @@ unfoldable pub form_word : ℕ → Name → List ℕ
 form_word part name =
     slice_index_or (map (λ text. text.now) FORM_WORDS) (3 * place_of FORMS name + part) []
 
-abbrev advice_row : Advice → Text × Text
+unfoldable pub advice_row : Advice → Text × Text
 advice_row advice = slice_index_or COMMANDS (tag_of advices advice) (none, none)
 
 -- what a command does, and the command
-unfoldable pub advice_words : Advice → List ℕ
+abbrev pub advice_words : Advice → List ℕ
 advice_words advice = (advice_row advice).0.now
 
-unfoldable pub advice_command : Advice → List ℕ
+abbrev pub advice_command : Advice → List ℕ
 advice_command advice = (advice_row advice).1.now

@@ -1,13 +1,13 @@
 //! What is printed of a row.
 ghost use Rattle.std.specs.Prelude.{◌≡◌};
-ghost use Rattle.der_view.specs.Facts.{bare_row, bits_point, element_marks, element_row, end_row};
+ghost use Rattle.der_view.specs.Facts.{bare_row, element_marks, element_row, end_row};
 ghost use Rattle.der_view.specs.Facts.{is_all, is_private, is_private_name, is_told, misfit_mark};
 ghost use Rattle.der_view.specs.Facts.{missing_mark, not_drawn_mark, not_drawn_row, point_of};
 ghost use Rattle.der_view.specs.Facts.{point_shown, row_view, shown_by, shown_fault};
 ghost use Rattle.der_view.specs.Rows.{view_of};
 
 use crate::grammar::{Component, Content, Form, Name, Secrecy};
-use crate::header::{Class, Header, Tag};
+use crate::header::{Class, Tag};
 use crate::marks::{Fault, Mark, content_fault, length_fault, string_fault, tag_fault};
 use crate::plan::Plan;
 use crate::walk::{Element, Place};
@@ -262,16 +262,13 @@ fn point_of(form: u8, size: usize) -> Point
 fn element_marks(plan: Plan, element: &Element) -> [Option<Mark>; 6]
     ensures { result ≡ element_marks plan (view_of element.now) }
 {
-    let Header {
-        tag,
-        tag_len,
-        len,
-        content_len,
-    } = element.header;
+    let header = element.header;
+    let tag = header.tag;
+    let length_len = header.len.saturating_sub(header.tag_len);
     [
-        missing_mark(content_len, element.len),
+        missing_mark(header.content_len, element.len),
         tag_fault(element.head, tag.number).map(Mark::Fault),
-        length_fault(content_len, len.saturating_sub(tag_len)).map(Mark::Fault),
+        length_fault(header.content_len, length_len).map(Mark::Fault),
         string_fault(tag).map(Mark::Fault),
         shown_fault(element).map(Mark::Fault),
         misfit_mark(plan, element.follows),

@@ -2,7 +2,7 @@
 ghost use Rattle.std.specs.Prelude.{◌≡◌};
 ghost use Rattle.der_view.specs.Facts.{row_view};
 ghost use Rattle.der_view.specs.Known.{form_name, gives_curve, is_sequence, nothing_known, weight};
-ghost use Rattle.der_view.specs.Known.{with_marks, with_name, with_row, worst};
+ghost use Rattle.der_view.specs.Known.{with_marks, with_row, worst};
 
 use crate::facts::{Kind, RowFacts};
 use crate::grammar::{Component, Form, Name};
@@ -65,14 +65,6 @@ impl Known {
         }
     }
 
-    /// Notes a row whose component has this name.
-    fn see(&mut self, name: Name, row: &RowFacts)
-        ensures { self.new ≡ with_row self.old name (row_view row.now) }
-    {
-        self.see_marks(row);
-        self.see_name(name, row);
-    }
-
     /// Notes the marks of a row, and the length of the root.
     fn see_marks(&mut self, row: &RowFacts)
         ensures { self.new ≡ with_marks self.old (row_view row.now) }
@@ -94,10 +86,11 @@ impl Known {
         }
     }
 
-    /// Notes a component with this name.
-    fn see_name(&mut self, name: Name, row: &RowFacts)
-        ensures { self.new ≡ with_name self.old name (row_view row.now) }
+    /// Notes a row whose component has this name.
+    fn see(&mut self, name: Name, row: &RowFacts)
+        ensures { self.new ≡ with_row self.old name (row_view row.now) }
     {
+        self.see_marks(row);
         let depth = row.place.depth;
         match name {
             Name::NamedCurve => {
@@ -133,7 +126,7 @@ impl Known {
 impl Rows for Known {
     ghost use Rattle.std.proofs.Common.{refl};
     ghost use Rattle.der_view.specs.Known.{with_rows};
-    ghost use Rattle.der_view.specs.KnownLaws.{with_rows-join};
+    ghost use Rattle.der_view.specs.Known.{with_rows-join};
 
     ghost tells = { λ a b rows. b ≡ with_rows a rows };
 

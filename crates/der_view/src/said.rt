@@ -1,11 +1,11 @@
 //! What is said of bytes, by what is known of them.
-ghost use Rattle.std.specs.Prelude.{◌≡◌, ◌++◌, [], codes, slice_index, unwrap_or};
+ghost use Rattle.std.specs.Prelude.{◌≡◌, ◌++◌, [], slice_index, unwrap_or};
 ghost use Rattle.der_view.specs.Lines.{kept};
 ghost use Rattle.der_view.specs.Names.{name_by};
 ghost use Rattle.der_view.specs.Said.{advice_of, advices_of, begun_text, curve_by, file_note};
 ghost use Rattle.der_view.specs.Said.{first_text, form_text, identified, is_ec, is_fit, is_legacy};
-ghost use Rattle.der_view.specs.Said.{is_plain_form, is_repaired, key_misfit, key_text};
-ghost use Rattle.der_view.specs.Said.{misfit_words, none_text, order_len, point_misfit, whole_text};
+ghost use Rattle.der_view.specs.Said.{is_plain_form, is_repaired, key_misfit};
+ghost use Rattle.der_view.specs.Said.{misfit_words, none_text, point_misfit, whole_text};
 ghost use Rattle.der_view.specs.Values.{arcs_by};
 
 use crate::grammar::Name;
@@ -92,7 +92,17 @@ pub(crate) fn first_line(
 {
     let mut line = Line::new();
     match known.plan.form {
-        _ if is_key => line.push_key(known),
+        _ if is_key && known.has_curve => line.push_identified(
+            "This is an EC private key (RFC 5915)",
+            " on ",
+            " on the curve ",
+            " on another curve",
+            known.curve.as_bytes(),
+            ".",
+        ),
+        _ if is_key => {
+            line.push_str("This is an EC private key (RFC 5915), with no curve named.");
+        }
         Some(form) => line.push_form(form.0.3, known),
         None => line.push_none(reading, file, known.plan),
     }
@@ -109,24 +119,6 @@ pub(crate) fn line_of(text: &str) -> Line
 }
 
 impl Line {
-    /// Appends what a key is.
-    fn push_key(&mut self, known: &Known)
-        ensures { self.new ≡ kept (self.old ++ key_text known.now) }
-    {
-        if known.has_curve {
-            self.push_identified(
-                "This is an EC private key (RFC 5915)",
-                " on ",
-                " on the curve ",
-                " on another curve",
-                known.curve.as_bytes(),
-                ".",
-            );
-        } else {
-            self.push_str("This is an EC private key (RFC 5915), with no curve named.");
-        }
-    }
-
     /// Appends the name of an identifier, its dotted text or neither between two texts; each has a
     /// text of its own before it.
     fn push_identified(
@@ -220,12 +212,13 @@ impl Line {
         let curve = known.curve.as_bytes();
         let algorithm = known.algorithm.as_bytes();
         let (before, form, after) = form_words(name);
+        let keyless = ": it has no private key.";
         match (name_of(curve), curve_of(curve)) {
-            (Some(found), Some(_)) if name.is(Name::NamedCurve) => {
-                self.push_named("This names the curve ", found);
+            (Some(_), Some(_)) if name.is(Name::NamedCurve) => {
+                self.push_identified("", "This names the curve ", "", "", curve, keyless);
             }
-            (Some(found), None) if name.is(Name::NamedCurve) => {
-                self.push_named("This names ", found);
+            (Some(_), None) if name.is(Name::NamedCurve) => {
+                self.push_identified("", "This names ", "", "", curve, keyless);
             }
             _ if name.is(Name::PrivateKeyInfo) && !is_ec(algorithm) => self.push_identified(
                 "This is PKCS #8 (RFC 5958) with another key",
@@ -237,16 +230,6 @@ impl Line {
             ),
             _ => self.push_all(&[before, form, after]),
         }
-    }
-
-    /// Appends what an identifier with this name is.
-    fn push_named(&mut self, front: &str, name: &[u8])
-        ensures { self.new
-            ≡ kept (self.old ++ (front.now ++ (name.now ++ codes ": it has no private key."))) }
-    {
-        self.push_str(front);
-        self.push_bytes(name);
-        self.push_str(": it has no private key.");
     }
 
     /// Appends what bytes of no form are.
@@ -282,33 +265,24 @@ fn is_ec(content: &[u8]) -> bool
 fn curve_of(content: &[u8]) -> Option<Curve>
     ensures { result ≡ curve_by content.now }
 {
-    match Curve::from_content(content) {
-        Some(curve) => Some(curve),
-        None => None,
-    }
+    Curve::from_content(content)
 }
 
-/// Returns the length of a private key, where it isn't that of its curve, and that.
+/// Returns the length of a private key, where it isn't that of its curve, and that: of the order,
+/// which has a bit more than the field on four curves (SEC 2 version 1.0 section 2.4 and version 2.0
+/// section 2.3.1).
 #[tactic(auto, unfolding(crate::specs::Said::key_misfit))]
 pub(crate) fn key_misfit(known: &Known) -> Option<(usize, usize)>
     ensures { result ≡ key_misfit known.now }
 {
-    let needs = order_len(curve_of(known.curve.as_bytes())?);
+    let needs = match curve_of(known.curve.as_bytes())? {
+        Curve::Secp160k1 | Curve::Secp160r1 | Curve::Secp160r2 => 21,
+        Curve::Secp224k1 => 29,
+        curve => curve.field_len(),
+    };
     match known.key_len {
         Some(len) if len != needs => Some((len, needs)),
         _ => None,
-    }
-}
-
-/// Returns the length of a private key on a curve: that of its order, which has a bit more than its
-/// field on four curves (SEC 2 version 1.0 section 2.4 and version 2.0 section 2.3.1).
-fn order_len(curve: Curve) -> usize
-    ensures { result ≡ order_len curve }
-{
-    match curve {
-        Curve::Secp160k1 | Curve::Secp160r1 | Curve::Secp160r2 => 21,
-        Curve::Secp224k1 => 29,
-        _ => curve.field_len(),
     }
 }
 

@@ -96,9 +96,9 @@ const SENTENCES: [(&str, &str, &str); 24] = [
     ("", "This is no EC private key (RFC 5915).", ""),
 ];
 
+#[tactic(auto, unfolding(crate::specs::Sentences::sentence_row))]
 impl Sentence {
     /// Returns why a block isn't drawn, after its label; empty of any other text.
-    #[tactic(auto, unfolding(crate::specs::Sentences::reason_of))]
     pub fn reason(self) -> &'static str
         ensures { result.now ≡ reason_of self }
     {
@@ -106,7 +106,6 @@ impl Sentence {
     }
 
     /// Returns what is said; empty if nothing is.
-    #[tactic(auto, unfolding(crate::specs::Sentences::words_of))]
     pub fn words(self) -> &'static str
         ensures { result.now ≡ words_of self }
     {
@@ -114,7 +113,6 @@ impl Sentence {
     }
 
     /// Returns the command that helps; empty if there is none.
-    #[tactic(auto, unfolding(crate::specs::Sentences::command_of))]
     pub fn command(self) -> &'static str
         ensures { result.now ≡ command_of self }
     {
@@ -245,9 +243,9 @@ const COMMANDS: [(&str, &str); 11] = [
     "openssl pkcs12 -legacy -in FILE -nodes -nocerts -out key.pem"),
 ];
 
+#[tactic(auto, unfolding(crate::specs::Sentences::advice_row))]
 impl Advice {
     /// Returns what the command does; empty if there is none.
-    #[tactic(auto, unfolding(crate::specs::Sentences::advice_words))]
     pub fn words(self) -> &'static str
         ensures { result.now ≡ advice_words self }
     {
@@ -255,7 +253,6 @@ impl Advice {
     }
 
     /// Returns the command; empty if there is none.
-    #[tactic(auto, unfolding(crate::specs::Sentences::advice_command))]
     pub fn command(self) -> &'static str
         ensures { result.now ≡ advice_command self }
     {

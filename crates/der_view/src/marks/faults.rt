@@ -1,6 +1,6 @@
 //! Which rules of X.690 a header or a content doesn't keep.
 ghost use Rattle.std.specs.Prelude.{◌≡◌};
-ghost use Rattle.der_view.specs.Marks.{bits_fault, boolean_fault, content_fault, fault_unless};
+ghost use Rattle.der_view.specs.Marks.{bits_fault, content_fault, fault_unless};
 ghost use Rattle.der_view.specs.Marks.{length_fault, string_fault, tag_fault};
 
 use super::Fault;
@@ -55,7 +55,10 @@ pub(crate) fn content_fault(number: u32, content: &[u8]) -> Option<Fault>
     ensures { result ≡ content_fault number content.now }
 {
     match number {
-        1 => boolean_fault(content),
+        1 => match content {
+            [byte] => fault_unless(*byte == 0x00 || *byte == 0xFF, Fault::TrueIsFf),
+            _ => Some(Fault::BooleanLength),
+        },
         2 | 10 => fault_unless(!content.is_empty(), Fault::EmptyInteger),
         3 => bits_fault(content),
         5 => fault_unless(content.is_empty(), Fault::NullContent),
@@ -71,16 +74,6 @@ fn fault_unless(passes: bool, fault: Fault) -> Option<Fault>
     ensures { result ≡ fault_unless passes fault }
 {
     if passes { None } else { Some(fault) }
-}
-
-/// Returns what is wrong with the content of a BOOLEAN.
-fn boolean_fault(content: &[u8]) -> Option<Fault>
-    ensures { result ≡ boolean_fault content.now }
-{
-    match content {
-        [byte] => fault_unless(*byte == 0x00 || *byte == 0xFF, Fault::TrueIsFf),
-        _ => Some(Fault::BooleanLength),
-    }
 }
 
 /// Returns what is wrong with the content of a BIT STRING: the number of unused bits in its last
