@@ -1,4 +1,4 @@
-use Rattle.std.proofs.Common.{◌≡◌, ℕ, List, [], Bor, arith, sym, map}
+use Rattle.std.proofs.Common.{ℕ, List, [], Bor, arith, sym, map}
 use Rattle.std.proofs.lemmas.List.{get_or-map, get_or_past, length-map}
 use Rattle.der_view.proofs.words.text_at.Goals as goal
 
