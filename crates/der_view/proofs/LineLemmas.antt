@@ -98,6 +98,8 @@ pub ruleset kept_by_room = (kept-short, kept-cut)
 
 pub ruleset kept_spaces = (kept-spaces)
 
+pub ruleset kept_pieces = (kept-pieces)
+
 -- three pieces
 pub kept-three : (old a b c x y z : List ℕ) → x ≡ kept (old ++ a) → y ≡ kept (x ++ b) → z ≡ kept (y ++ c)
     → z ≡ kept (old ++ (a ++ (b ++ c)))

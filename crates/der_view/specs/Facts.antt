@@ -1,11 +1,13 @@
 -- What is printed of a row.
 use Rattle.std.specs.Prelude.{ℕ, ◌-◌, ◌/◌, ◌%◌, ◌==◌, ◌&&◌, ◌||◌, not, nat_lt, Bool, true, false}
 use Rattle.std.specs.Prelude.{if◌then◌else◌, List, [], ◌∷◌, length, Option, Some, None, is_some}
+use Rattle.std.specs.Prelude.{option_map, slice_index_or}
+use Rattle.std.specs.List.{list_any}
 use Rattle.der_view.specs.Grammar.{Component, Form}
 use Rattle.der_view.specs.Headers.{is_type}
 use Rattle.der_view.specs.Marks.{content_fault, length_fault, string_fault, tag_fault}
-use Rattle.der_view.specs.Marks.{unused_number_fault}
 use Rattle.der_view.specs.Rows.{ElementView, Row, Element, EndOfContents, NotDrawn, own_len}
+use Rattle.der_view.specs.Words.{same_name}
 use Rattle.der_view.specs.declared.facts.Kind.{Kind}
 use Rattle.der_view.specs.declared.facts.Kind.TheVariants as kinds
 use Rattle.der_view.specs.declared.facts.Point.{Point}
@@ -15,7 +17,6 @@ use Rattle.der_view.specs.declared.facts.Shown.{Shown}
 use Rattle.der_view.specs.declared.facts.Shown.TheVariants as shows
 use Rattle.der_view.specs.declared.grammar.Content.{Content}
 use Rattle.der_view.specs.declared.grammar.Content.TheVariants as contents
-use Rattle.der_view.specs.declared.grammar.forms.Secrecy.{Secrecy}
 use Rattle.der_view.specs.declared.grammar.forms.Secrecy.TheVariants as secrecies
 use Rattle.der_view.specs.declared.grammar.name.Name.{Name}
 use Rattle.der_view.specs.declared.grammar.name.Name.TheVariants as names
@@ -23,6 +24,7 @@ use Rattle.der_view.specs.declared.header.Class.{Class}
 use Rattle.der_view.specs.declared.header.Class.TheVariants as classes
 use Rattle.der_view.specs.declared.header.Tag.{Tag}
 use Rattle.der_view.specs.declared.marks.Fault.{Fault}
+use Rattle.der_view.specs.declared.marks.Fault.TheVariants as faults
 use Rattle.der_view.specs.declared.marks.Mark.{Mark}
 use Rattle.der_view.specs.declared.marks.Mark.TheVariants as marks
 use Rattle.der_view.specs.declared.plan.Plan.{Plan}
@@ -67,34 +69,21 @@ row_view row = record {
 -- ---- names
 
 -- a private key's form
-abbrev pub is_secrecy : Secrecy → Bool
-is_secrecy secrecies.Private = true
-is_secrecy _ = false
-
 abbrev pub is_private : Option Form → Bool
-is_private None = false
-is_private (Some form) = is_secrecy form.1
+is_private (Some (component, secrecies.Private)) = true
+is_private _ = false
 
 -- names are printed where the form is followed to its end, or cut, or has no private key
-abbrev pub shows_names : Plan → Bool
-shows_names plan = plan.is_whole || plan.is_cut || not (is_private plan.form)
-
 abbrev pub shown_name : Plan → Name → Name
-shown_name plan name = if shows_names plan then name else names.Nothing
+shown_name plan name =
+    if plan.is_whole || plan.is_cut || not (is_private plan.form) then name else names.Nothing
 
 -- the components with private bytes
 abbrev pub is_private_name : Name → Bool
-is_private_name names.PrivateKey = true
-is_private_name names.TheKey = true
-is_private_name names.PrivateExponent = true
-is_private_name names.Prime1 = true
-is_private_name names.Prime2 = true
-is_private_name names.Exponent1 = true
-is_private_name names.Exponent2 = true
-is_private_name names.Coefficient = true
-is_private_name names.OtherPrimeInfos = true
-is_private_name names.X = true
-is_private_name _ = false
+is_private_name name =
+    list_any (same_name name) (names.PrivateKey ∷ names.TheKey ∷ names.PrivateExponent
+    ∷ names.Prime1 ∷ names.Prime2 ∷ names.Exponent1 ∷ names.Exponent2 ∷ names.Coefficient
+    ∷ names.OtherPrimeInfos ∷ names.X ∷ [])
 
 -- ---- contents
 
@@ -146,51 +135,42 @@ shown_by element =
 
 -- ---- marks
 
-abbrev pub says_expected : Plan → Bool
-says_expected plan = is_private plan.form && not plan.is_cut
-
 abbrev pub missing_mark : Option ℕ → ℕ → Option Mark
 missing_mark None len = None
 missing_mark (Some announced) len =
     if nat_lt len announced then Some (marks.Missing (announced - len) announced) else None
 
-abbrev pub fault_mark : Option Fault → Option Mark
-fault_mark None = None
-fault_mark (Some fault) = Some (marks.Fault fault)
-
--- X.690 section 8.6.2.2: of a BIT STRING of which not all is shown, the number of unused bits
-abbrev pub first_fault : ℕ → List ℕ → Option Fault
-first_fault number [] = None
-first_fault number (first ∷ rest) = if number == 3 then unused_number_fault first else None
-
-abbrev pub type_fault : ℕ → Bool → List ℕ → Option Fault
-type_fault number all shown = if all then content_fault number shown else first_fault number shown
-
+-- what is wrong with a content of this class and type, of which all is shown or the first bytes:
+-- of a BIT STRING the number of unused bits (X.690 section 8.6.2.2)
 abbrev pub class_fault : Class → ℕ → Bool → List ℕ → Option Fault
-class_fault classes.Universal number all shown = type_fault number all shown
+class_fault classes.Universal number true shown = content_fault number shown
+class_fault classes.Universal number false (unused ∷ bytes) =
+    if number == 3 && nat_lt 7 unused then Some faults.UnusedAboveSeven else None
 class_fault _ number all shown = None
 
 abbrev pub shown_fault : ElementView → Option Fault
 shown_fault element =
     class_fault element.header.tag.class element.header.tag.number (is_all element) element.shown
 
+-- where a private key's form isn't followed
 abbrev pub misfit_mark : Plan → Bool → Option Mark
-misfit_mark plan follows = if says_expected plan && not follows then Some marks.Expected else None
+misfit_mark plan follows =
+    if is_private plan.form && not plan.is_cut && not follows then Some marks.Expected else None
 
 abbrev pub element_marks : Plan → ElementView → List (Option Mark)
 element_marks plan element =
     missing_mark element.header.content_len element.len
-    ∷ fault_mark (tag_fault element.head element.header.tag.number)
-    ∷ fault_mark (length_fault element.header.content_len
+    ∷ option_map marks.Fault (tag_fault element.head element.header.tag.number)
+    ∷ option_map marks.Fault (length_fault element.header.content_len
     (element.header.len - element.header.tag_len))
-    ∷ fault_mark (string_fault element.header.tag)
-    ∷ fault_mark (shown_fault element)
+    ∷ option_map marks.Fault (string_fault element.header.tag)
+    ∷ option_map marks.Fault (shown_fault element)
     ∷ misfit_mark plan element.follows ∷ []
 
 abbrev pub not_drawn_mark : Plan → Place → Option Mark
 not_drawn_mark plan place =
     if place.depth == 0 && nat_lt 0 place.offset then Some marks.AfterRoot
-    else (if says_expected plan then Some marks.Expected else None)
+    else misfit_mark plan false
 
 -- ---- rows
 
@@ -213,28 +193,11 @@ element_row plan all place element = record {
   content = element.content;
 }
 
-abbrev pub end_row : Place → RowView
-end_row place = record {
+-- so many bytes, of which no more is printed
+abbrev pub bare_row : Place → Kind → ℕ → RowView
+bare_row place kind len = record {
   place = place;
-  kind = kinds.EndOfContents;
-  head = 0 ∷ 0 ∷ [];
-  announced = Some 0;
-  len = 0;
-  opened = false;
-  own_len = 0;
-  name = names.Nothing;
-  secret = false;
-  shown = shows.Nothing;
-  value = [];
-  marks = None ∷ None ∷ None ∷ None ∷ None ∷ None ∷ [];
-  expected = [];
-  content = [];
-}
-
-abbrev pub not_drawn_row : Plan → Place → List Component → ℕ → List ℕ → RowView
-not_drawn_row plan place expected len content = record {
-  place = place;
-  kind = kinds.NotDrawn;
+  kind = kind;
   head = [];
   announced = Some len;
   len = len;
@@ -244,6 +207,16 @@ not_drawn_row plan place expected len content = record {
   secret = false;
   shown = shows.Nothing;
   value = [];
+  marks = None ∷ None ∷ None ∷ None ∷ None ∷ None ∷ [];
+  expected = [];
+  content = [];
+}
+
+abbrev pub end_row : Place → RowView
+end_row place = record (bare_row place kinds.EndOfContents 0) { head = 0 ∷ 0 ∷ [] }
+
+abbrev pub not_drawn_row : Plan → Place → List Component → ℕ → List ℕ → RowView
+not_drawn_row plan place expected len content = record (bare_row place kinds.NotDrawn len) {
   marks = not_drawn_mark plan place ∷ None ∷ None ∷ None ∷ None ∷ None ∷ [];
   expected = expected;
   content = content;
@@ -257,12 +230,8 @@ row_of plan all (NotDrawn place expected len content) =
     not_drawn_row plan place expected len content
 
 -- a row of no bytes is told only if it has a mark
-abbrev pub has_first : List (Option Mark) → Bool
-has_first [] = false
-has_first (mark ∷ others) = is_some mark
-
 abbrev pub is_told_by : Kind → ℕ → List (Option Mark) → Bool
-is_told_by kinds.NotDrawn len row_marks = nat_lt 0 len || has_first row_marks
+is_told_by kinds.NotDrawn len row_marks = nat_lt 0 len || is_some (slice_index_or row_marks 0 None)
 is_told_by _ len row_marks = true
 
 abbrev pub is_told : RowView → Bool

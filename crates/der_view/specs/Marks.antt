@@ -1,19 +1,19 @@
 -- What is marked below a row.
 use Rattle.std.specs.Prelude.{◌==◌, ◌&&◌, ◌||◌, ◌-◌, ◌%◌, ◌^◌, ℕ, nat_le, nat_lt, Bool, true, false}
 use Rattle.std.specs.Prelude.{if◌then◌else◌, List, [], ◌∷◌, ◌++◌, length, codes, slice_index, not}
-use Rattle.std.specs.Prelude.{Option, Some, None, unwrap_or}
+use Rattle.std.specs.Prelude.{Option, Some, None}
 use Rattle.std.specs.Fmt.{decimal}
+use Rattle.std.specs.List.{concat}
 use Rattle.hex.specs.Hex.{encode_upper}
 use Rattle.der_types.specs.ObjectIdentifiers.{is_object_identifier}
 use Rattle.der_types.specs.Times.{is_generalized_time, is_utc_time}
 use Rattle.der_view.specs.Characters.{are_characters}
 use Rattle.der_view.specs.Grammar.{Component}
 use Rattle.der_view.specs.Headers.{tag_of}
-use Rattle.der_view.specs.Types.{type_name, universal_type}
+use Rattle.der_view.specs.Types.{type_name, type_word}
 use Rattle.der_view.specs.Words.{name_text}
 use Rattle.der_view.specs.declared.grammar.Presence.{Presence}
 use Rattle.der_view.specs.declared.grammar.Presence.TheVariants as presences
-use Rattle.der_view.specs.declared.grammar.name.Name.{Name}
 use Rattle.der_view.specs.declared.header.Class.{Class}
 use Rattle.der_view.specs.declared.header.Class.TheVariants as classes
 use Rattle.der_view.specs.declared.header.Tag.{Tag}
@@ -33,6 +33,10 @@ tag_fault head number =
     else (if nat_lt number 31 then Some faults.LowTag else None))
     else None
 
+-- a fault of what isn't as it has to be
+abbrev pub fault_unless : Bool → Fault → Option Fault
+fault_unless passes fault = if passes then None else Some fault
+
 -- X.690 sections 8.1.3.4 and 8.1.3.5: the number of bytes of the shortest form of a length
 abbrev pub length_len : ℕ → ℕ
 length_len len =
@@ -42,8 +46,7 @@ length_len len =
 -- X.690 section 10.1: the length is definite and in its shortest form
 abbrev pub length_fault : Option ℕ → ℕ → Option Fault
 length_fault None len = Some faults.Indefinite
-length_fault (Some content_len) len =
-    if nat_lt (length_len content_len) len then Some faults.Length else None
+length_fault (Some content_len) len = fault_unless (nat_le len (length_len content_len)) faults.Length
 
 -- X.680 section 8.4: BIT STRING, OCTET STRING, UTF8String, the other strings of characters, and the
 -- times, which are VisibleStrings
@@ -56,35 +59,21 @@ is_string _ number = false
 -- X.690 section 10.2: no string is constructed
 abbrev pub string_fault : Tag → Option Fault
 string_fault tag =
-    if tag.constructed && is_string tag.class tag.number then Some faults.ConstructedString
-    else None
+    fault_unless (not (tag.constructed && is_string tag.class tag.number)) faults.ConstructedString
 
 -- X.690 sections 8.2.1 and 11.1: one byte, 00 or FF
 abbrev pub boolean_fault : List ℕ → Option Fault
-boolean_fault [] = Some faults.BooleanLength
-boolean_fault (byte ∷ []) = if byte == 0x00 || byte == 0xFF then None else Some faults.TrueIsFf
-boolean_fault (first ∷ second ∷ bytes) = Some faults.BooleanLength
+boolean_fault (byte ∷ []) = fault_unless (byte == 0x00 || byte == 0xFF) faults.TrueIsFf
+boolean_fault _ = Some faults.BooleanLength
 
--- a fault of a content that isn't one of its type
-abbrev pub fault_unless : Bool → Fault → Option Fault
-fault_unless passes fault = if passes then None else Some fault
-
--- X.690 sections 8.6.2.2, 8.6.2.3 and 11.2.1: at most 7 unused bits, none of no byte, and all 0
-abbrev pub unused_fault : ℕ → List ℕ → Option Fault
-unused_fault unused bytes =
-    if nat_lt 7 unused then Some faults.UnusedAboveSeven
-    else (if length bytes == 0 then fault_unless (unused == 0) faults.UnusedInEmpty
-    else (if slice_index bytes (length bytes - 1) % 2 ^ unused == 0 then None
-    else Some faults.UnusedNotZero))
-
--- X.690 section 8.6.2.2: the number of unused bits, and the bytes
+-- X.690 sections 8.6.2.2, 8.6.2.3 and 11.2.1: the number of unused bits, and the bytes: at most 7
+-- unused bits, none of no byte, and all 0
 abbrev pub bits_fault : List ℕ → Option Fault
 bits_fault [] = Some faults.EmptyBitString
-bits_fault (unused ∷ bytes) = unused_fault unused bytes
-
--- X.690 section 8.6.2.2: at most 7 unused bits
-abbrev pub unused_number_fault : ℕ → Option Fault
-unused_number_fault unused = fault_unless (nat_le unused 7) faults.UnusedAboveSeven
+bits_fault (unused ∷ bytes) =
+    if nat_lt 7 unused then Some faults.UnusedAboveSeven
+    else (if length bytes == 0 then fault_unless (unused == 0) faults.UnusedInEmpty
+    else fault_unless (slice_index bytes (length bytes - 1) % 2 ^ unused == 0) faults.UnusedNotZero)
 
 -- what is wrong with the content of the type of X.680 with this tag number: X.690 sections 8.2,
 -- 8.3.1, 8.6, 8.8.2, 8.19.2, 11.8, 11.7, and for the strings of characters 8.23
@@ -108,11 +97,7 @@ abbrev pub byte_word : ℕ → List ℕ
 byte_word count = if count == 1 then codes " byte" else codes " bytes"
 
 abbrev pub bytes_text : ℕ → List ℕ
-bytes_text count = decimal count ++ byte_word count
-
--- the name of the type of X.680 with this tag number; nothing if it has none
-abbrev pub type_word : ℕ → List ℕ
-type_word number = unwrap_or (universal_type number) []
+bytes_text count = concat (decimal count ∷ byte_word count ∷ [])
 
 abbrev pub fault_words : Fault → List ℕ
 fault_words faults.LowTag = codes "tag number below 31 in the high form (X.690 8.1.2.2)"
@@ -134,28 +119,23 @@ fault_words faults.UnusedInEmpty =
 fault_words faults.UnusedNotZero = codes "unused bits that aren't 0 (X.690 11.2.1)"
 fault_words faults.UtcTime = codes "not YYMMDDhhmmssZ (X.690 11.8)"
 fault_words faults.GeneralizedTime = codes "not YYYYMMDDhhmmss[.f]Z (X.690 11.7)"
-fault_words (faults.Characters number) = codes "not the characters of " ++ type_word number
+fault_words (faults.Characters number) =
+    concat (codes "not the characters of " ∷ type_word number ∷ [])
 
 -- a name and a comma, if there is a name
-abbrev pub comma_after : List ℕ → List ℕ
-comma_after text = if length text == 0 then [] else codes ", "
+abbrev pub name_front : List ℕ → List ℕ
+name_front name = if length name == 0 then [] else concat (name ∷ codes ", " ∷ [])
 
-abbrev pub name_front : Name → List ℕ
-name_front name = name_text name ++ comma_after (name_text name)
-
--- the tag in the low form with this byte (X.690 section 8.1.2)
-abbrev pub tag_of_byte : ℕ → Tag
-tag_of_byte byte = tag_of byte (byte % 0x20)
-
--- the type with this byte of a tag in a component, and the byte
+-- the type with this byte of a tag in the low form (X.690 section 8.1.2), and the byte
 abbrev pub tag_words : ℕ → List ℕ
 tag_words byte =
     if byte == 0x00 then codes "any element"
     else (if byte == 0x17 then codes "UTCTime (17) or GeneralizedTime (18)"
-    else type_name (tag_of_byte byte) ++ (codes " (" ++ (encode_upper (byte ∷ []) ++ codes ")")))
+    else type_name (tag_of byte (byte % 0x20))
+    ++ (codes " (" ++ (encode_upper (byte ∷ []) ++ codes ")")))
 
 abbrev pub component_text : Component → List ℕ
-component_text component = name_front component.3 ++ tag_words component.0
+component_text component = name_front (name_text component.3) ++ tag_words component.0
 
 abbrev pub is_needed : Presence → Bool
 is_needed presences.Needed = true
@@ -171,7 +151,8 @@ expected_text (component ∷ others) =
 -- the words of a mark of a row in which these components could come
 abbrev pub mark_words : Mark → List Component → List ℕ
 mark_words (marks.Missing missing announced) expected =
-    decimal missing ++ (codes " of " ++ (bytes_text announced ++ codes " missing"))
+    concat (decimal missing ∷ codes " of " ∷ decimal announced ∷ byte_word announced
+    ∷ codes " missing" ∷ [])
 mark_words (marks.Fault fault) expected = fault_words fault
 mark_words marks.Expected expected = codes "expected " ++ expected_text expected
 mark_words marks.AfterRoot expected = codes "after the end of the root"

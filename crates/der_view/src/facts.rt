@@ -1,18 +1,14 @@
 //! What is printed of a row.
 ghost use Rattle.std.specs.Prelude.{◌≡◌};
-ghost use Rattle.der_view.specs.Facts.{announces, bits_point, element_marks, element_row};
-ghost use Rattle.der_view.specs.Facts.{end_row, fault_mark, is_all, is_count};
-ghost use Rattle.der_view.specs.Facts.{is_point, is_private, is_private_name, is_told, misfit_mark};
+ghost use Rattle.der_view.specs.Facts.{bare_row, element_marks, element_row, end_row};
+ghost use Rattle.der_view.specs.Facts.{is_all, is_private, is_private_name, is_told, misfit_mark};
 ghost use Rattle.der_view.specs.Facts.{missing_mark, not_drawn_mark, not_drawn_row, point_of};
-ghost use Rattle.der_view.specs.Facts.{point_shown, row_view, says_expected, shown_by, shown_fault};
-ghost use Rattle.der_view.specs.Facts.{shown_name, shows_names, type_fault};
+ghost use Rattle.der_view.specs.Facts.{point_shown, row_view, shown_by, shown_fault};
 ghost use Rattle.der_view.specs.Rows.{view_of};
 
 use crate::grammar::{Component, Content, Form, Name, Secrecy};
-use crate::header::{Class, Header, Tag};
-use crate::marks::{
-    Fault, Mark, content_fault, length_fault, string_fault, tag_fault, unused_number_fault,
-};
+use crate::header::{Class, Tag};
+use crate::marks::{Fault, Mark, content_fault, length_fault, string_fault, tag_fault};
 use crate::plan::Plan;
 use crate::walk::{Element, Place};
 
@@ -98,7 +94,11 @@ impl<'a> RowFacts<'a> {
     pub fn of_element(plan: Plan, all: bool, place: Place, element: &Element<'a>) -> RowFacts<'a>
         ensures { row_view result ≡ element_row plan all place (view_of element.now) }
     {
-        let name = shown_name(plan, element.component.3);
+        let name = if plan.is_whole || plan.is_cut || !is_private(plan.form) {
+            element.component.3
+        } else {
+            Name::Nothing
+        };
         let shown = shown_by(element);
         RowFacts {
             place,
@@ -109,7 +109,7 @@ impl<'a> RowFacts<'a> {
             opened: element.opened,
             own_len: element.own_len(),
             name,
-            is_secret: !all && is_private_name(name) && is_count(shown),
+            is_secret: !all && is_private_name(name) && matches!(shown, Shown::Count),
             shown,
             value: element.shown,
             marks: element_marks(plan, element),
@@ -123,20 +123,8 @@ impl<'a> RowFacts<'a> {
         ensures { row_view result ≡ end_row place }
     {
         RowFacts {
-            place,
-            kind: Kind::EndOfContents,
             head: &[0, 0],
-            announced: Some(0),
-            len: 0,
-            opened: false,
-            own_len: 0,
-            name: Name::Nothing,
-            is_secret: false,
-            shown: Shown::Nothing,
-            value: &[],
-            marks: [None; 6],
-            expected: &[],
-            content: &[],
+            ..RowFacts::bare(place, Kind::EndOfContents, 0)
         }
     }
 
@@ -152,8 +140,20 @@ impl<'a> RowFacts<'a> {
             ≡ not_drawn_row plan place expected.now len content.now }
     {
         RowFacts {
+            marks: [not_drawn_mark(plan, place), None, None, None, None, None],
+            expected,
+            content,
+            ..RowFacts::bare(place, Kind::NotDrawn, len)
+        }
+    }
+
+    /// Returns a row of so many bytes, of which no more is printed.
+    fn bare(place: Place, kind: Kind, len: usize) -> RowFacts<'a>
+        ensures { row_view result ≡ bare_row place kind len }
+    {
+        RowFacts {
             place,
-            kind: Kind::NotDrawn,
+            kind,
             head: &[],
             announced: Some(len),
             len,
@@ -163,9 +163,9 @@ impl<'a> RowFacts<'a> {
             is_secret: false,
             shown: Shown::Nothing,
             value: &[],
-            marks: [not_drawn_mark(plan, place), None, None, None, None, None],
-            expected,
-            content,
+            marks: [None; 6],
+            expected: &[],
+            content: &[],
         }
     }
 
@@ -181,39 +181,11 @@ impl<'a> RowFacts<'a> {
     }
 }
 
-/// Returns the name of a component, if names are printed by this plan.
-fn shown_name(plan: Plan, name: Name) -> Name
-    ensures { result ≡ shown_name plan name }
-{
-    if shows_names(plan) {
-        name
-    } else {
-        Name::Nothing
-    }
-}
-
-/// Returns `true` unless the bytes are those of a damaged private key.
-fn shows_names(plan: Plan) -> bool
-    ensures { result ≡ shows_names plan }
-{
-    plan.is_whole || plan.is_cut || !is_private(plan.form)
-}
-
 /// Returns `true` if the form is that of a private key.
 fn is_private(form: Option<Form>) -> bool
     ensures { result ≡ is_private form }
 {
-    match form {
-        Some((_, Secrecy::Private)) => true,
-        _ => false,
-    }
-}
-
-/// Returns `true` if this is said where the form isn't followed.
-fn says_expected(plan: Plan) -> bool
-    ensures { result ≡ says_expected plan }
-{
-    is_private(plan.form) && !plan.is_cut
+    matches!(form, Some((_, Secrecy::Private)))
 }
 
 /// Returns `true` if a component with this name is private.
@@ -235,43 +207,13 @@ fn is_private_name(name: Name) -> bool
     )
 }
 
-/// Returns `true` if only the number of the bytes is shown.
-fn is_count(shown: Shown) -> bool
-    ensures { result ≡ is_count shown }
-{
-    match shown {
-        Shown::Count => true,
-        _ => false,
-    }
-}
-
-/// Returns `true` if a header says this length.
-fn announces(announced: Option<usize>, len: usize) -> bool
-    ensures { result ≡ announces announced len }
-{
-    match announced {
-        Some(announced) => announced == len,
-        None => false,
-    }
-}
-
-/// Returns `true` if a content is that of a point.
-fn is_point(content: Content) -> bool
-    ensures { result ≡ is_point content }
-{
-    match content {
-        Content::Point => true,
-        _ => false,
-    }
-}
-
 /// Returns what is shown of an element's content.
 fn shown_by(element: &Element) -> Shown
     ensures { result ≡ shown_by (view_of element.now) }
 {
     if element.opened {
         Shown::Nothing
-    } else if is_point(element.component.2) {
+    } else if matches!(element.component.2, Content::Point) {
         point_shown(element.header.tag, element.len, element.shown)
     } else if is_all(element) {
         Shown::Value
@@ -284,7 +226,8 @@ fn shown_by(element: &Element) -> Shown
 fn is_all(element: &Element) -> bool
     ensures { result ≡ is_all (view_of element.now) }
 {
-    !element.header.tag.constructed && announces(element.header.content_len, element.shown.len())
+    let header = element.header;
+    !header.tag.constructed && header.content_len == Some(element.shown.len())
 }
 
 /// Returns what is shown of the content of this length of a point, of which these bytes are shown.
@@ -294,19 +237,9 @@ fn point_shown(tag: Tag, len: usize, shown: &[u8]) -> Shown
     match shown {
         [] => Shown::Count,
         [form, ..] if tag.is_universal(4) => Shown::Point(point_of(*form, len.saturating_sub(1))),
-        [0x00, rest @ ..] => Shown::Point(bits_point(len, rest)),
+        [0x00] => Shown::Point(Point::None),
+        [0x00, form, ..] => Shown::Point(point_of(*form, len.saturating_sub(2))),
         [unused, ..] => Shown::Unused(*unused),
-    }
-}
-
-/// Returns the form of the point in a BIT STRING of this length, which begins with these bytes
-/// after the first one.
-fn bits_point(len: usize, rest: &[u8]) -> Point
-    ensures { result ≡ bits_point len rest.now }
-{
-    match rest {
-        [] => Point::None,
-        [form, ..] => point_of(*form, len.saturating_sub(2)),
     }
 }
 
@@ -314,14 +247,9 @@ fn bits_point(len: usize, rest: &[u8]) -> Point
 fn point_of(form: u8, size: usize) -> Point
     ensures { result ≡ point_of form size }
 {
-    if size == 0 {
-        return if form == 0x00 {
-            Point::Infinity
-        } else {
-            Point::None
-        };
-    }
     match form {
+        0x00 if size == 0 => Point::Infinity,
+        _ if size == 0 => Point::None,
         0x02 | 0x03 => Point::Compressed(size),
         0x04 if size % 2 == 0 => Point::Uncompressed(size / 2),
         0x05 => Point::Compact(size),
@@ -334,18 +262,15 @@ fn point_of(form: u8, size: usize) -> Point
 fn element_marks(plan: Plan, element: &Element) -> [Option<Mark>; 6]
     ensures { result ≡ element_marks plan (view_of element.now) }
 {
-    let Header {
-        tag,
-        tag_len,
-        len,
-        content_len,
-    } = element.header;
+    let header = element.header;
+    let tag = header.tag;
+    let length_len = header.len.saturating_sub(header.tag_len);
     [
-        missing_mark(content_len, element.len),
-        fault_mark(tag_fault(element.head, tag.number)),
-        fault_mark(length_fault(content_len, len.saturating_sub(tag_len))),
-        fault_mark(string_fault(tag)),
-        fault_mark(shown_fault(element)),
+        missing_mark(header.content_len, element.len),
+        tag_fault(element.head, tag.number).map(Mark::Fault),
+        length_fault(header.content_len, length_len).map(Mark::Fault),
+        string_fault(tag).map(Mark::Fault),
+        shown_fault(element).map(Mark::Fault),
         misfit_mark(plan, element.follows),
     ]
 }
@@ -363,45 +288,26 @@ fn missing_mark(announced: Option<usize>, len: usize) -> Option<Mark>
     }
 }
 
-/// Returns the mark of a fault.
-fn fault_mark(fault: Option<Fault>) -> Option<Mark>
-    ensures { result ≡ fault_mark fault }
-{
-    match fault {
-        Some(fault) => Some(Mark::Fault(fault)),
-        None => None,
-    }
-}
-
-/// Returns what is wrong with what is shown of an element's content.
+/// Returns what is wrong with what is shown of an element's content: all, or of a BIT STRING the
+/// number of unused bits.
 fn shown_fault(element: &Element) -> Option<Fault>
     ensures { result ≡ shown_fault (view_of element.now) }
 {
-    match element.header.tag.class {
-        Class::Universal => type_fault(element.header.tag.number, is_all(element), element.shown),
+    let tag = element.header.tag;
+    match (tag.class, element.shown) {
+        (Class::Universal, shown) if is_all(element) => content_fault(tag.number, shown),
+        (Class::Universal, [unused, ..]) if tag.number == 3 && *unused > 7 => {
+            Some(Fault::UnusedAboveSeven)
+        }
         _ => None,
     }
 }
 
-/// Returns what is wrong with the content of a type of X.680, of which these bytes are shown: all,
-/// or the first ones.
-fn type_fault(number: u32, is_all: bool, shown: &[u8]) -> Option<Fault>
-    ensures { result ≡ type_fault number is_all shown.now }
-{
-    if is_all {
-        return content_fault(number, shown);
-    }
-    match shown {
-        [unused, ..] if number == 3 => unused_number_fault(*unused),
-        _ => None,
-    }
-}
-
-/// Returns the mark of an element that follows the form or not.
+/// Returns the mark of what follows the form or not: where a private key's form isn't followed.
 fn misfit_mark(plan: Plan, follows: bool) -> Option<Mark>
     ensures { result ≡ misfit_mark plan follows }
 {
-    if says_expected(plan) && !follows {
+    if is_private(plan.form) && !plan.is_cut && !follows {
         Some(Mark::Expected)
     } else {
         None
@@ -414,9 +320,7 @@ fn not_drawn_mark(plan: Plan, place: Place) -> Option<Mark>
 {
     if place.depth == 0 && place.offset > 0 {
         Some(Mark::AfterRoot)
-    } else if says_expected(plan) {
-        Some(Mark::Expected)
     } else {
-        None
+        misfit_mark(plan, false)
     }
 }

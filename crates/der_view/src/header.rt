@@ -127,6 +127,18 @@ fn tag_at(bytes: &[u8]) -> Result<(Tag, usize), ElementFault>
     Ok((tag, len + 1))
 }
 
+/// Returns the class of a tag that begins with this byte.
+pub(crate) fn class_of(first: u8) -> Class
+    ensures { result ≡ class_of first }
+{
+    match first / 0x40 {
+        0 => Class::Universal,
+        1 => Class::Application,
+        2 => Class::Context,
+        _ => Class::Private,
+    }
+}
+
 /// Returns the number of a tag in the high form (X.690 section 8.1.2.4), which these bytes after
 /// its first one begin with, and the number of its bytes.
 fn high_number(bytes: &[u8]) -> Result<(u32, usize), ElementFault>

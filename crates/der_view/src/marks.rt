@@ -3,9 +3,8 @@
 mod faults;
 mod words;
 
-pub(crate) use faults::{
-    content_fault, length_fault, string_fault, tag_fault, unused_number_fault,
-};
+pub(crate) use faults::{content_fault, length_fault, string_fault, tag_fault};
+pub(crate) use words::byte_word;
 
 /// A rule of X.690 that isn't kept.
 #[derive(Clone, Copy)]

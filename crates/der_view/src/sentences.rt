@@ -1,12 +1,10 @@
-//! What is said last: one table of words and commands.
-ghost use Rattle.std.specs.Prelude.{◌≡◌, ◌++◌, codes};
-ghost use Rattle.std.specs.Fmt.{decimal};
-ghost use Rattle.der_view.specs.Lines.{kept};
-ghost use Rattle.der_view.specs.Sentences.{advice_command, advice_words, command_of, front_of_form};
-ghost use Rattle.der_view.specs.Sentences.{reason_of, see_text, words_of, words_of_form};
+//! What is said last: tables of words and commands.
+ghost use Rattle.std.specs.Prelude.{◌≡◌, ◌≤◌, length};
+ghost use Rattle.der_view.specs.Sentences.{advice_command, advice_words, command_of, form_word};
+ghost use Rattle.der_view.specs.Sentences.{place_of, reason_of, words_of};
 
 use crate::grammar::Name;
-use crate::line::Line;
+use crate::words::text_at;
 
 /// What is said of an input, or of a part of it.
 #[derive(Clone, Copy)]
@@ -61,154 +59,134 @@ pub enum Sentence {
     NoKey,
 }
 
+/// Why a block isn't drawn, after its label; what is said; and the command that helps: of each
+/// [`Sentence`], in their order.
+#[rattlefmt::skip]
+const SENTENCES: [(&str, &str, &str); 24] = [
+    ("encrypted (RFC 1421), not drawn", "", ""),
+    ("encrypted (RFC 1421), not drawn",
+    "If OpenSSL reads it, this asks for the password and writes it in DER:",
+    "openssl ec -in FILE -outform DER -out key.der"),
+    ("no base64, not drawn", "", ""),
+    ("OpenPGP (RFC 9580), not drawn", "", ""),
+    ("no DER, not drawn",
+    "This is OpenSSH's own form. If ssh-keygen reads it, this makes PEM of a copy of it:",
+    "ssh-keygen -p -m PEM -f COPY"),
+    ("no DER, not drawn", "This is OpenSSH's own form.", ""),
+    ("no DER, not drawn", "This is OpenSSH's own form, of a key that ssh-keygen makes no PEM of.",
+    ""),
+    ("", "This begins as the output of xxd. If it is that, this draws it:",
+    "xxd -r FILE | sec1_dump"),
+    ("", "This begins with an offset, as of hexdump or od: no hexadecimal alone.", ""),
+    ("", "This is PuTTY's own form. If puttygen reads it, this makes PEM of it:",
+    "puttygen FILE -O private-openssh -o key.pem"),
+    ("", "This is PuTTY's own form, of a key that puttygen makes no PEM of.", ""),
+    ("", "This begins as a public key of OpenSSH: no DER.", ""),
+    ("", "This is JSON, perhaps a JWK (RFC 7517): no DER.", ""),
+    ("", "This is text, and no PEM, hexadecimal or base64.", ""),
+    ("", "This begins as text in UTF-16. Write it in UTF-8 first.", ""),
+    ("", "This begins as text in UTF-32. Write it in UTF-8 first.", ""),
+    ("", "This begins as a Java keystore: no DER.", ""),
+    ("", "This begins as gzip (RFC 1952): no DER.", ""),
+    ("", "This begins as a PVK file: no DER.", ""),
+    ("", "This begins as a KeePass file: no DER.", ""),
+    ("", "This begins as an OpenPGP key (RFC 9580): no DER.", ""),
+    ("", "The input is empty.", ""),
+    ("", "The block is empty.", ""),
+    ("", "This is no EC private key (RFC 5915).", ""),
+];
+
+#[tactic(auto, unfolding(crate::specs::Sentences::sentence_row))]
 impl Sentence {
     /// Returns why a block isn't drawn, after its label; empty of any other text.
     pub fn reason(self) -> &'static str
         ensures { result.now ≡ reason_of self }
     {
-        match self {
-            Sentence::EncryptedBlock => "encrypted (RFC 1421), not drawn",
-            Sentence::EncryptedEcKey => "encrypted (RFC 1421), not drawn",
-            Sentence::NoBase64 => "no base64, not drawn",
-            Sentence::Pgp => "OpenPGP (RFC 9580), not drawn",
-            Sentence::Openssh => "no DER, not drawn",
-            Sentence::OpensshCarriage => "no DER, not drawn",
-            Sentence::OpensshEdwards => "no DER, not drawn",
-            _ => "",
-        }
+        SENTENCES[self as usize].0
     }
 
     /// Returns what is said; empty if nothing is.
     pub fn words(self) -> &'static str
         ensures { result.now ≡ words_of self }
     {
-        match self {
-            Sentence::EncryptedEcKey => {
-                "If OpenSSL reads it, this asks for the password and writes it in DER:"
-            }
-            Sentence::Openssh => {
-                "This is OpenSSH's own form. If ssh-keygen reads it, this makes PEM of a copy of it:"
-            }
-            Sentence::OpensshCarriage => "This is OpenSSH's own form.",
-            Sentence::OpensshEdwards => {
-                "This is OpenSSH's own form, of a key that ssh-keygen makes no PEM of."
-            }
-            Sentence::Xxd => "This begins as the output of xxd. If it is that, this draws it:",
-            Sentence::Dump => {
-                "This begins with an offset, as of hexdump or od: no hexadecimal alone."
-            }
-            Sentence::Putty => {
-                "This is PuTTY's own form. If puttygen reads it, this makes PEM of it:"
-            }
-            Sentence::PuttyEdwards => {
-                "This is PuTTY's own form, of a key that puttygen makes no PEM of."
-            }
-            Sentence::Ssh => "This begins as a public key of OpenSSH: no DER.",
-            Sentence::Json => "This is JSON, perhaps a JWK (RFC 7517): no DER.",
-            Sentence::Text => "This is text, and no PEM, hexadecimal or base64.",
-            Sentence::Utf16 => "This begins as text in UTF-16. Write it in UTF-8 first.",
-            Sentence::Utf32 => "This begins as text in UTF-32. Write it in UTF-8 first.",
-            Sentence::Java => "This begins as a Java keystore: no DER.",
-            Sentence::Gzip => "This begins as gzip (RFC 1952): no DER.",
-            Sentence::Pvk => "This begins as a PVK file: no DER.",
-            Sentence::Keepass => "This begins as a KeePass file: no DER.",
-            Sentence::PgpKey => "This begins as an OpenPGP key (RFC 9580): no DER.",
-            Sentence::Empty => "The input is empty.",
-            Sentence::EmptyBlock => "The block is empty.",
-            Sentence::NoKey => "This is no EC private key (RFC 5915).",
-            _ => "",
-        }
+        SENTENCES[self as usize].1
     }
 
     /// Returns the command that helps; empty if there is none.
     pub fn command(self) -> &'static str
         ensures { result.now ≡ command_of self }
     {
-        match self {
-            Sentence::EncryptedEcKey => "openssl ec -in FILE -outform DER -out key.der",
-            Sentence::Openssh => "ssh-keygen -p -m PEM -f COPY",
-            Sentence::Xxd => "xxd -r FILE | sec1_dump",
-            Sentence::Putty => "puttygen FILE -O private-openssh -o key.pem",
-            _ => "",
-        }
+        SENTENCES[self as usize].2
     }
 }
 
-/// Returns what is said of bytes that are all of the form with this name, if it says no more.
-pub(crate) fn words_of_form(name: Name) -> &'static str
-    ensures { result.now ≡ words_of_form name }
+/// The names of the forms but that of an EC private key.
+#[rattlefmt::skip]
+const FORMS: [Name; 24] = [
+    Name::PrivateKeyInfo, Name::RsaPrivateKey, Name::DsaPrivateKey, Name::Pfx, Name::Certificate,
+    Name::CertificationRequest, Name::CertificateList, Name::PublicKeyInfo, Name::DhParameter,
+    Name::RsaPublicKey, Name::Signature, Name::DsaParameters, Name::DomainParameters,
+    Name::EcParameters, Name::NamedCurve, Name::ContentInfo, Name::EncryptedPrivateKeyInfo,
+    Name::DigestInfo, Name::OcspRequest, Name::OcspResponse, Name::TimeStampReq,
+    Name::TimeStampResp, Name::AsymmetricKeyPackage, Name::SafeContents,
+];
+
+/// What is said of bytes that are all of a form: the words before what they are, that, and the words
+/// after it, for each of [`FORMS`], in their order, and then for no other.
+#[rattlefmt::skip]
+const FORM_WORDS: [&str; 75] = [
+    "This is ", "PKCS #8 (RFC 5958)", " with an EC key.",
+    "This is ", "an RSA private key (RFC 8017)", ", no EC key.",
+    "This is ", "a DSA private key", ", no EC key.",
+    "This is ", "PKCS #12 (RFC 7292)", ".",
+    "This is ", "a certificate (RFC 5280)", ": it has no private key.",
+    "This is ", "a certification request (RFC 2986)", ": it has no private key.",
+    "This is ", "a list of revoked certificates (RFC 5280)", ": it has no private key.",
+    "This is ", "a public key (RFC 5280)", ": it has no private key.",
+    "These are INTEGERs, as of ",
+    "Diffie-Hellman parameters (PKCS #3)", " or an RSA public key: no key.",
+    "These are two INTEGERs, as of ", "an RSA public key (RFC 8017)", ": no private key.",
+    "These are two INTEGERs, as of ", "an ECDSA signature (RFC 3279)", ": no key.",
+    "These are three INTEGERs, as of ", "DSA parameters (RFC 3279)", ": no key.",
+    "These are INTEGERs, as of ", "Diffie-Hellman parameters (RFC 3279)", ": no key.",
+    "These are ", "the parameters of a curve (RFC 3279)", ": no key.",
+    "This is ", "an identifier", ": it has no private key.",
+    "This is ", "CMS or PKCS #7 (RFC 5652)", ", no EC key.",
+    "This is ", "encrypted PKCS #8 (RFC 5958)", ".",
+    "This is ", "a digest (RFC 8017)", ", no EC key.",
+    "This is ", "an OCSP request (RFC 6960)", ", no EC key.",
+    "This is ", "an OCSP response (RFC 6960)", ", no EC key.",
+    "This is ", "a time stamp query (RFC 3161)", ", no EC key.",
+    "This is ", "a time stamp reply (RFC 3161)", ", no EC key.",
+    "This is ", "a package of private keys (RFC 5958)", ", no EC key.",
+    "This is ", "the inside of PKCS #12 (RFC 7292)", ", no EC key.",
+    "This is no ", "EC private key (RFC 5915)", ".",
+];
+
+/// Returns the words before what bytes are that are all of the form with this name, what they are,
+/// and the words after it.
+#[tactic(auto, unfolding(crate::specs::Sentences::form_word))]
+pub(crate) fn form_words(name: Name) -> (&'static str, &'static str, &'static str)
+    ensures before { result.0.now ≡ form_word 0 name }
+    ensures form { result.1.now ≡ form_word 1 name }
+    ensures after { result.2.now ≡ form_word 2 name }
 {
-    match name {
-        Name::PrivateKeyInfo => "This is PKCS #8 (RFC 5958) with an EC key.",
-        Name::RsaPrivateKey => "This is an RSA private key (RFC 8017), no EC key.",
-        Name::DsaPrivateKey => "This is a DSA private key, no EC key.",
-        Name::Pfx => "This is PKCS #12 (RFC 7292).",
-        Name::Certificate => "This is a certificate (RFC 5280): it has no private key.",
-        Name::CertificationRequest => {
-            "This is a certification request (RFC 2986): it has no private key."
-        }
-        Name::CertificateList => {
-            "This is a list of revoked certificates (RFC 5280): it has no private key."
-        }
-        Name::PublicKeyInfo => "This is a public key (RFC 5280): it has no private key.",
-        Name::DhParameter => {
-            "These are INTEGERs, as of Diffie-Hellman parameters (PKCS #3) or an RSA public key: no key."
-        }
-        Name::RsaPublicKey => {
-            "These are two INTEGERs, as of an RSA public key (RFC 8017): no private key."
-        }
-        Name::Signature => "These are two INTEGERs, as of an ECDSA signature (RFC 3279): no key.",
-        Name::DsaParameters => {
-            "These are three INTEGERs, as of DSA parameters (RFC 3279): no key."
-        }
-        Name::DomainParameters => {
-            "These are INTEGERs, as of Diffie-Hellman parameters (RFC 3279): no key."
-        }
-        Name::EcParameters => "These are the parameters of a curve (RFC 3279): no key.",
-        Name::NamedCurve => "This is an identifier: it has no private key.",
-        Name::ContentInfo => "This is CMS or PKCS #7 (RFC 5652), no EC key.",
-        Name::EncryptedPrivateKeyInfo => "This is encrypted PKCS #8 (RFC 5958).",
-        Name::DigestInfo => "This is a digest (RFC 8017), no EC key.",
-        Name::OcspRequest => "This is an OCSP request (RFC 6960), no EC key.",
-        Name::OcspResponse => "This is an OCSP response (RFC 6960), no EC key.",
-        Name::TimeStampReq => "This is a time stamp query (RFC 3161), no EC key.",
-        Name::TimeStampResp => "This is a time stamp reply (RFC 3161), no EC key.",
-        Name::AsymmetricKeyPackage => { "This is a package of private keys (RFC 5958), no EC key." }
-        Name::SafeContents => "This is the inside of PKCS #12 (RFC 7292), no EC key.",
-        _ => "This is no EC private key (RFC 5915).",
-    }
+    let first = 3 * place_of(&FORMS, name);
+    (
+        text_at(&FORM_WORDS, first),
+        text_at(&FORM_WORDS, first + 1),
+        text_at(&FORM_WORDS, first + 2),
+    )
 }
 
-/// Returns what is said of bytes that begin as the form with this name.
-pub(crate) fn front_of_form(name: Name) -> &'static str
-    ensures { result.now ≡ front_of_form name }
+/// Returns the place of a name among these, or their number if it is none of them.
+fn place_of(names: &[Name], name: Name) -> usize
+    ensures place { result ≡ place_of names.now name }
+    ensures most { result ≤ length names.now }
 {
-    match name {
-        Name::PrivateKeyInfo => "This begins as PKCS #8 (RFC 5958)",
-        Name::RsaPrivateKey => "This begins as an RSA private key (RFC 8017)",
-        Name::DsaPrivateKey => "This begins as a DSA private key",
-        Name::Pfx => "This begins as PKCS #12 (RFC 7292)",
-        Name::Certificate => "This begins as a certificate (RFC 5280)",
-        Name::CertificationRequest => "This begins as a certification request (RFC 2986)",
-        Name::CertificateList => "This begins as a list of revoked certificates (RFC 5280)",
-        Name::PublicKeyInfo => "This begins as a public key (RFC 5280)",
-        Name::DhParameter => "This begins as Diffie-Hellman parameters (PKCS #3)",
-        Name::RsaPublicKey => "This begins as an RSA public key (RFC 8017)",
-        Name::Signature => "This begins as an ECDSA signature (RFC 3279)",
-        Name::DsaParameters => "This begins as DSA parameters (RFC 3279)",
-        Name::DomainParameters => "This begins as Diffie-Hellman parameters (RFC 3279)",
-        Name::EcParameters => "This begins as the parameters of a curve (RFC 3279)",
-        Name::NamedCurve => "This begins as an identifier",
-        Name::ContentInfo => "This begins as CMS or PKCS #7 (RFC 5652)",
-        Name::EncryptedPrivateKeyInfo => "This begins as encrypted PKCS #8 (RFC 5958)",
-        Name::DigestInfo => "This begins as a digest (RFC 8017)",
-        Name::OcspRequest => "This begins as an OCSP request (RFC 6960)",
-        Name::OcspResponse => "This begins as an OCSP response (RFC 6960)",
-        Name::TimeStampReq => "This begins as a time stamp query (RFC 3161)",
-        Name::TimeStampResp => "This begins as a time stamp reply (RFC 3161)",
-        Name::AsymmetricKeyPackage => "This begins as a package of private keys (RFC 5958)",
-        Name::SafeContents => "This begins as the inside of PKCS #12 (RFC 7292)",
-        _ => "This is no EC private key (RFC 5915)",
+    match names {
+        [first, others @ ..] if !first.is(name) => place_of(others, name) + 1,
+        _ => 0,
     }
 }
 
@@ -239,93 +217,45 @@ pub enum Advice {
     LegacyPkcs12,
 }
 
+/// What each command does, and the command, in the order of [`Advice`].
+#[rattlefmt::skip]
+const COMMANDS: [(&str, &str); 11] = [
+    ("", ""),
+    ("If OpenSSL reads it, this writes it in DER:",
+    "openssl ec -inform DER -in FILE -outform DER -out key.der"),
+    ("If OpenSSL reads it, this writes it in DER:",
+    "openssl ec -in FILE -outform DER -out key.der"),
+    ("Its curve is given by parameters. If OpenSSL knows it, this names it:",
+    "openssl ec -inform DER -in FILE -param_enc named_curve -outform DER -out key.der"),
+    ("Its curve is given by parameters. If OpenSSL knows it, this names it:",
+    "openssl ec -in FILE -param_enc named_curve -outform DER -out key.der"),
+    ("If it has an EC key, this asks for the password and writes it:",
+    "openssl ec -inform DER -in FILE -outform DER -out key.der"),
+    ("If it has an EC key, this asks for the password and writes it:",
+    "openssl ec -in FILE -outform DER -out key.der"),
+    ("If it has an EC key, this asks for the password and writes it:",
+    "openssl ec -provider legacy -provider default -inform DER -in FILE -outform DER -out key.der"),
+    ("If it has an EC key, this asks for the password and writes it:",
+    "openssl ec -provider legacy -provider default -in FILE -outform DER -out key.der"),
+    ("If OpenSSL reads it, this asks for the password and writes its keys as PEM:",
+    "openssl pkcs12 -in FILE -nodes -nocerts -out key.pem"),
+    ("If OpenSSL reads it, this asks for the password and writes its keys as PEM:",
+    "openssl pkcs12 -legacy -in FILE -nodes -nocerts -out key.pem"),
+];
+
+#[tactic(auto, unfolding(crate::specs::Sentences::advice_row))]
 impl Advice {
     /// Returns what the command does; empty if there is none.
     pub fn words(self) -> &'static str
         ensures { result.now ≡ advice_words self }
     {
-        match self {
-            Advice::Nothing => "",
-            Advice::Der => "If OpenSSL reads it, this writes it in DER:",
-            Advice::Pem => "If OpenSSL reads it, this writes it in DER:",
-            Advice::NamedDer => {
-                "Its curve is given by parameters. If OpenSSL knows it, this names it:"
-            }
-            Advice::NamedPem => {
-                "Its curve is given by parameters. If OpenSSL knows it, this names it:"
-            }
-            Advice::Pkcs12 => {
-                "If OpenSSL reads it, this asks for the password and writes its keys as PEM:"
-            }
-            Advice::LegacyPkcs12 => {
-                "If OpenSSL reads it, this asks for the password and writes its keys as PEM:"
-            }
-            _ => "If it has an EC key, this asks for the password and writes it:",
-        }
+        COMMANDS[self as usize].0
     }
 
     /// Returns the command; empty if there is none.
     pub fn command(self) -> &'static str
         ensures { result.now ≡ advice_command self }
     {
-        match self {
-            Advice::Nothing => "",
-            Advice::NamedDer => {
-                "openssl ec -inform DER -in FILE -param_enc named_curve -outform DER -out key.der"
-            }
-            Advice::NamedPem => {
-                "openssl ec -in FILE -param_enc named_curve -outform DER -out key.der"
-            }
-            Advice::Pkcs12 => "openssl pkcs12 -in FILE -nodes -nocerts -out key.pem",
-            Advice::LegacyPkcs12 => "openssl pkcs12 -legacy -in FILE -nodes -nocerts -out key.pem",
-            Advice::LegacyDer => {
-                "openssl ec -provider legacy -provider default -inform DER -in FILE -outform DER -out key.der"
-            }
-            Advice::LegacyPem => {
-                "openssl ec -provider legacy -provider default -in FILE -outform DER -out key.der"
-            }
-            Advice::Der => "openssl ec -inform DER -in FILE -outform DER -out key.der",
-            Advice::EncryptedDer => "openssl ec -inform DER -in FILE -outform DER -out key.der",
-            _ => "openssl ec -in FILE -outform DER -out key.der",
-        }
-    }
-}
-
-/// Why bytes aren't all of their form.
-#[derive(Clone, Copy)]
-pub(crate) enum See {
-    /// Nothing is known.
-    Nothing,
-    /// So many of so many bytes are there.
-    Cut(usize, usize),
-    /// The row with this offset.
-    Offset(usize),
-    /// Their version.
-    Version(usize),
-}
-
-impl Line {
-    /// Appends why bytes aren't all of their form, and a full stop.
-    pub(crate) fn push_see(&mut self, see: See)
-        ensures { self.new ≡ kept (self.old ++ see_text see) }
-    {
-        match see {
-            See::Nothing => self.push_str("."),
-            See::Cut(len, whole) => {
-                self.push_counted(": ", len, " of ");
-                self.push_counted("", whole, " bytes are there.");
-            }
-            See::Offset(offset) => self.push_counted(": see offset ", offset, "."),
-            See::Version(version) => self.push_counted(": its version is ", version, "."),
-        }
-    }
-
-    /// Appends a number between two texts.
-    pub(crate) fn push_counted(&mut self, before: &str, number: usize, after: &str)
-        ensures { self.new ≡ kept (self.old ++ (before.now ++ (decimal number ++ after.now))) }
-    {
-        self.push_str(before);
-        self.push_decimal(number);
-        self.push_str(after);
+        COMMANDS[self as usize].1
     }
 }

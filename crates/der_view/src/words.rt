@@ -1,8 +1,40 @@
 //! The words for the names of components and forms.
-ghost use Rattle.std.specs.Prelude.{◌≡◌};
-ghost use Rattle.der_view.specs.Words.{fourth_text, name_text, second_text, third_text};
+ghost use Rattle.std.specs.Prelude.{◌≡◌, ◌++◌, [], map, slice_index_or};
+ghost use Rattle.std.specs.List.{flat_map};
+ghost use Rattle.der_view.specs.Lines.{kept};
+ghost use Rattle.der_view.specs.Words.{name_text, same_name};
 
 use crate::grammar::Name;
+use crate::line::Line;
+
+/// How the standards spell each name, in the order of [`Name`].
+#[rattlefmt::skip]
+const NAMES: [&str; 141] = [
+    "", "version", "privateKey", "parameters", "publicKey", "namedCurve", "the point",
+    "privateKeyAlgorithm", "attributes", "algorithm", "ECPrivateKey", "RSAPrivateKey", "the key",
+    "modulus", "publicExponent", "privateExponent", "prime1", "prime2", "exponent1", "exponent2",
+    "coefficient", "otherPrimeInfos", "p", "q", "g", "y", "x", "authSafe", "macData", "mac",
+    "macSalt", "iterations", "OneAsymmetricKey", "SafeBag", "bagId", "bagValue", "bagAttributes",
+    "tbsCertificate", "signatureAlgorithm", "signatureValue", "serialNumber", "signature", "issuer",
+    "validity", "subject", "subjectPublicKeyInfo", "issuerUniqueID", "subjectUniqueID",
+    "extensions", "RelativeDistinguishedName", "AttributeTypeAndValue", "type", "value",
+    "notBefore", "notAfter", "subjectPublicKey", "Extension", "extnID", "critical", "extnValue",
+    "certificationRequestInfo", "subjectPKInfo", "tbsCertList", "thisUpdate", "nextUpdate",
+    "revokedCertificates", "crlExtensions", "revokedCertificate", "userCertificate",
+    "revocationDate", "crlEntryExtensions", "r", "s", "prime", "base", "privateValueLength", "j",
+    "validationParms", "fieldID", "curve", "order", "cofactor", "fieldType", "a", "b", "seed",
+    "contentType", "content", "encryptionAlgorithm", "encryptedData", "digestAlgorithm", "digest",
+    "tbsRequest", "optionalSignature", "requestorName", "requestList", "requestExtensions",
+    "Request", "reqCert", "singleRequestExtensions", "hashAlgorithm", "issuerNameHash",
+    "issuerKeyHash", "responseStatus", "responseBytes", "responseType", "response",
+    "messageImprint", "reqPolicy", "nonce", "certReq", "status", "timeStampToken", "statusString",
+    "failInfo", "PrivateKeyInfo", "DSAPrivateKey", "PFX", "Certificate", "CertificationRequest",
+    "CertificateList", "SubjectPublicKeyInfo", "DHParameter", "RSAPublicKey", "Dss-Parms",
+    "DomainParameters", "ECParameters", "ContentInfo", "EncryptedPrivateKeyInfo", "DigestInfo",
+    "OCSPResponse", "TimeStampReq", "TimeStampResp", "OCSPRequest", "AsymmetricKeyPackage",
+    "SafeContents", "keyIdentifier", "SubjectKeyIdentifier", "AuthorityKeyIdentifier",
+    "authorityCertIssuer", "authorityCertSerialNumber",
+];
 
 impl Name {
     /// Returns the name as its standard spells it; nothing for [`Name::Nothing`].
@@ -10,179 +42,38 @@ impl Name {
     pub fn text(self) -> &'static str
         ensures { result.now ≡ name_text self }
     {
-        match self {
-            Name::Nothing => "",
-            Name::Version => "version",
-            Name::PrivateKey => "privateKey",
-            Name::Parameters => "parameters",
-            Name::PublicKey => "publicKey",
-            Name::NamedCurve => "namedCurve",
-            Name::Point => "the point",
-            Name::PrivateKeyAlgorithm => "privateKeyAlgorithm",
-            Name::Attributes => "attributes",
-            Name::Algorithm => "algorithm",
-            Name::EcPrivateKey => "ECPrivateKey",
-            Name::RsaPrivateKey => "RSAPrivateKey",
-            Name::TheKey => "the key",
-            Name::Modulus => "modulus",
-            Name::PublicExponent => "publicExponent",
-            Name::PrivateExponent => "privateExponent",
-            Name::Prime1 => "prime1",
-            Name::Prime2 => "prime2",
-            Name::Exponent1 => "exponent1",
-            Name::Exponent2 => "exponent2",
-            Name::Coefficient => "coefficient",
-            Name::OtherPrimeInfos => "otherPrimeInfos",
-            Name::P => "p",
-            Name::Q => "q",
-            Name::G => "g",
-            Name::Y => "y",
-            Name::X => "x",
-            Name::AuthSafe => "authSafe",
-            Name::MacData => "macData",
-            Name::Mac => "mac",
-            Name::MacSalt => "macSalt",
-            Name::Iterations => "iterations",
-            Name::OneAsymmetricKey => "OneAsymmetricKey",
-            Name::SafeBag => "SafeBag",
-            _ => self.second_text(),
-        }
+        NAMES[self as usize]
     }
 
-    /// Returns the same of the names from [`Name::BagId`] on.
-    #[tactic(auto, unfolding(crate::specs::Words::second_text))]
-    fn second_text(self) -> &'static str
-        ensures { result.now ≡ second_text self }
+    /// Returns `true` if this is the other name.
+    pub(crate) fn is(self, other: Name) -> bool
+        ensures { result ≡ same_name self other }
     {
-        match self {
-            Name::BagId => "bagId",
-            Name::BagValue => "bagValue",
-            Name::BagAttributes => "bagAttributes",
-            Name::TbsCertificate => "tbsCertificate",
-            Name::SignatureAlgorithm => "signatureAlgorithm",
-            Name::SignatureValue => "signatureValue",
-            Name::SerialNumber => "serialNumber",
-            Name::Signature => "signature",
-            Name::Issuer => "issuer",
-            Name::Validity => "validity",
-            Name::Subject => "subject",
-            Name::SubjectPublicKeyInfo => "subjectPublicKeyInfo",
-            Name::IssuerUniqueId => "issuerUniqueID",
-            Name::SubjectUniqueId => "subjectUniqueID",
-            Name::Extensions => "extensions",
-            Name::RelativeDistinguishedName => "RelativeDistinguishedName",
-            Name::AttributeTypeAndValue => "AttributeTypeAndValue",
-            Name::Type => "type",
-            Name::Value => "value",
-            Name::NotBefore => "notBefore",
-            Name::NotAfter => "notAfter",
-            Name::SubjectPublicKey => "subjectPublicKey",
-            Name::Extension => "Extension",
-            Name::ExtnId => "extnID",
-            Name::Critical => "critical",
-            Name::ExtnValue => "extnValue",
-            Name::CertificationRequestInfo => "certificationRequestInfo",
-            Name::SubjectPkInfo => "subjectPKInfo",
-            Name::TbsCertList => "tbsCertList",
-            Name::ThisUpdate => "thisUpdate",
-            Name::NextUpdate => "nextUpdate",
-            Name::RevokedCertificates => "revokedCertificates",
-            Name::CrlExtensions => "crlExtensions",
-            Name::RevokedCertificate => "revokedCertificate",
-            _ => self.third_text(),
-        }
+        self as usize == other as usize
     }
+}
 
-    /// Returns the same of the names from [`Name::UserCertificate`] on.
-    #[tactic(auto, unfolding(crate::specs::Words::third_text))]
-    fn third_text(self) -> &'static str
-        ensures { result.now ≡ third_text self }
-    {
-        match self {
-            Name::UserCertificate => "userCertificate",
-            Name::RevocationDate => "revocationDate",
-            Name::CrlEntryExtensions => "crlEntryExtensions",
-            Name::R => "r",
-            Name::S => "s",
-            Name::Prime => "prime",
-            Name::Base => "base",
-            Name::PrivateValueLength => "privateValueLength",
-            Name::J => "j",
-            Name::ValidationParms => "validationParms",
-            Name::FieldId => "fieldID",
-            Name::Curve => "curve",
-            Name::Order => "order",
-            Name::Cofactor => "cofactor",
-            Name::FieldType => "fieldType",
-            Name::A => "a",
-            Name::B => "b",
-            Name::Seed => "seed",
-            Name::ContentType => "contentType",
-            Name::Content => "content",
-            Name::EncryptionAlgorithm => "encryptionAlgorithm",
-            Name::EncryptedData => "encryptedData",
-            Name::DigestAlgorithm => "digestAlgorithm",
-            Name::Digest => "digest",
-            Name::TbsRequest => "tbsRequest",
-            Name::OptionalSignature => "optionalSignature",
-            Name::RequestorName => "requestorName",
-            Name::RequestList => "requestList",
-            Name::RequestExtensions => "requestExtensions",
-            Name::Request => "Request",
-            Name::ReqCert => "reqCert",
-            Name::SingleRequestExtensions => "singleRequestExtensions",
-            Name::HashAlgorithm => "hashAlgorithm",
-            Name::IssuerNameHash => "issuerNameHash",
-            Name::IssuerKeyHash => "issuerKeyHash",
-            Name::ResponseStatus => "responseStatus",
-            _ => self.fourth_text(),
-        }
+/// Returns the text with this number in a table; nothing if there are fewer.
+pub(crate) fn text_at(texts: &[&'static str], number: usize) -> &'static str
+    ensures { result.now ≡ slice_index_or (map (λ text. text.now) texts.now) number [] }
+{
+    if number < texts.len() {
+        texts[number]
+    } else {
+        ""
     }
+}
 
-    /// Returns the same of the names from [`Name::ResponseBytes`] on.
-    #[tactic(auto, unfolding(crate::specs::Words::fourth_text))]
-    fn fourth_text(self) -> &'static str
-        ensures { result.now ≡ fourth_text self }
+impl Line {
+    /// Appends texts, one after the other.
+    #[tactic(auto, using(crate::proofs::LineLemmas::kept_pieces))]
+    pub(crate) fn push_all(&mut self, texts: &[&str])
+        ensures { self.new ≡ kept (self.old ++ flat_map (λ text. text.now) texts.now) }
     {
-        match self {
-            Name::ResponseBytes => "responseBytes",
-            Name::ResponseType => "responseType",
-            Name::Response => "response",
-            Name::MessageImprint => "messageImprint",
-            Name::ReqPolicy => "reqPolicy",
-            Name::Nonce => "nonce",
-            Name::CertReq => "certReq",
-            Name::Status => "status",
-            Name::TimeStampToken => "timeStampToken",
-            Name::StatusString => "statusString",
-            Name::FailInfo => "failInfo",
-            Name::PrivateKeyInfo => "PrivateKeyInfo",
-            Name::DsaPrivateKey => "DSAPrivateKey",
-            Name::Pfx => "PFX",
-            Name::Certificate => "Certificate",
-            Name::CertificationRequest => "CertificationRequest",
-            Name::CertificateList => "CertificateList",
-            Name::PublicKeyInfo => "SubjectPublicKeyInfo",
-            Name::DhParameter => "DHParameter",
-            Name::RsaPublicKey => "RSAPublicKey",
-            Name::DsaParameters => "Dss-Parms",
-            Name::DomainParameters => "DomainParameters",
-            Name::EcParameters => "ECParameters",
-            Name::ContentInfo => "ContentInfo",
-            Name::EncryptedPrivateKeyInfo => "EncryptedPrivateKeyInfo",
-            Name::DigestInfo => "DigestInfo",
-            Name::OcspResponse => "OCSPResponse",
-            Name::TimeStampReq => "TimeStampReq",
-            Name::TimeStampResp => "TimeStampResp",
-            Name::OcspRequest => "OCSPRequest",
-            Name::AsymmetricKeyPackage => "AsymmetricKeyPackage",
-            Name::SafeContents => "SafeContents",
-            Name::KeyIdentifier => "keyIdentifier",
-            Name::SubjectKeyIdentifier => "SubjectKeyIdentifier",
-            Name::AuthorityKeyIdentifier => "AuthorityKeyIdentifier",
-            Name::AuthorityCertIssuer => "authorityCertIssuer",
-            Name::AuthorityCertSerialNumber => "authorityCertSerialNumber",
-            _ => "",
-        }
+        let Some((text, others)) = texts.split_first() else {
+            return self.push_str("");
+        };
+        self.push_str(text);
+        self.push_all(others);
     }
 }
