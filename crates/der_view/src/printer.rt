@@ -1,16 +1,16 @@
 //! Rows as text.
-ghost use Rattle.std.specs.Prelude.{◌≡◌, ◌++◌, List, OnOk, None, codes};
+ghost use Rattle.std.specs.Prelude.{◌≡◌, ◌+◌, ◌++◌, ◌/◌, List, OnOk, None, codes, length};
 ghost use Rattle.std.proofs.Common.{refl, ◌∙◌};
 ghost use Rattle.der_view.specs.Facts.{row_view};
 ghost use Rattle.der_view.specs.Lines.{kept, shown};
-ghost use Rattle.der_view.specs.Pictures.{rows_by};
-ghost use Rattle.der_view.specs.Printing.{HasWritten, content_lines, left_lines, line_count};
-ghost use Rattle.der_view.specs.Printing.{line_text, lines_text, mark_line, mark_lines, row_lines};
-ghost use Rattle.der_view.specs.Printing.{AreLines, rows_lines, rows_text, told_lines};
-ghost use Rattle.der_view.specs.Rows.{Row};
-ghost use Rattle.der_view.specs.PrintingLaws.{has_written_both, has_written_none};
-ghost use Rattle.der_view.specs.RowLines.{hex_words, row_line, spaces};
 ghost use Rattle.der_view.specs.Marks.{mark_words};
+ghost use Rattle.der_view.specs.Pictures.{rows_by};
+ghost use Rattle.der_view.specs.Printing.{AreLines, HasWritten, content_lines, line_text};
+ghost use Rattle.der_view.specs.Printing.{lines_text, mark_lines, rows_lines, rows_text};
+ghost use Rattle.der_view.specs.Printing.{told_lines};
+ghost use Rattle.der_view.specs.PrintingLaws.{has_written_both};
+ghost use Rattle.der_view.specs.RowLines.{hex_words, spaces};
+ghost use Rattle.der_view.specs.Rows.{Row};
 
 use crate::facts::RowFacts;
 use crate::form::draw_rows;
@@ -119,7 +119,7 @@ impl<'a, W: Output> Printer<'a, W> {
             self.new.writer.now (lines_text (told_lines (row_view row.now))) }
     {
         if self.error.is_none() {
-            if let Err(error) = write_told(self.writer, row) {
+            if let Err(error) = write_row(self.writer, row) {
                 self.error = Some(error);
             }
         }
@@ -144,12 +144,7 @@ impl<W: Output> Rows for Printer<'_, W> {
         self.tell(&RowFacts::of_not_drawn(self.plan, place, expected, len, content));
     }
 
-    ghost nothing = { λ a. (
-      refl,
-      refl,
-      refl,
-      has_written_none W.appends W.nothing a.error a.writer.now,
-    ) };
+    ghost nothing = { λ a. (refl, refl, refl, λ none. (none, W.nothing a.writer.now)) };
 
     ghost joined = { λ a b c first second one two. (
       two.0 ∙ one.0,
@@ -160,59 +155,38 @@ impl<W: Output> Rows for Printer<'_, W> {
     ) };
 }
 
-/// Writes the lines of a row, unless it is of no bytes, and has no mark.
+/// Writes the lines of a row, unless it is of no bytes, and has no mark: its own, those of its
+/// content, if that one doesn't say all of it, and its marks.
 #[tactic(auto, unfolding(crate::specs::Printing::told_lines))]
-fn write_told<W: Output>(writer: &mut W, row: &RowFacts) -> Result<(), W::Error>
+fn write_row<W: Output>(writer: &mut W, row: &RowFacts) -> Result<(), W::Error>
     ensures { OnOk result
         (W.appends writer.old writer.new (lines_text (told_lines (row_view row.now)))) }
 {
-    if row.is_told() {
-        write_row(writer, row)
-    } else {
-        Ok(())
+    if !row.is_told() {
+        return Ok(());
     }
-}
-
-/// Writes the lines of a row: its own, those of its content, and its marks.
-fn write_row<W: Output>(writer: &mut W, row: &RowFacts) -> Result<(), W::Error>
-    ensures { OnOk result
-        (W.appends writer.old writer.new (lines_text (row_lines (row_view row.now)))) }
-{
     let line = row_line(row);
     write_line(writer, &line)?;
-    write_left(writer, row, line.len())?;
-    write_marks(writer, &row.marks, row.expected)
-}
-
-/// Writes the content of a row, if its line of this length doesn't say all of it.
-fn write_left<W: Output>(writer: &mut W, row: &RowFacts, len: usize) -> Result<(), W::Error>
-    ensures { OnOk result
-        (W.appends writer.old writer.new (lines_text (left_lines (row_view row.now) len))) }
-{
-    if row.is_said(len) {
-        Ok(())
-    } else {
-        write_content(writer, row.content)
+    if !row.is_said(line.len()) {
+        write_content(writer, row.content)?;
     }
+    write_marks(writer, &row.marks, row.expected)
 }
 
 /// Writes a content in lines of 16 bytes.
 fn write_content<W: Output>(writer: &mut W, content: &[u8]) -> Result<(), W::Error>
     ensures { OnOk result (W.appends writer.old writer.new
-        (lines_text (content_lines (line_count content.now) content.now))) }
+        (lines_text (content_lines content.now ((length content.now + 15) / 16)))) }
 {
-    let mut rest = content;
-    let mut left = content.len().div_ceil(BYTES_IN_LINE);
-    while left > 0 {
-        let (bytes, others) = split(rest, BYTES_IN_LINE);
+    for line in 0..content.len().div_ceil(BYTES_IN_LINE) {
+        let bytes = split(split(content, line * BYTES_IN_LINE).1, BYTES_IN_LINE).0;
         write_line(writer, &content_line(bytes))?;
-        rest = others;
-        left -= 1;
     }
     Ok(())
 }
 
 /// Returns the line of these bytes of a content.
+#[tactic(auto, using(crate::proofs::LineLemmas::kept_pieces))]
 fn content_line(bytes: &[u8]) -> Line
     ensures { result ≡ kept (spaces 25 ++ hex_words bytes.now) }
 {
@@ -241,6 +215,7 @@ fn write_marks<W: Output>(
 }
 
 /// Returns the line of a mark.
+#[tactic(auto, using(crate::proofs::LineLemmas::kept_pieces))]
 fn mark_line(mark: Mark, expected: &[Component]) -> Line
     ensures { result ≡ kept (codes "     ^ " ++ mark_words mark expected.now) }
 {
