@@ -11,12 +11,12 @@ use Rattle.der_view.specs.Rows.{Row}
 use Rattle.der_view.specs.declared.plan.Plan.{Plan}
 
 -- a row was written
-pub row_written : {W E : Type 0} {P Q R : Type 0} (appends : W → W → List ℕ → Type 0) (plan : Plan) (all : Bool)
-    (row : Row) (view : RowView) (d f : Option E) (a b : W) → view ≡ row_of plan all row → P → Q → R
-    → HasWritten appends d a f b (lines_text (told_lines view))
-    → P × Q × R × HasWritten appends d a f b (rows_text plan all (row ∷ []))
-row_written appends plan all row view d f a b is p q r written =
-    (p, q, r, rw (append-nil (told_lines (row_of plan all row)), ← is) written)
+pub row_written : {W E P Q T : Type 0} (appends : W → W → List ℕ → Type 0) (plan : Plan) (all : Bool) (row : Row)
+    (view : RowView) (d f : Option E) (a b : W) → view ≡ row_of plan all row → P → Q
+    → (T → HasWritten appends d a f b (lines_text (told_lines view)))
+    → P × Q × (T → HasWritten appends d a f b (rows_text plan all (row ∷ [])))
+row_written appends plan all row view d f a b is p q written =
+    (p, q, λ t. rw (append-nil (told_lines (row_of plan all row)), ← is) (written t))
 
 -- one more line of a content was written
 pub content_written : {W : Type 0} (appends : W → W → List ℕ → Type 0)

@@ -1,6 +1,6 @@
 -- What was written of rows, one after the other.
-use Rattle.std.specs.Prelude.{◌≡◌, ◌++◌, List, [], Bool, ℕ, Option}
-use Rattle.std.proofs.Common.{ap, ◌∙◌, sym, subst}
+use Rattle.std.specs.Prelude.{◌≡◌, ◌++◌, List, Bool, ℕ, Option, false}
+use Rattle.std.proofs.Common.{ap, ◌∙◌}
 use Rattle.std.specs.List.{flat_map}
 use Rattle.std.proofs.lemmas.Grind.{flat_map-append}
 use Rattle.der_view.specs.Facts.{row_of}
@@ -8,6 +8,7 @@ use Rattle.der_view.specs.Lines.{shown}
 use Rattle.der_view.specs.Printing.{HasWritten, all_lines, line_text, rows_text, told_lines}
 use Rattle.der_view.specs.Rows.{Row}
 use Rattle.der_view.specs.declared.plan.Plan.{Plan}
+use Rattle.der_view.specs.declared.printer.Style.{Style}
 
 -- rows after rows
 rows_text-both : (plan : Plan) (all : Bool) (first second : List Row)
@@ -17,16 +18,19 @@ rows_text-both plan all first second =
     (flat_map-append (λ row. told_lines (row_of plan all row)) first second)
     ∙ flat_map-append (λ line. line_text (shown line)) (all_lines plan all first) (all_lines plan all second)
 
+-- all rows are written as lines
+pub record IsPlain (style : Style) : Type 0 where
+  pub lines : style.is_json ≡ false
+  pub levels : style.levels ≡ 0
+
 pub has_written_both : {W E : Type 0} (appends : W → W → List ℕ → Type 0)
     (joined : (a b c : W) (s t : List ℕ) → appends a b s → appends b c t → appends a c (s ++ t))
-    (plan other : Plan) (all others : Bool) (first second : List Row) (d e f : Option E) (a b c : W)
-    → other ≡ plan → others ≡ all
-    → HasWritten appends d a e b (rows_text plan all first)
-    → HasWritten appends e b f c (rows_text other others second)
-    → HasWritten appends d a f c (rows_text plan all (first ++ second))
-has_written_both appends joined plan other all others first second d e f a b c same_plan same_all
-    one two none =
-    let late = two none in
+    (style other : Style) (first second : List Row) (d e f : Option E) (a b c : W)
+    → other ≡ style → IsPlain style
+    → HasWritten appends d a e b (rows_text style.plan style.all first)
+    → (IsPlain other → HasWritten appends e b f c (rows_text other.plan other.all second))
+    → HasWritten appends d a f c (rows_text style.plan style.all (first ++ second))
+has_written_both appends joined style other first second d e f a b c same plain one two none =
+    let late = rw same at (two (rw same plain) none) in
     let early = one late.0 in
-    let after = rw (same_plan, same_all) at late.1 in
-    (early.0, rw (rows_text-both plan all first second) (joined _ _ _ _ _ early.1 after))
+    (early.0, rw (rows_text-both style.plan style.all first second) (joined _ _ _ _ _ early.1 late.1))

@@ -101,10 +101,6 @@ bits_value (unused ∷ bytes) =
     Some (if nat_lt unused 8 && (nat_lt 0 (length bytes) && nat_lt (length bytes) 4)
     then Text (bits_text bytes (8 * length bytes - unused)) else Bits (length bytes) unused)
 
--- X.690 section 8.8: nothing of a NULL, which has no content
-abbrev pub null_value : List ℕ → Option ValueView
-null_value content = if length content == 0 then Some Nothing else None
-
 -- a time to the second, from the first two digits of the year and YYMMDDhhmmss, and what follows
 abbrev pub time_value : List ℕ → List ℕ → ValueView
 time_value century rest = Time (slice_index century 0 ∷ slice_index century 1
@@ -133,7 +129,7 @@ universal_value number content =
     if number == 1 then boolean_value content
     else (if number == 2 || number == 10 then option_map Text (integer_text content)
     else (if number == 3 then bits_value content
-    else (if number == 5 then null_value content
+    else (if number == 5 && length content == 0 then Some Nothing
     else (if number == 6 then option_map (Identifier (name_by content)) (arcs_by content)
     else (if number == 23 then utc_time_value content
     else (if number == 24 then generalized_time_value content

@@ -3,18 +3,14 @@
 
 use crate::characters::Characters;
 use crate::facts::{Kind, RowFacts, Shown};
-use crate::form::draw_rows;
-use crate::grammar::Component;
 use crate::header::Class;
 use crate::known::Known;
 use crate::line::{DIGITS, Line};
 use crate::marks::Mark;
 use crate::output::Output;
-use crate::plan::Plan;
 use crate::said::{Reading, advice_of, first_line, key_misfit, line_of, misfit_line, point_misfit};
 use crate::sentences::Sentence;
 use crate::values::{Arcs, Value};
-use crate::walk::{Element, Place, Rows};
 use itoa::Buffer;
 use std::fmt::InlineText;
 
@@ -90,116 +86,6 @@ impl<'w, W: Output> Object<'w, W> {
     }
 }
 
-/// Writes rows as objects. It keeps the first error of the writer, and writes nothing after it.
-#[derive(Drop)]
-pub(crate) struct JsonRows<'a, W: Output> {
-    /// Where they are written.
-    writer: &'a mut W,
-    /// How the bytes are drawn.
-    plan: Plan,
-    /// Whether every content is given.
-    all: bool,
-    /// The first error of the writer.
-    error: Option<W::Error>,
-}
-
-impl<'a, W: Output> JsonRows<'a, W> {
-    /// Returns a writer of the rows of bytes by this plan.
-    pub(crate) fn new(writer: &'a mut W, plan: Plan, all: bool) -> JsonRows<'a, W> {
-        JsonRows {
-            writer,
-            plan,
-            all,
-            error: None,
-        }
-    }
-
-    /// Returns whether all was written.
-    ///
-    /// # Errors
-    ///
-    /// The first error of the writer.
-    pub(crate) fn finish(self) -> Result<(), W::Error> {
-        let JsonRows { error, .. } = self;
-        match error {
-            Some(error) => Err(error),
-            None => Ok(()),
-        }
-    }
-
-    /// Writes a row, unless a write has failed.
-    fn tell(&mut self, row: &RowFacts) {
-        if self.error.is_none() && row.is_told() {
-            if let Err(error) = write_row(self.writer, row) {
-                self.error = Some(error);
-            }
-        }
-    }
-}
-
-impl<W: Output> Rows for JsonRows<'_, W> {
-    ghost tells = { λ _ _ _. Unit {0} };
-
-    fn element(&mut self, place: Place, element: &Element) {
-        self.tell(&RowFacts::of_element(self.plan, self.all, place, element));
-    }
-
-    fn end_of_contents(&mut self, place: Place) {
-        self.tell(&RowFacts::of_end(place));
-    }
-
-    fn not_drawn(&mut self, place: Place, expected: &[Component], len: usize, content: &[u8]) {
-        self.tell(&RowFacts::of_not_drawn(self.plan, place, expected, len, content));
-    }
-
-    ghost nothing = { λ _. tt };
-
-    ghost joined = { λ _ _ _ _ _ _ _. tt };
-}
-
-/// Returns the offset of the first row that has a mark.
-pub(crate) fn mark_of(plan: Plan, bytes: &[u8]) -> Option<usize> {
-    let mut first = FirstMark { plan, offset: None };
-    draw_rows(&mut first, plan, bytes, false);
-    first.offset
-}
-
-/// Looks for the first row that has a mark.
-#[derive(Drop)]
-struct FirstMark {
-    /// How the bytes are drawn.
-    plan: Plan,
-    /// Its offset.
-    offset: Option<usize>,
-}
-
-impl FirstMark {
-    /// Looks at a row.
-    fn see(&mut self, row: &RowFacts) {
-        if self.offset.is_none() && row.marks.iter().any(|mark| mark.is_some()) {
-            self.offset = Some(row.place.offset);
-        }
-    }
-}
-
-impl Rows for FirstMark {
-    ghost tells = { λ _ _ _. Unit {0} };
-
-    fn element(&mut self, place: Place, element: &Element) {
-        self.see(&RowFacts::of_element(self.plan, false, place, element));
-    }
-
-    fn end_of_contents(&mut self, _place: Place) {}
-
-    fn not_drawn(&mut self, place: Place, expected: &[Component], len: usize, content: &[u8]) {
-        self.see(&RowFacts::of_not_drawn(self.plan, place, expected, len, content));
-    }
-
-    ghost nothing = { λ _. tt };
-
-    ghost joined = { λ _ _ _ _ _ _ _. tt };
-}
-
 /// Writes the last object of a picture that says this, with this command.
 pub(crate) fn write_last<W: Output>(
     writer: &mut W,
@@ -247,8 +133,11 @@ pub(crate) fn write_said_object<W: Output>(
     object.end()
 }
 
-/// Writes the object of a row.
-fn write_row<W: Output>(writer: &mut W, row: &RowFacts) -> Result<(), W::Error> {
+/// Writes the object of a row, unless it is of no bytes, and has no mark.
+pub(crate) fn write_object<W: Output>(writer: &mut W, row: &RowFacts) -> Result<(), W::Error> {
+    if !row.is_told() {
+        return Ok(());
+    }
     let mut object = Object::new(writer);
     if let Kind::Element(tag) = row.kind {
         if let Some(announced) = row.announced

@@ -2,7 +2,7 @@
 ghost use Rattle.std.specs.Prelude.{◌≡◌, ◌<◌, ◌≤◌, ◌+◌, ◌-◌, ◌/◌, ◌%◌, ◌^◌, [], ◌∷◌, ◌++◌};
 ghost use Rattle.std.specs.Prelude.{length, option_map};
 ghost use Rattle.der_view.specs.Characters.{string_codes};
-ghost use Rattle.der_view.specs.Values.{String, bits_value, boolean_value, generalized_time_value, integer_text, null_value};
+ghost use Rattle.der_view.specs.Values.{String, bits_value, boolean_value, generalized_time_value, integer_text};
 ghost use Rattle.der_view.specs.Values.{time_value, universal_value, utc_time_value, value_by};
 ghost use Rattle.der_view.specs.Values.{value_view};
 
@@ -73,7 +73,7 @@ fn universal_value<'a>(number: u32, content: &'a [u8]) -> Option<Value<'a>>
         1 => boolean(content),
         2 | 10 => Some(Value::Text(integer(content)?)),
         3 => bits(content),
-        5 => null(content),
+        5 if content.is_empty() => Some(Value::Nothing),
         6 => Some(Value::Identifier(name_of(content), Arcs::new(content)?)),
         23 => utc_time(content),
         24 => generalized_time(content),
@@ -89,17 +89,6 @@ fn boolean<'a>(content: &'a [u8]) -> Option<Value<'a>>
         [0] => Some(Value::Text(short("FALSE"))),
         [_] => Some(Value::Text(short("TRUE"))),
         _ => None,
-    }
-}
-
-/// Returns what is shown of a NULL (X.690 section 8.8).
-fn null<'a>(content: &'a [u8]) -> Option<Value<'a>>
-    ensures { option_map value_view result ≡ null_value content.now }
-{
-    if content.is_empty() {
-        Some(Value::Nothing)
-    } else {
-        None
     }
 }
 

@@ -4,6 +4,6 @@ use Rattle.der_view.proofs.printer.PrinterRows.not_drawn.Goals as goal
 
 pub returns : goal.returns
 returns g c =
-    row_written g.W.Output.appends c.args.self.now.plan c.args.self.now.all
+    row_written g.W.Output.appends c.args.self.now.style.plan c.args.self.now.style.all
     (NotDrawn c.args.place c.args.expected.now c.args.len c.args.content.now) _ _ _ _ _
-    c.of_not_drawn.ensures c.tell.ensures.writer c.tell.ensures.plan c.tell.ensures.all c.tell.ensures.text
+    c.of_not_drawn.ensures c.tell.ensures.writer c.tell.ensures.style c.tell.ensures.text
