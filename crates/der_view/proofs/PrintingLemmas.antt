@@ -5,7 +5,7 @@ use Rattle.der_view.proofs.LineLemmas.{shown-line}
 use Rattle.der_view.specs.Facts.{RowView, row_of}
 use Rattle.der_view.specs.Lines.{kept, shown}
 use Rattle.der_view.specs.Printing.{AreLines, HasWritten, content_lines, line_text, lines_text}
-use Rattle.der_view.specs.Printing.{rows_text, told_lines}
+use Rattle.der_view.specs.Printing.{rows_lines, rows_text, told_lines}
 use Rattle.der_view.specs.RowLines.{hex_words, spaces}
 use Rattle.der_view.specs.Rows.{Row}
 use Rattle.der_view.specs.declared.plan.Plan.{Plan}
@@ -16,7 +16,7 @@ pub row_written : {W E P Q T : Type 0} (appends : W → W → List ℕ → Type 
     → (T → HasWritten appends d a f b (lines_text (told_lines view)))
     → P × Q × (T → HasWritten appends d a f b (rows_text plan all (row ∷ [])))
 row_written appends plan all row view d f a b is p q written =
-    (p, q, λ t. rw (append-nil (told_lines (row_of plan all row)), ← is) (written t))
+    (p, q, λ t. rw (append-nil (lines_text (told_lines (row_of plan all row))), ← is) (written t))
 
 -- one more line of a content was written
 pub content_written : {W : Type 0} (appends : W → W → List ℕ → Type 0)
@@ -28,7 +28,11 @@ pub content_written : {W : Type 0} (appends : W → W → List ℕ → Type 0)
 content_written appends joined a b c bytes line count is done next =
     rw (add-one count, flat_map-append, append-nil, ← is) (joined a b c _ _ done next)
 
--- what is shown are lines
-pub shown_are : (lines : List (List ℕ)) → AreLines (map shown lines)
-shown_are [] = tt
-shown_are (line ∷ lines) = (shown-line line, shown_are lines)
+shown_are : (lines rest : List (List ℕ)) → AreLines rest → AreLines (map shown lines ++ rest)
+shown_are [] rest are = are
+shown_are (line ∷ lines) rest are = (shown-line line, shown_are lines rest are)
+
+-- all lines of rows
+pub rows_are : (plan : Plan) (all : Bool) (rows : List Row) → AreLines (rows_lines plan all rows)
+rows_are plan all [] = tt
+rows_are plan all (row ∷ rows) = shown_are (told_lines (row_of plan all row)) _ (rows_are plan all rows)

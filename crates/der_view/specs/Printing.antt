@@ -43,17 +43,13 @@ told_lines row =
     else content_lines row.content ((length row.content + 15) / 16))
     ++ mark_lines row.marks row.expected) else []
 
--- the lines of rows by a plan, with all contents or without
-abbrev pub all_lines : Plan → Bool → List Row → List (List ℕ)
-all_lines plan all rows = flat_map (λ row. told_lines (row_of plan all row)) rows
-
--- these as they are shown
+-- the lines of rows by a plan, with all contents or without, as they are shown
 abbrev pub rows_lines : Plan → Bool → List Row → List (List ℕ)
-rows_lines plan all rows = map shown (all_lines plan all rows)
+rows_lines plan all rows = flat_map (λ row. map shown (told_lines (row_of plan all row))) rows
 
 -- their text
 abbrev pub rows_text : Plan → Bool → List Row → List ℕ
-rows_text plan all rows = lines_text (all_lines plan all rows)
+rows_text plan all rows = flat_map (λ row. lines_text (told_lines (row_of plan all row))) rows
 
 -- where no write has failed, this text was written, and none failed before
 abbrev pub HasWritten : {W E : Type 0} → (W → W → List ℕ → Type 0) → Option E → W → Option E → W

@@ -1,22 +1,9 @@
 -- What was written of rows, one after the other.
 use Rattle.std.specs.Prelude.{◌≡◌, ◌++◌, List, Bool, ℕ, Option, false}
-use Rattle.std.proofs.Common.{ap, ◌∙◌}
-use Rattle.std.specs.List.{flat_map}
 use Rattle.std.proofs.lemmas.Grind.{flat_map-append}
-use Rattle.der_view.specs.Facts.{row_of}
-use Rattle.der_view.specs.Lines.{shown}
-use Rattle.der_view.specs.Printing.{HasWritten, all_lines, line_text, rows_text, told_lines}
+use Rattle.der_view.specs.Printing.{HasWritten, rows_text}
 use Rattle.der_view.specs.Rows.{Row}
-use Rattle.der_view.specs.declared.plan.Plan.{Plan}
 use Rattle.der_view.specs.declared.printer.Style.{Style}
-
--- rows after rows
-rows_text-both : (plan : Plan) (all : Bool) (first second : List Row)
-    → rows_text plan all (first ++ second) ≡ rows_text plan all first ++ rows_text plan all second
-rows_text-both plan all first second =
-    ap (flat_map (λ line. line_text (shown line)))
-    (flat_map-append (λ row. told_lines (row_of plan all row)) first second)
-    ∙ flat_map-append (λ line. line_text (shown line)) (all_lines plan all first) (all_lines plan all second)
 
 -- all rows are written as lines
 pub record IsPlain (style : Style) : Type 0 where
@@ -33,4 +20,4 @@ pub has_written_both : {W E : Type 0} (appends : W → W → List ℕ → Type 0
 has_written_both appends joined style other first second d e f a b c same plain one two none =
     let late = rw same at (two (rw same plain) none) in
     let early = one late.0 in
-    (early.0, rw (rows_text-both style.plan style.all first second) (joined _ _ _ _ _ early.1 late.1))
+    (early.0, rw flat_map-append (joined _ _ _ _ _ early.1 late.1))

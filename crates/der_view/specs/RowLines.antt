@@ -10,8 +10,7 @@ use Rattle.der_view.specs.Headers.{is_type}
 use Rattle.der_view.specs.Lines.{kept}
 use Rattle.der_view.specs.Marks.{bytes_text}
 use Rattle.der_view.specs.Types.{type_name}
-use Rattle.der_view.specs.Values.{ValueView, Count, Bits, count_text, unused_text, value_by}
-use Rattle.der_view.specs.Values.{value_text}
+use Rattle.der_view.specs.Values.{ValueView, Count, Bits, number_of_text, value_by, value_text}
 use Rattle.der_view.specs.Words.{name_text}
 use Rattle.der_view.specs.declared.facts.Kind.{Kind}
 use Rattle.der_view.specs.declared.facts.Kind.TheVariants as kinds
@@ -82,9 +81,10 @@ is_said row len = is_said_by (row_value row) len
 abbrev pub unshown_text : Shown → ℕ → List ℕ
 unshown_text shows.Nothing count = []
 unshown_text (shows.Unused unused) count =
-    count_text count
-    ++ (if nat_lt 0 count && nat_lt unused 8 then unused_text unused else [])
-unshown_text _ count = count_text count
+    number_of_text count (codes " byte")
+    ++ (if nat_lt 0 count && nat_lt unused 8 then number_of_text unused (codes " unused bit")
+    else [])
+unshown_text _ count = number_of_text count (codes " byte")
 
 -- the value, or else that
 abbrev pub shown_text : Option ValueView → Shown → ℕ → List ℕ

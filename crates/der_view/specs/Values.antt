@@ -20,18 +20,10 @@ use Rattle.der_view.specs.declared.values.Value.{Value}
 use Rattle.der_view.specs.declared.values.Value.TheVariants as values
 use Rattle.der_view.specs.declared.values.arcs.Arcs.{Arcs}
 
--- a comma and a number of such things
+-- a number of such things, as bytes or unused bits, after a comma
 abbrev pub number_of_text : ℕ → List ℕ → List ℕ
 number_of_text count thing =
     codes ", " ++ (decimal count ++ (thing ++ (if count == 1 then [] else codes "s")))
-
--- a number of bytes
-abbrev pub count_text : ℕ → List ℕ
-count_text count = number_of_text count (codes " byte")
-
--- a number of unused bits
-abbrev pub unused_text : ℕ → List ℕ
-unused_text unused = number_of_text unused (codes " unused bit")
 
 -- X.690 section 8.3.3: the number, if it has one to eight bytes
 abbrev pub integer_text : List ℕ → Option (List ℕ)
@@ -149,9 +141,10 @@ value_by tag content =
 -- what is shown of a content, after the name of its type
 abbrev pub value_text : ValueView → List ℕ
 value_text Nothing = []
-value_text (Count count) = count_text count
+value_text (Count count) = number_of_text count (codes " byte")
 value_text (Bits count unused) =
-    count_text count ++ (if unused == 0 then [] else unused_text unused)
+    number_of_text count (codes " byte")
+    ++ (if unused == 0 then [] else number_of_text unused (codes " unused bit"))
 value_text (Text text) = codes " " ++ text
 value_text (Time time end) = codes " " ++ (time ++ end)
 value_text (Identifier None arcs) = codes " " ++ dotted arcs

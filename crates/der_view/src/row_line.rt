@@ -148,12 +148,12 @@ impl Line {
         match shown {
             Shown::Nothing => self.push_str(""),
             Shown::Unused(unused) => {
-                self.push_count(count);
+                self.push_number_of(count, " byte");
                 if count > 0 && unused < 8 {
-                    self.push_unused(unused);
+                    self.push_number_of(usize::from(unused), " unused bit");
                 }
             }
-            _ => self.push_count(count),
+            _ => self.push_number_of(count, " byte"),
         }
     }
 

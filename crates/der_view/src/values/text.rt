@@ -6,7 +6,7 @@ ghost use Rattle.std.specs.Fmt.{decimal, digits};
 ghost use Rattle.sec1_der.specs.Identifiers.{dotted};
 ghost use Rattle.der_view.specs.Characters.{codes_of, escaped, escaped_all};
 ghost use Rattle.der_view.specs.Lines.{kept};
-ghost use Rattle.der_view.specs.Values.{arcs_view, count_text, number_of_text, unused_text};
+ghost use Rattle.der_view.specs.Values.{arcs_view, number_of_text};
 ghost use Rattle.der_view.specs.Values.{value_text, value_view};
 
 use super::{Arcs, Value};
@@ -21,11 +21,11 @@ impl Line {
     {
         match value {
             Value::Nothing => self.push_str(""),
-            Value::Count(count) => self.push_count(*count),
+            Value::Count(count) => self.push_number_of(*count, " byte"),
             Value::Bits { count, unused } => {
-                self.push_count(*count);
+                self.push_number_of(*count, " byte");
                 if *unused > 0 {
-                    self.push_unused(*unused);
+                    self.push_number_of(usize::from(*unused), " unused bit");
                 }
             }
             Value::Text(text) => {
@@ -56,22 +56,8 @@ impl Line {
         }
     }
 
-    /// Appends a number of bytes, as `, 1 byte` or `, 9 bytes`.
-    pub fn push_count(&mut self, count: usize)
-        ensures { self.new ≡ kept (self.old ++ count_text count) }
-    {
-        self.push_number_of(count, " byte");
-    }
-
-    /// Appends a number of unused bits of a BIT STRING, as `, 3 unused bits`.
-    pub fn push_unused(&mut self, unused: u8)
-        ensures { self.new ≡ kept (self.old ++ unused_text unused) }
-    {
-        self.push_number_of(usize::from(unused), " unused bit");
-    }
-
-    /// Appends a comma and a number of such things.
-    fn push_number_of(&mut self, count: usize, thing: &str)
+    /// Appends a number of such things, as `, 1 byte` or `, 9 bytes`.
+    pub(crate) fn push_number_of(&mut self, count: usize, thing: &str)
         ensures { self.new ≡ kept (self.old ++ number_of_text count thing.now) }
     {
         self.push_str(", ");
