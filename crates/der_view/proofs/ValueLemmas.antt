@@ -5,12 +5,13 @@ use Rattle.std.proofs.lemmas.Bool.Decides.{nat_tests}
 use Rattle.der_view.specs.Values.{integer_text}
 use Rattle.std.proofs.Common.{arith, ap, refl}
 use Rattle.std.specs.Fmt.{decimal}
-use Rattle.der_types.proofs.UnsignedLemmas.{digit_steps}
 use Rattle.std.proofs.Math.Nat.{pow-suc}
 use Rattle.std.proofs.lemmas.Int.{ints}
 use Rattle.std.specs.Int.Digits.{number_from_digits_after}
 use Rattle.sec1_der.specs.Elements.{number_of}
 use Rattle.der_types.specs.Integers.{signed_number}
+use Rattle.der_types.proofs.TimeLaws.{utc_digits}
+use Rattle.std.proofs.lemmas.List.{length-take}
 
 number_after-push : (m n : ℕ) (bytes : List ℕ)
     → number_from_digits_after 256 (m + n) bytes
@@ -48,4 +49,6 @@ integer_text-high (first ∷ bytes) some few high byte below =
     rw bit (omega (arith, ints, pow-suc 256 (length bytes))) in
     rw (short, negative) (ap (λ n. Some (45 ∷ decimal n)) (omega arith))
 
-pub ruleset integers = (integer_text-low, integer_text-high, digit_steps, nat_tests)
+pub ruleset integers = (integer_text-low, integer_text-high, nat_tests)
+
+pub ruleset values = (nat_tests, utc_digits, length-take)

@@ -77,19 +77,16 @@ is_said_by (Some value) len = nat_le len 100
 abbrev pub is_said : RowView → ℕ → Bool
 is_said row len = is_said_by (row_value row) len
 
--- the number of bytes of a content; that of a BIT STRING's unused bits too, if it can have as many
-abbrev pub unshown_text : Shown → ℕ → List ℕ
-unshown_text shows.Nothing count = []
-unshown_text (shows.Unused unused) count =
+-- the value of a content, or else what is shown of it: the number of its bytes; that of a BIT
+-- STRING's unused bits too, if it can have as many
+abbrev pub shown_text : Option ValueView → Shown → ℕ → List ℕ
+shown_text (Some value) shown count = value_text value
+shown_text None shows.Nothing count = []
+shown_text None (shows.Unused unused) count =
     number_of_text count (codes " byte")
     ++ (if nat_lt 0 count && nat_lt unused 8 then number_of_text unused (codes " unused bit")
     else [])
-unshown_text _ count = number_of_text count (codes " byte")
-
--- the value, or else that
-abbrev pub shown_text : Option ValueView → Shown → ℕ → List ℕ
-shown_text (Some value) shown count = value_text value
-shown_text None shown count = unshown_text shown count
+shown_text None _ count = number_of_text count (codes " byte")
 
 -- the type of a row, and its value or the number of its bytes
 abbrev pub label_by : Kind → ℕ → List ℕ → List ℕ

@@ -101,21 +101,9 @@ time_value century rest = Time (slice_index century 0 ∷ slice_index century 1
     ∷ slice_index rest 7 ∷ 0x3A ∷ slice_index rest 8 ∷ slice_index rest 9 ∷ 0x3A
     ∷ slice_index rest 10 ∷ slice_index rest 11 ∷ []) (drop 12 rest)
 
--- X.690 sections 11.7 and 11.8, RFC 5280 section 4.1.2.5.1: of a UTCTime the years 50 to 99 are in
--- the twentieth century
-abbrev pub utc_time_value : List ℕ → Option ValueView
-utc_time_value content =
-    if is_utc_time content
-    then Some (time_value
-    (if nat_lt (slice_index content 0) 0x35 then codes "20" else codes "19") content) else None
-
-abbrev pub generalized_time_value : List ℕ → Option ValueView
-generalized_time_value content =
-    if is_generalized_time content then Some (time_value (take 2 content) (drop 2 content))
-    else None
-
 -- what is shown of the content of the type of X.680 with this tag number, if it is more than the
--- number of bytes
+-- number of bytes; of a UTCTime the years 50 to 99 are in the twentieth century (RFC 5280 section
+-- 4.1.2.5.1)
 abbrev pub universal_value : ℕ → List ℕ → Option ValueView
 universal_value number content =
     if number == 1 then boolean_value content
@@ -123,8 +111,11 @@ universal_value number content =
     else (if number == 3 then bits_value content
     else (if number == 5 && length content == 0 then Some Nothing
     else (if number == 6 then option_map (Identifier (name_by content)) (arcs_by content)
-    else (if number == 23 then utc_time_value content
-    else (if number == 24 then generalized_time_value content
+    else (if number == 23 && is_utc_time content
+    then Some (time_value
+    (if nat_lt (slice_index content 0) 0x35 then codes "20" else codes "19") content)
+    else (if number == 24 && is_generalized_time content
+    then Some (time_value (take 2 content) (drop 2 content))
     else option_map String (string_codes number content)))))))
 
 -- the same of a field of another type: its characters, if it has some, and all of them print

@@ -8,7 +8,7 @@ ghost use Rattle.der_view.specs.Marks.{bytes_text};
 ghost use Rattle.der_view.specs.RowLines.{columns, count_of, hex_words, indent, is_said, label};
 ghost use Rattle.der_view.specs.RowLines.{note_by, padded, point_text, row_line, row_value};
 ghost use Rattle.der_view.specs.RowLines.{secret_note};
-ghost use Rattle.der_view.specs.RowLines.{shown_text, unshown_text};
+ghost use Rattle.der_view.specs.RowLines.{shown_text};
 ghost use Rattle.der_view.specs.Values.{value_view};
 
 use crate::facts::{Kind, Point, RowFacts, Shown};
@@ -129,23 +129,17 @@ impl Line {
         }
     }
 
-    /// Appends the value of a content, or else what is shown of it.
+    /// Appends the value of a content, or else what is shown of it: the number of its bytes.
     fn push_shown(&mut self, row: &RowFacts)
         ensures { self.new
             ≡ kept (self.old ++ shown_text (row_value (row_view row.now)) row.now.shown
             (count_of (row_view row.now))) }
     {
-        match row.value() {
-            Some(value) => self.push_value(&value),
-            None => self.push_unshown(row.shown, count_of(row)),
+        if let Some(value) = row.value() {
+            return self.push_value(&value);
         }
-    }
-
-    /// Appends what is shown of a content but its value: the number of its bytes.
-    fn push_unshown(&mut self, shown: Shown, count: usize)
-        ensures { self.new ≡ kept (self.old ++ unshown_text shown count) }
-    {
-        match shown {
+        let count = count_of(row);
+        match row.shown {
             Shown::Nothing => self.push_str(""),
             Shown::Unused(unused) => {
                 self.push_number_of(count, " byte");

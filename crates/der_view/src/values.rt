@@ -1,9 +1,10 @@
 //! What is shown of the content of a primitive element.
 ghost use Rattle.std.specs.Prelude.{◌≡◌, ◌<◌, ◌≤◌, ◌+◌, ◌-◌, ◌/◌, ◌%◌, ◌^◌, [], ◌∷◌, ◌++◌};
 ghost use Rattle.std.specs.Prelude.{length, option_map};
+ghost use Rattle.sec1_der.specs.Elements.{number_of};
 ghost use Rattle.der_view.specs.Characters.{string_codes};
-ghost use Rattle.der_view.specs.Values.{String, bits_value, boolean_value, generalized_time_value, integer_text};
-ghost use Rattle.der_view.specs.Values.{time_value, universal_value, utc_time_value, value_by};
+ghost use Rattle.der_view.specs.Values.{String, bits_value, boolean_value, integer_text};
+ghost use Rattle.der_view.specs.Values.{time_value, universal_value, value_by};
 ghost use Rattle.der_view.specs.Values.{value_view};
 
 mod arcs;
@@ -65,7 +66,7 @@ pub fn value_of<'a>(tag: Tag, content: &'a [u8]) -> Value<'a>
 
 /// Returns what is shown of the content of a type of X.680; `None` if it is the number of bytes
 /// alone.
-#[tactic(auto, using(std::proofs::lemmas::Bool::Decides::nat_tests))]
+#[tactic(auto, using(crate::proofs::ValueLemmas::values))]
 fn universal_value<'a>(number: u32, content: &'a [u8]) -> Option<Value<'a>>
     ensures { option_map value_view result ≡ universal_value number content.now }
 {
@@ -75,8 +76,10 @@ fn universal_value<'a>(number: u32, content: &'a [u8]) -> Option<Value<'a>>
         3 => bits(content),
         5 if content.is_empty() => Some(Value::Nothing),
         6 => Some(Value::Identifier(name_of(content), Arcs::new(content)?)),
-        23 => utc_time(content),
-        24 => generalized_time(content),
+        // The years from 50 on are in the twentieth century (RFC 5280 section 4.1.2.5.1).
+        23 if UtcTime::test(content) && content[0] >= b'5' => Some(time(b"19", content)),
+        23 if UtcTime::test(content) => Some(time(b"20", content)),
+        24 if GeneralizedTime::test(content) => Some(time(&content[..2], split(content, 2).1)),
         _ => string(number, content),
     }
 }
@@ -111,18 +114,30 @@ fn integer(content: &[u8]) -> Option<ShortText>
     if content.is_empty() || content.len() > 8 {
         return None;
     }
-    let mut number: u128 = 0;
-    let mut end: u128 = 1;
-    for byte in content {
-        number = number * 256 + u128::from(*byte);
-        end *= 256;
-    }
+    let (number, end) = magnitude(content);
     if content[0] < 0x80 {
         return Some(short(Buffer::new().format(number)));
     }
     let mut text = short("-");
     text.push_str(Buffer::new().format(end - number));
     Some(text)
+}
+
+/// Returns the number whose digits in base 256 are these, and 256 to the power of their number.
+#[tactic(auto, using(der_types::proofs::UnsignedLemmas::digit_steps))]
+fn magnitude(digits: &[u8]) -> (u128, u128)
+    requires { length digits.now ≤ 8 }
+    ensures number { result.0 ≡ number_of digits.now }
+    ensures end { result.1 ≡ 256 ^ length digits.now }
+    ensures below { result.0 < result.1 }
+{
+    let mut number: u128 = 0;
+    let mut end: u128 = 1;
+    for digit in digits {
+        number = number * 256 + u128::from(*digit);
+        end *= 256;
+    }
+    (number, end)
 }
 
 /// Returns what is shown of a BIT STRING (X.690 section 8.6.2): its bits, the first one first, if
@@ -137,22 +152,10 @@ fn bits<'a>(content: &'a [u8]) -> Option<Value<'a>>
     }
     let mut text = ShortText::new();
     for place in 0..8 * count - usize::from(unused) {
-        push_bit(&mut text, bytes[place / 8], place % 8);
+        let is_set = (bytes[place / 8] >> (7 - place % 8)) % 2 == 1;
+        text.push_str(if is_set { "1" } else { "0" });
     }
     Some(Value::Text(text))
-}
-
-/// Appends a bit of a byte as a digit, the highest one for place 0.
-fn push_bit(text: &mut ShortText, byte: u8, place: usize)
-    requires within { place < 8 }
-    requires room { length text.old.bytes < 40 }
-    ensures { text.new.bytes ≡ text.old.bytes ++ (0x30 + byte / 2 ^ (7 - place) % 2) ∷ [] }
-{
-    text.push_str(if (byte >> (7 - place)) % 2 == 1 {
-        "1"
-    } else {
-        "0"
-    });
 }
 
 /// Returns the characters of a string of this type; `None` of another type.
@@ -161,30 +164,6 @@ fn string<'a>(number: u32, content: &'a [u8]) -> Option<Value<'a>>
         ≡ option_map String (string_codes number content.now) }
 {
     Some(Value::String(Characters::of_string(number, content)?))
-}
-
-/// Returns what is shown of a UTCTime, whose years from 50 on are in the twentieth century
-/// (RFC 5280 section 4.1.2.5.1).
-#[tactic(auto, using(der_types::proofs::TimeLaws::utc_digits))]
-fn utc_time<'a>(content: &'a [u8]) -> Option<Value<'a>>
-    ensures { option_map value_view result ≡ utc_time_value content.now }
-{
-    if !UtcTime::test(content) {
-        return None;
-    }
-    let century: &[u8] = if content[0] < b'5' { b"20" } else { b"19" };
-    Some(time(century, content))
-}
-
-/// Returns what is shown of a GeneralizedTime.
-fn generalized_time<'a>(content: &'a [u8]) -> Option<Value<'a>>
-    ensures { option_map value_view result ≡ generalized_time_value content.now }
-{
-    if !GeneralizedTime::test(content) {
-        return None;
-    }
-    let (century, rest) = split(content, 2);
-    Some(time(century, rest))
 }
 
 /// Returns a time to the second, and what follows it, from the first two digits of the year and
