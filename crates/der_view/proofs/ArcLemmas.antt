@@ -27,11 +27,7 @@ numbers_below-high high (b ∷ bytes) large =
     ]
 
 first-over : (n : ℕ) (numbers : List ℕ) → take_while is_u128 (n ∷ numbers) ≡ [] → is_u128 n ≡ false
-first-over n numbers none = by (is_u128 n) refl (sym (take_while-cons is_u128 n numbers) ∙ none)
-  where
-    by : (fits : Bool) → is_u128 n ≡ fits → cond fits (n ∷ take_while is_u128 numbers) [] ≡ [] → is_u128 n ≡ false
-    by false over none = over
-    by true fits none = absurd (cc none)
+first-over n numbers none = grind (arith, nat_tests, take_while-cons)
 
 -- where the first number of valid bytes doesn't fit, not all do
 not-fit : (begins : Bool) (high : ℕ) (bytes : List ℕ) → are_subidentifiers begins bytes ≡ true

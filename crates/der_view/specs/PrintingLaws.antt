@@ -1,5 +1,5 @@
 -- What was written of rows, one after the other.
-use Rattle.std.specs.Prelude.{◌≡◌, ◌++◌, List, Bool, ℕ, Option, false}
+use Rattle.std.specs.Prelude.{◌≡◌, ◌++◌, List, ℕ, Option, false}
 use Rattle.std.proofs.lemmas.Grind.{flat_map-append}
 use Rattle.der_view.specs.Printing.{HasWritten, rows_text}
 use Rattle.der_view.specs.Rows.{Row}
