@@ -20,7 +20,6 @@ pub mod PrintingLemmas
 pub mod RestLemmas
 pub mod RowLemmas
 pub mod RowLenLemmas
-pub mod RowLineLemmas
 pub mod RowMaskLemmas
 pub mod SameLemmas
 pub mod SourceLemmas

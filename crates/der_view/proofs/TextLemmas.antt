@@ -1,14 +1,14 @@
 -- Numbers and characters as text.
 use Rattle.std.proofs.Common.{◌≡◌, ℕ, zero, suc, ◌*◌, ◌/◌, ◌%◌, ◌^◌, ◌<◌, ◌≤◌, List, [], ◌∷◌, ◌++◌}
-use Rattle.std.proofs.Common.{true, refl, sym, ◌∙◌, ap, arith, append_assoc, append-nil, inl, inr, ◌⊎◌}
+use Rattle.std.proofs.Common.{true, refl, sym, ◌∙◌, ap, arith, append_assoc, append-nil, inl, inr}
 use Rattle.std.specs.Fmt.{decimal, digit_glyph, digits, digits_onto}
-use Rattle.std.specs.Prelude.{◌==◌, ◌≢◌, nat_le, false}
-use Rattle.der_view.specs.Characters.{escaped}
+use Rattle.std.specs.Prelude.{◌==◌, false}
 use Rattle.std.specs.List.{flat_map}
 use Rattle.std.proofs.lemmas.Bool.{cases_lt}
 use Rattle.std.proofs.lemmas.Bool.Decides.{nat_tests}
 use Rattle.std.proofs.Math.Nat.{pow-suc}
 use Rattle.sec1_der.specs.Identifiers.{dotted}
+use Rattle.der_view.proofs.LineLemmas.{kept_pieces, until_full}
 
 -- a number of one digit, and one of more
 onto-last : (k n : ℕ) (rest : List ℕ) → n < 16
@@ -72,15 +72,6 @@ pub dotted-cons : (arc : ℕ) (further : List ℕ) → dotted (arc ∷ further) 
 dotted-cons arc [] = sym (append-nil (decimal arc))
 dotted-cons arc (next ∷ further) = ap (λ text. decimal arc ++ 0x2E ∷ text) (dotted-cons next further)
 
--- a character that doesn't print
-pub escaped-other : (code : ℕ) → code ≢ 0x22 → code ≢ 0x5C → ((code < 0x20) ⊎ (0x7E < code))
-    → escaped code ≡ 0x5C ∷ 0x75 ∷ 0x7B ∷ (digits 16 true code ++ 0x7D ∷ [])
-escaped-other code quote slash beyond =
-    let a : (code == 0x22) ≡ false = grind (arith, nat_tests) in
-    let b : (code == 0x5C) ≡ false = grind (arith, nat_tests) in
-    elim beyond [
-      | inl low ↦ let t : nat_le 0x20 code ≡ false = grind (arith, nat_tests) in rw (a, b, t) refl
-      | inr high ↦
-          let s : nat_le 0x20 code ≡ true = grind (arith, nat_tests) in
-          let t : nat_le code 0x7E ≡ false = grind (arith, nat_tests) in rw (a, b, s, t) refl
-    ]
+pub ruleset arcs = (until_full, dotted-cons)
+
+pub ruleset characters = (kept_pieces, hexadecimal-step, hexadecimal-last, nat_tests)

@@ -1,10 +1,10 @@
 -- A line of a picture: as much of a text as tells how it is shown.
 use Rattle.std.specs.Prelude.{◌≡◌, ◌≤◌, ℕ, List, ◌++◌, ◌&&◌, length, take, codes, map, nat_le}
-use Rattle.std.specs.List.{list_all}
 use Rattle.std.specs.Prelude.{if◌then◌else◌, Bool, true}
+use Rattle.std.specs.List.{list_all}
 
 -- what a line keeps of a text: one character more than it shows tells that the text is longer
-abbrev pub kept : List ℕ → List ℕ
+unfoldable pub kept : List ℕ → List ℕ
 kept text = take 101 text
 
 -- whether a character prints in ASCII
@@ -17,9 +17,7 @@ printed character = if is_printable character then character else 0x3F
 
 -- how a text is shown: whole, or its first 97 characters and three full stops
 unfoldable pub shown : List ℕ → List ℕ
-shown text =
-    if nat_le (length text) 100 then map printed text
-    else map printed (take 97 text) ++ codes "..."
+shown text = map printed (if nat_le (length text) 100 then text else take 97 text ++ codes "...")
 
 -- a text is what a line may be: at most 100 characters that print in ASCII
 pub record IsLine (text : List ℕ) : Type 0 where

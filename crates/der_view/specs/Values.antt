@@ -1,8 +1,8 @@
 -- What is shown of the content of a primitive element.
 use Rattle.std.specs.Prelude.{◌==◌, ℕ, zero, suc, ◌+◌, ◌-◌, ◌*◌, ◌/◌, ◌%◌, ◌^◌, nat_lt}
 use Rattle.std.specs.Prelude.{if◌then◌else◌, List, [], ◌∷◌, ◌++◌, length, Bool, ◌&&◌, ◌||◌}
-use Rattle.std.specs.Prelude.{codes, slice_index, take, drop, Option, Some, None, option_map}
-use Rattle.std.specs.Prelude.{take_while}
+use Rattle.std.specs.Prelude.{codes, slice_index, take, drop, take_while, Option, Some, None}
+use Rattle.std.specs.Prelude.{option_map, unwrap_or}
 use Rattle.std.specs.Fmt.{decimal, signed_decimal}
 use Rattle.std.specs.List.{list_all}
 use Rattle.sec1_der.specs.Identifiers.{arcs_of, numbers_after}
@@ -20,26 +20,10 @@ use Rattle.der_view.specs.declared.values.Value.{Value}
 use Rattle.der_view.specs.declared.values.Value.TheVariants as values
 use Rattle.der_view.specs.declared.values.arcs.Arcs.{Arcs}
 
--- the words for one of a thing, or for another number of them
-abbrev pub one_or_more : ℕ → List ℕ → List ℕ → List ℕ
-one_or_more count one more = if count == 1 then one else more
-
--- a number of bytes
-abbrev pub count_text : ℕ → List ℕ
-count_text count =
-    codes ", " ++ (decimal count ++ one_or_more count (codes " byte") (codes " bytes"))
-
--- a number of unused bits
-abbrev pub unused_text : ℕ → List ℕ
-unused_text unused =
-    codes ", "
-    ++ (decimal unused ++ one_or_more unused (codes " unused bit") (codes " unused bits"))
-
--- X.690 section 8.2: one byte, which is 00 in FALSE alone
-abbrev pub boolean_text : List ℕ → Option (List ℕ)
-boolean_text [] = None
-boolean_text (byte ∷ []) = Some (if byte == 0 then codes "FALSE" else codes "TRUE")
-boolean_text (first ∷ second ∷ bytes) = None
+-- a number of such things, as bytes or unused bits, after a comma
+abbrev pub number_of_text : ℕ → List ℕ → List ℕ
+number_of_text count thing =
+    codes ", " ++ (decimal count ++ (thing ++ (if count == 1 then [] else codes "s")))
 
 -- X.690 section 8.3.3: the number, if it has one to eight bytes
 abbrev pub integer_text : List ℕ → Option (List ℕ)
@@ -55,13 +39,6 @@ bit_digit bytes place = 0x30 + slice_index bytes (place / 8) / 2 ^ (7 - place % 
 abbrev pub bits_text : List ℕ → ℕ → List ℕ
 bits_text bytes zero = []
 bits_text bytes (suc count) = bits_text bytes count ++ bit_digit bytes count ∷ []
-
--- X.690 section 8.6.2: the bits without the unused ones, of one to three bytes
-abbrev pub bit_string_text : List ℕ → Option (List ℕ)
-bit_string_text [] = None
-bit_string_text (unused ∷ bytes) =
-    if nat_lt unused 8 && (nat_lt 0 (length bytes) && nat_lt (length bytes) 4)
-    then Some (bits_text bytes (8 * length bytes - unused)) else None
 
 -- an arc as `Arcs` has it: below 2^128
 abbrev pub is_u128 : ℕ → Bool
@@ -83,21 +60,6 @@ arcs_by content =
     if is_object_identifier content && list_all is_u128 (numbers_after 0 content)
     then Some (arcs_of content) else None
 
--- the years of a UTCTime before their last two digits (RFC 5280 section 4.1.2.5.1): 50 to 99 are
--- in the twentieth century
-abbrev pub century : ℕ → List ℕ
-century digit = if nat_lt digit 0x35 then codes "20" else codes "19"
-
--- a time to the second, from the first two digits of the year and YYMMDDhhmmss
-abbrev pub time_text : List ℕ → List ℕ → List ℕ
-time_text century digits =
-    slice_index century 0 ∷ slice_index century 1 ∷ slice_index digits 0 ∷ slice_index digits 1
-    ∷ 0x2D ∷ slice_index digits 2 ∷ slice_index digits 3
-    ∷ 0x2D ∷ slice_index digits 4 ∷ slice_index digits 5
-    ∷ 0x20 ∷ slice_index digits 6 ∷ slice_index digits 7
-    ∷ 0x3A ∷ slice_index digits 8 ∷ slice_index digits 9
-    ∷ 0x3A ∷ slice_index digits 10 ∷ slice_index digits 11 ∷ []
-
 -- what is shown of a content
 pub data ValueView : Type 0 where
   Nothing : ValueView
@@ -118,86 +80,65 @@ value_view (values.Identifier name arcs) = Identifier (option_map (λ name. name
     (arcs_view arcs)
 value_view (values.String characters) = String (codes_of characters)
 
--- a text, or else the number of bytes
-abbrev pub text_or_count : Option (List ℕ) → List ℕ → ValueView
-text_or_count (Some text) content = Text text
-text_or_count None content = Count (length content)
+-- X.690 section 8.2: one byte, which is 00 in FALSE alone
+abbrev pub boolean_value : List ℕ → Option ValueView
+boolean_value (byte ∷ []) = Some (Text (if byte == 0 then codes "FALSE" else codes "TRUE"))
+boolean_value _ = None
 
--- X.690 section 8.6.2: the bits, or else the number of bytes and of unused bits
-abbrev pub bits_or_count : Option (List ℕ) → List ℕ → ValueView
-bits_or_count (Some text) content = Text text
-bits_or_count None [] = Count 0
-bits_or_count None (unused ∷ bytes) = Bits (length bytes) unused
+-- X.690 section 8.6.2: the bits without the unused ones, of one to three bytes, or else the number
+-- of bytes and of unused bits
+abbrev pub bits_value : List ℕ → Option ValueView
+bits_value [] = None
+bits_value (unused ∷ bytes) =
+    Some (if nat_lt unused 8 && (nat_lt 0 (length bytes) && nat_lt (length bytes) 4)
+    then Text (bits_text bytes (8 * length bytes - unused)) else Bits (length bytes) unused)
 
--- X.690 section 8.19: the name and the arcs
-abbrev pub identifier_or_count : Option (List ℕ) → List ℕ → ValueView
-identifier_or_count (Some arcs) content = Identifier (name_by content) arcs
-identifier_or_count None content = Count (length content)
+-- a time to the second, from the first two digits of the year and YYMMDDhhmmss, and what follows
+abbrev pub time_value : List ℕ → List ℕ → ValueView
+time_value century rest = Time (slice_index century 0 ∷ slice_index century 1
+    ∷ slice_index rest 0 ∷ slice_index rest 1 ∷ 0x2D ∷ slice_index rest 2 ∷ slice_index rest 3
+    ∷ 0x2D ∷ slice_index rest 4 ∷ slice_index rest 5 ∷ 0x20 ∷ slice_index rest 6
+    ∷ slice_index rest 7 ∷ 0x3A ∷ slice_index rest 8 ∷ slice_index rest 9 ∷ 0x3A
+    ∷ slice_index rest 10 ∷ slice_index rest 11 ∷ []) (drop 12 rest)
 
--- X.690 sections 11.7 and 11.8: a time to the second and what follows it, or the number of
--- bytes of what is no time in DER
-abbrev pub utc_time_or_count : List ℕ → ValueView
-utc_time_or_count content =
-    if is_utc_time content
-    then Time (time_text (century (slice_index content 0)) (take 12 content)) (drop 12 content)
-    else Count (length content)
-
-abbrev pub generalized_time_or_count : List ℕ → ValueView
-generalized_time_or_count content =
-    if is_generalized_time content
-    then Time (time_text (take 2 content) (take 12 (drop 2 content))) (drop 14 content)
-    else Count (length content)
-
--- the characters, or else the number of bytes
-abbrev pub string_or_count : Option (List ℕ) → List ℕ → ValueView
-string_or_count (Some characters) content = String characters
-string_or_count None content = Count (length content)
-
--- X.690 section 8.8: nothing of a NULL, which has no content
-abbrev pub null_value : List ℕ → ValueView
-null_value content = if length content == 0 then Nothing else Count (length content)
-
--- what is shown of the content of the type of X.680 with this tag number
-abbrev pub universal_value : ℕ → List ℕ → ValueView
+-- what is shown of the content of the type of X.680 with this tag number, if it is more than the
+-- number of bytes; of a UTCTime the years 50 to 99 are in the twentieth century (RFC 5280 section
+-- 4.1.2.5.1)
+abbrev pub universal_value : ℕ → List ℕ → Option ValueView
 universal_value number content =
-    if number == 1 then text_or_count (boolean_text content) content
-    else (if number == 2 || number == 10 then text_or_count (integer_text content) content
-    else (if number == 3 then bits_or_count (bit_string_text content) content
-    else (if number == 5 then null_value content
-    else (if number == 6 then identifier_or_count (arcs_by content) content
-    else (if number == 23 then utc_time_or_count content
-    else (if number == 24 then generalized_time_or_count content
-    else string_or_count (string_codes number content) content))))))
+    if number == 1 then boolean_value content
+    else (if number == 2 || number == 10 then option_map Text (integer_text content)
+    else (if number == 3 then bits_value content
+    else (if number == 5 && length content == 0 then Some Nothing
+    else (if number == 6 then option_map (Identifier (name_by content)) (arcs_by content)
+    else (if number == 23 && is_utc_time content
+    then Some (time_value
+    (if nat_lt (slice_index content 0) 0x35 then codes "20" else codes "19") content)
+    else (if number == 24 && is_generalized_time content
+    then Some (time_value (take 2 content) (drop 2 content))
+    else option_map String (string_codes number content)))))))
 
--- the characters of a field, if it has some, and all of them print
-abbrev pub field_value : List ℕ → ValueView
-field_value content =
-    if nat_lt 0 (length content) && is_visible content then String content
-    else Count (length content)
-
-abbrev pub class_value : Class → ℕ → List ℕ → ValueView
+-- the same of a field of another type: its characters, if it has some, and all of them print
+abbrev pub class_value : Class → ℕ → List ℕ → Option ValueView
 class_value classes.Universal number content = universal_value number content
-class_value _ number content = field_value content
+class_value _ number content =
+    if nat_lt 0 (length content) && is_visible content then Some (String content) else None
 
 -- what is shown of the content of a primitive element with this tag
 abbrev pub value_by : Tag → List ℕ → ValueView
-value_by tag content = class_value tag.class tag.number content
-
--- the unused bits of a BIT STRING, if there are some
-abbrev pub some_unused : ℕ → List ℕ
-some_unused unused = if unused == 0 then [] else unused_text unused
-
--- an identifier, after its name if it has one
-abbrev pub identifier_text : Option (List ℕ) → List ℕ → List ℕ
-identifier_text None arcs = dotted arcs
-identifier_text (Some name) arcs = name ++ (codes " (" ++ (dotted arcs ++ codes ")"))
+value_by tag content =
+    unwrap_or (class_value tag.class tag.number content) (Count (length content))
 
 -- what is shown of a content, after the name of its type
 abbrev pub value_text : ValueView → List ℕ
 value_text Nothing = []
-value_text (Count count) = count_text count
-value_text (Bits count unused) = count_text count ++ some_unused unused
+value_text (Count count) = number_of_text count (codes " byte")
+value_text (Bits count unused) =
+    number_of_text count (codes " byte")
+    ++ (if unused == 0 then [] else number_of_text unused (codes " unused bit"))
 value_text (Text text) = codes " " ++ text
 value_text (Time time end) = codes " " ++ (time ++ end)
-value_text (Identifier name arcs) = codes " " ++ identifier_text name arcs
-value_text (String characters) = 0x20 ∷ 0x22 ∷ (escaped_all characters ++ 0x22 ∷ [])
+value_text (Identifier None arcs) = codes " " ++ dotted arcs
+value_text (Identifier (Some name) arcs) =
+    codes " " ++ (name ++ (codes " (" ++ (dotted arcs ++ codes ")")))
+value_text (String characters) = codes " \"" ++ (escaped_all characters ++ codes "\"")

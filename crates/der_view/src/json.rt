@@ -3,33 +3,24 @@
 
 use crate::characters::Characters;
 use crate::facts::{Kind, RowFacts, Shown};
-use crate::form::draw_rows;
-use crate::grammar::Component;
 use crate::header::Class;
 use crate::known::Known;
-use crate::line::Line;
+use crate::line::{DIGITS, Line};
 use crate::marks::Mark;
 use crate::output::Output;
-use crate::plan::Plan;
 use crate::said::{Reading, advice_of, first_line, key_misfit, line_of, misfit_line, point_misfit};
 use crate::sentences::Sentence;
 use crate::values::{Arcs, Value};
-use crate::walk::{Element, Place, Rows};
 use itoa::Buffer;
-
-/// The hexadecimal digits of an escape.
-const DIGITS: &[u8; 16] = b"0123456789abcdef";
-
-/// The hexadecimal digits of a content.
-const UPPER: &[u8; 16] = b"0123456789ABCDEF";
+use std::fmt::InlineText;
 
 /// An object that is being written.
 #[derive(Drop)]
 pub(crate) struct Object<'w, W: Output> {
     /// Where it is written.
     writer: &'w mut W,
-    /// Whether it has no member yet.
-    is_empty: bool,
+    /// What comes before the next member.
+    before: u8,
 }
 
 impl<'w, W: Output> Object<'w, W> {
@@ -37,49 +28,53 @@ impl<'w, W: Output> Object<'w, W> {
     pub(crate) fn new(writer: &'w mut W) -> Object<'w, W> {
         Object {
             writer,
-            is_empty: true,
+            before: b'{',
         }
     }
 
-    /// Writes the name of a member.
-    fn write_name(&mut self, name: &str) -> Result<(), W::Error> {
-        self.writer
-            .push(if self.is_empty { b"{\"" } else { b",\"" })?;
-        self.is_empty = false;
+    /// Writes the name of a member, and the beginning of its value.
+    fn write_member(&mut self, name: &str, value: &[u8]) -> Result<(), W::Error> {
+        self.writer.push(&[self.before, b'"'])?;
+        self.before = b',';
         self.writer.push(name.as_bytes())?;
-        self.writer.push(b"\":")
+        self.writer.push(b"\":")?;
+        self.writer.push(value)
     }
 
     /// Writes a member that is a number.
     pub(crate) fn write_number(&mut self, name: &str, number: usize) -> Result<(), W::Error> {
-        self.write_name(name)?;
-        self.writer.push(Buffer::new().format(number).as_bytes())
+        self.write_member(name, Buffer::new().format(number).as_bytes())
     }
 
     /// Writes a member that is `true` or `false`.
-    pub(crate) fn write_flag(&mut self, name: &str, flag: bool) -> Result<(), W::Error> {
-        self.write_name(name)?;
-        self.writer.push(if flag { b"true" } else { b"false" })
+    fn write_flag(&mut self, name: &str, flag: bool) -> Result<(), W::Error> {
+        self.write_member(name, if flag { b"true" } else { b"false" })
     }
 
     /// Writes a member that is a text.
     pub(crate) fn write_text(&mut self, name: &str, text: Characters) -> Result<(), W::Error> {
-        self.write_name(name)?;
-        self.writer.push(b"\"")?;
+        self.write_member(name, b"\"")?;
         write_characters(self.writer, text)?;
         self.writer.push(b"\"")
     }
 
+    /// Writes a member that is a text in ASCII, unless it is empty.
+    pub(crate) fn write_text_if(&mut self, name: &str, text: &[u8]) -> Result<(), W::Error> {
+        if text.is_empty() {
+            return Ok(());
+        }
+        self.write_text(name, Characters::latin1(text))
+    }
+
     /// Writes a member that is a content in hexadecimal, if it isn't empty.
-    pub(crate) fn write_content(&mut self, name: &str, content: &[u8]) -> Result<(), W::Error> {
+    fn write_content(&mut self, name: &str, content: &[u8]) -> Result<(), W::Error> {
         if content.is_empty() {
             return Ok(());
         }
-        self.write_name(name)?;
-        self.writer.push(b"\"")?;
+        self.write_member(name, b"\"")?;
         for byte in content {
-            let high = UPPER[usize::from(byte / 16)];
-            let low = UPPER[usize::from(byte % 16)];
+            let high = DIGITS[usize::from(byte / 16)];
+            let low = DIGITS[usize::from(byte % 16)];
             self.writer.push(&[high, low])?;
         }
         self.writer.push(b"\"")
@@ -89,116 +84,6 @@ impl<'w, W: Output> Object<'w, W> {
     pub(crate) fn end(self) -> Result<(), W::Error> {
         self.writer.push(b"}\n")
     }
-}
-
-/// Writes rows as objects. It keeps the first error of the writer, and writes nothing after it.
-#[derive(Drop)]
-pub(crate) struct JsonRows<'a, W: Output> {
-    /// Where they are written.
-    writer: &'a mut W,
-    /// How the bytes are drawn.
-    plan: Plan,
-    /// Whether every content is given.
-    all: bool,
-    /// The first error of the writer.
-    error: Option<W::Error>,
-}
-
-impl<'a, W: Output> JsonRows<'a, W> {
-    /// Returns a writer of the rows of bytes by this plan.
-    pub(crate) fn new(writer: &'a mut W, plan: Plan, all: bool) -> JsonRows<'a, W> {
-        JsonRows {
-            writer,
-            plan,
-            all,
-            error: None,
-        }
-    }
-
-    /// Returns whether all was written.
-    ///
-    /// # Errors
-    ///
-    /// The first error of the writer.
-    pub(crate) fn finish(self) -> Result<(), W::Error> {
-        let JsonRows { error, .. } = self;
-        match error {
-            Some(error) => Err(error),
-            None => Ok(()),
-        }
-    }
-
-    /// Writes a row, unless a write has failed.
-    fn tell(&mut self, row: &RowFacts) {
-        if self.error.is_none() && row.is_told() {
-            if let Err(error) = write_row(self.writer, row) {
-                self.error = Some(error);
-            }
-        }
-    }
-}
-
-impl<W: Output> Rows for JsonRows<'_, W> {
-    ghost tells = { λ _ _ _. Unit {0} };
-
-    fn element(&mut self, place: Place, element: &Element) {
-        self.tell(&RowFacts::of_element(self.plan, self.all, place, element));
-    }
-
-    fn end_of_contents(&mut self, place: Place) {
-        self.tell(&RowFacts::of_end(place));
-    }
-
-    fn not_drawn(&mut self, place: Place, expected: &[Component], len: usize, content: &[u8]) {
-        self.tell(&RowFacts::of_not_drawn(self.plan, place, expected, len, content));
-    }
-
-    ghost nothing = { λ _. tt };
-
-    ghost joined = { λ _ _ _ _ _ _ _. tt };
-}
-
-/// Returns the offset of the first row that has a mark.
-pub(crate) fn mark_of(plan: Plan, bytes: &[u8]) -> Option<usize> {
-    let mut first = FirstMark { plan, offset: None };
-    draw_rows(&mut first, plan, bytes, false);
-    first.offset
-}
-
-/// Looks for the first row that has a mark.
-#[derive(Drop)]
-struct FirstMark {
-    /// How the bytes are drawn.
-    plan: Plan,
-    /// Its offset.
-    offset: Option<usize>,
-}
-
-impl FirstMark {
-    /// Looks at a row.
-    fn see(&mut self, row: &RowFacts) {
-        if self.offset.is_none() && row.marks.iter().any(|mark| mark.is_some()) {
-            self.offset = Some(row.place.offset);
-        }
-    }
-}
-
-impl Rows for FirstMark {
-    ghost tells = { λ _ _ _. Unit {0} };
-
-    fn element(&mut self, place: Place, element: &Element) {
-        self.see(&RowFacts::of_element(self.plan, false, place, element));
-    }
-
-    fn end_of_contents(&mut self, _place: Place) {}
-
-    fn not_drawn(&mut self, place: Place, expected: &[Component], len: usize, content: &[u8]) {
-        self.see(&RowFacts::of_not_drawn(self.plan, place, expected, len, content));
-    }
-
-    ghost nothing = { λ _. tt };
-
-    ghost joined = { λ _ _ _ _ _ _ _. tt };
 }
 
 /// Writes the last object of a picture that says this, with this command.
@@ -231,8 +116,7 @@ pub(crate) fn write_said_object<W: Output>(
     if let Some(offset) = mark {
         object.write_number("mark", offset)?;
     }
-    object.write_name("words")?;
-    object.writer.push(b"\"")?;
+    object.write_member("words", b"\"")?;
     object.write_line("", &first_line(is_key, reading, file, known))?;
     let curve = known.curve.as_bytes();
     if let Some(misfit) = key_misfit(known) {
@@ -249,10 +133,23 @@ pub(crate) fn write_said_object<W: Output>(
     object.end()
 }
 
-/// Writes the object of a row.
-pub(crate) fn write_row<W: Output>(writer: &mut W, row: &RowFacts) -> Result<(), W::Error> {
+/// Writes the object of a row, unless it is of no bytes, and has no mark.
+pub(crate) fn write_object<W: Output>(writer: &mut W, row: &RowFacts) -> Result<(), W::Error> {
+    if !row.is_told() {
+        return Ok(());
+    }
     let mut object = Object::new(writer);
-    object.write_front(row)?;
+    if let Kind::Element(tag) = row.kind {
+        if let Some(announced) = row.announced
+            && announced != row.len
+        {
+            object.write_number("announced", announced)?;
+        }
+        object.write_text_if("class", class_text(tag.class).as_bytes())?;
+        object.write_flag("constructed", tag.constructed)?;
+    }
+    object.write_content("content", row.content)?;
+    object.write_number("depth", row.place.depth)?;
     object.write_faults(row)?;
     object.write_number("header_len", row.head.len())?;
     if !matches!((row.kind, row.announced), (Kind::Element(_), None)) {
@@ -265,31 +162,17 @@ pub(crate) fn write_row<W: Output>(writer: &mut W, row: &RowFacts) -> Result<(),
 }
 
 impl<'w, W: Output> Object<'w, W> {
-    /// Writes the members of a row before its faults.
-    fn write_front(&mut self, row: &RowFacts) -> Result<(), W::Error> {
-        if let Kind::Element(tag) = row.kind {
-            if let Some(announced) = row.announced
-                && announced != row.len
-            {
-                self.write_number("announced", announced)?;
-            }
-            self.write_text_if("class", class_text(tag.class).as_bytes())?;
-            self.write_flag("constructed", tag.constructed)?;
-        }
-        self.write_content("content", row.content)?;
-        self.write_number("depth", row.place.depth)
-    }
-
     /// Writes the objects of a row's marks, if it has some.
     fn write_faults(&mut self, row: &RowFacts) -> Result<(), W::Error> {
         let mut is_first = true;
         for mark in row.marks {
             if let Some(mark) = mark {
                 if is_first {
-                    self.write_name("faults")?;
+                    self.write_member("faults", b"[")?;
+                    is_first = false;
+                } else {
+                    self.writer.push(b",")?;
                 }
-                self.writer.push(if is_first { b"[" } else { b"," })?;
-                is_first = false;
                 write_fault(self.writer, mark, row)?;
             }
         }
@@ -305,10 +188,17 @@ impl<'w, W: Output> Object<'w, W> {
         if let Some(Value::Identifier(_, arcs)) = row.value() {
             self.write_arcs("oid", arcs)?;
         }
-        if let Kind::Element(tag) = row.kind {
-            if row.opened && !tag.constructed {
-                self.write_flag("opened", true)?;
-            }
+        let mut name = Line::new();
+        match row.kind {
+            Kind::Element(tag) => name.push_type(tag),
+            Kind::EndOfContents => name.push_str("end-of-contents"),
+            Kind::NotDrawn => name.push_str("not drawn"),
+        }
+        if let Kind::Element(tag) = row.kind
+            && row.opened
+            && !tag.constructed
+        {
+            self.write_flag("opened", true)?;
         }
         if row.is_secret {
             self.write_flag("secret", true)?;
@@ -316,7 +206,7 @@ impl<'w, W: Output> Object<'w, W> {
         if let Kind::Element(tag) = row.kind {
             self.write_number("tag", tag.number as usize)?;
         }
-        self.write_text("type", Characters::latin1(type_line(row.kind).as_bytes()))?;
+        self.write_text("type", Characters::latin1(name.as_bytes()))?;
         self.write_value(row)
     }
 
@@ -327,21 +217,12 @@ impl<'w, W: Output> Object<'w, W> {
             line.push_point(point);
             return self.write_text("value", Characters::latin1(line.as_bytes()));
         }
-        match row.value() {
-            Some(value) => self.write_value_of(&value),
-            None => Ok(()),
-        }
-    }
-
-    /// Writes the value of a content, if it is more than a number of bytes.
-    fn write_value_of(&mut self, value: &Value) -> Result<(), W::Error> {
-        match value {
-            Value::Text(text) => self.write_text_if("value", text.as_str().as_bytes()),
-            Value::Identifier(Some(name), _) => self.write_text_if("value", *name),
-            Value::String(characters) => self.write_text("value", *characters),
-            Value::Time(time, end) => {
-                self.write_name("value")?;
-                self.writer.push(b"\"")?;
+        match &row.value() {
+            Some(Value::Text(text)) => self.write_text_if("value", text.as_str().as_bytes()),
+            Some(Value::Identifier(Some(name), _)) => self.write_text_if("value", *name),
+            Some(Value::String(characters)) => self.write_text("value", *characters),
+            Some(Value::Time(time, end)) => {
+                self.write_member("value", b"\"")?;
                 self.writer.push(time)?;
                 self.writer.push(*end)?;
                 self.writer.push(b"\"")
@@ -359,8 +240,7 @@ impl<'w, W: Output> Object<'w, W> {
 
     /// Writes a member that is arcs, joined by full stops.
     fn write_arcs(&mut self, name: &str, arcs: Arcs) -> Result<(), W::Error> {
-        self.write_name(name)?;
-        self.writer.push(b"\"")?;
+        self.write_member(name, b"\"")?;
         self.writer
             .push(Buffer::new().format(arcs.first).as_bytes())?;
         self.writer.push(b".")?;
@@ -372,14 +252,6 @@ impl<'w, W: Output> Object<'w, W> {
             self.writer.push(Buffer::new().format(arc).as_bytes())?;
         }
         self.writer.push(b"\"")
-    }
-
-    /// Writes a member that is a text in ASCII, unless it is empty.
-    pub(crate) fn write_text_if(&mut self, name: &str, text: &[u8]) -> Result<(), W::Error> {
-        if text.is_empty() {
-            return Ok(());
-        }
-        self.write_text(name, Characters::latin1(text))
     }
 }
 
@@ -403,17 +275,6 @@ fn class_text(class: Class) -> &'static str {
     }
 }
 
-/// Returns the type of a row.
-fn type_line(kind: Kind) -> Line {
-    let mut line = Line::new();
-    match kind {
-        Kind::Element(tag) => line.push_type(tag),
-        Kind::EndOfContents => line.push_str("end-of-contents"),
-        Kind::NotDrawn => line.push_str("not drawn"),
-    }
-    line
-}
-
 /// Writes characters of a text.
 fn write_characters<W: Output>(writer: &mut W, characters: Characters) -> Result<(), W::Error> {
     let mut left = characters;
@@ -431,27 +292,16 @@ fn write_character<W: Output>(writer: &mut W, code: u32) -> Result<(), W::Error>
     } else if code >= 0x20 && code <= 0x7E {
         writer.push(&[code as u8])
     } else if code < 0x1_0000 {
-        writer.push(&escape(code))
+        write_unit(writer, code)
     } else {
         let above = code - 0x1_0000;
-        writer.push(&escape(0xD800 + above / 0x400 % 0x400))?;
-        writer.push(&escape(0xDC00 + above % 0x400))
+        write_unit(writer, 0xD800 + above / 0x400 % 0x400)?;
+        write_unit(writer, 0xDC00 + above % 0x400)
     }
 }
 
-/// Returns the escape of a unit of UTF-16: `\u` and four digits.
-fn escape(unit: u32) -> [u8; 6] {
-    [
-        b'\\',
-        b'u',
-        digit(unit / 0x1000),
-        digit(unit / 0x100),
-        digit(unit / 0x10),
-        digit(unit),
-    ]
-}
-
-/// Returns the last hexadecimal digit of a number.
-fn digit(number: u32) -> u8 {
-    DIGITS[(number % 16) as usize]
+/// Writes the escape of a unit of UTF-16: `\u` and four digits.
+fn write_unit<W: Output>(writer: &mut W, unit: u32) -> Result<(), W::Error> {
+    let escape = InlineText::<6>::of(format_args!("\\u{unit:04x}"));
+    writer.push(escape.as_str().as_bytes())
 }

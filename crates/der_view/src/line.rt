@@ -1,10 +1,10 @@
 //! A line of a picture, in memory of a fixed size.
-ghost use Rattle.std.specs.Prelude.{◌≡◌, ◌↔◌, ◌≤◌, ◌+◌, ◌-◌, ℕ, List, [], ◌∷◌, ◌++◌, IsTrue};
-ghost use Rattle.std.specs.Prelude.{length, map, ◌<◌, replicate, true};
-ghost use Rattle.std.specs.Fmt.{decimal, digit_glyph};
+ghost use Rattle.std.specs.Prelude.{◌≡◌, ◌≤◌, ℕ, List, [], ◌∷◌, ◌++◌, length, map, replicate};
+ghost use Rattle.std.specs.Fmt.{decimal};
 ghost use Rattle.der_view.specs.Lines.{IsLine, kept, printed, shown};
 ghost use Rattle.hex.specs.Hex.{encode_upper};
 
+use crate::names::split;
 use arrayvec::ArrayVec;
 use itoa::Buffer;
 use std::marker::Model;
@@ -20,7 +20,7 @@ const ROOM: usize = MAX_WIDTH + 1;
 const SPACES: &[u8; ROOM] = &[b' '; ROOM];
 
 /// The hexadecimal digits.
-const DIGITS: &[u8; 16] = b"0123456789ABCDEF";
+pub(crate) const DIGITS: &[u8; 16] = b"0123456789ABCDEF";
 
 /// A line of a picture. It keeps as much of the text that is appended to it as tells how the text
 /// is shown: whole, or if it is longer than [`MAX_WIDTH`], its first 97 characters and `...`.
@@ -56,26 +56,11 @@ impl Line {
         self.text.len()
     }
 
-    /// Returns `true` if this many characters more are shown whole.
-    pub fn fits(&self, count: usize) -> bool
-        ensures { IsTrue result ↔ (length self.now + count ≤ 100) }
-    {
-        count <= MAX_WIDTH && self.len() <= MAX_WIDTH - count
-    }
-
     /// Appends a character, given as its byte.
     pub fn push_byte(&mut self, byte: u8)
         ensures { self.new ≡ kept (self.old ++ byte ∷ []) }
     {
         self.push_bytes(&[byte]);
-    }
-
-    /// Appends characters that there is room for.
-    fn push_fitting(&mut self, bytes: &[u8])
-        requires { length self.old + length bytes.now ≤ 101 }
-        ensures { self.new ≡ self.old ++ bytes.now }
-    {
-        let _ = self.text.try_extend_from_slice(bytes);
     }
 
     /// Appends characters, given as their bytes.
@@ -84,11 +69,7 @@ impl Line {
         ensures { self.new ≡ kept (self.old ++ bytes.now) }
     {
         let room = ROOM - self.text.len();
-        if bytes.len() <= room {
-            self.push_fitting(bytes);
-        } else {
-            self.push_fitting(&bytes[..room]);
-        }
+        let _ = self.text.try_extend_from_slice(split(bytes, room).0);
     }
 
     /// Appends a text.
@@ -115,36 +96,17 @@ impl Line {
         self.push_bytes(&[high, low]);
     }
 
-    /// Appends a hexadecimal digit.
-    pub(crate) fn push_digit(&mut self, digit: u8)
-        requires { digit < 16 }
-        ensures { self.new ≡ kept (self.old ++ digit_glyph true digit ∷ []) }
-    {
-        self.push_byte(if digit < 10 {
-            b'0' + digit
-        } else {
-            b'A' + (digit - 10)
-        });
-    }
-
     /// Appends as many spaces.
-    #[tactic(auto, using(crate::proofs::LineLemmas::kept_spaces))]
     pub fn push_spaces(&mut self, count: usize)
         ensures { self.new ≡ kept (self.old ++ replicate count 0x20) }
     {
-        self.push_bytes(spaces(count.min(ROOM)));
-    }
-
-    /// Appends spaces up to a column; none if the line is that long.
-    pub fn pad_to(&mut self, column: usize)
-        ensures { self.new ≡ kept (self.old ++ replicate (column - length self.old) 0x20) }
-    {
-        self.push_spaces(column.saturating_sub(self.len()));
+        self.push_bytes(split(SPACES, count).0);
     }
 
     /// Returns what is shown of the text: all of it, or if it is longer than [`MAX_WIDTH`], its
     /// first 97 characters and `...`. A character that doesn't print in ASCII is a question mark,
     /// whatever was appended.
+    #[tactic(auto, using(crate::proofs::LineLemmas::shows))]
     pub fn finish(&self) -> Line
         ensures text { result ≡ shown self.now }
         ensures line { IsLine result }
@@ -154,19 +116,20 @@ impl Line {
         if text.len() <= MAX_WIDTH {
             line.push_printed(text);
         } else {
-            line.push_printed(&text[..MAX_WIDTH - 3]);
-            line.push_fitting(b"...");
+            line.push_printed(split(text, MAX_WIDTH - 3).0);
+            line.push_str("...");
         }
         line
     }
 
-    /// Appends characters that there is room for, with a question mark for each that doesn't print.
+    /// Appends characters, with a question mark for each that doesn't print.
+    #[tactic(auto, using(crate::proofs::LineLemmas::shows))]
     fn push_printed(&mut self, bytes: &[u8])
-        requires { length self.old + length bytes.now ≤ 101 }
-        ensures { self.new ≡ self.old ++ map printed bytes.now }
+        ensures { self.new ≡ kept (self.old ++ map printed bytes.now) }
     {
+        self.push_str("");
         for byte in bytes {
-            self.push_fitting(&[printed(*byte)]);
+            self.push_byte(printed(*byte));
         }
     }
 
@@ -187,12 +150,4 @@ fn printed(byte: u8) -> u8
     } else {
         b'?'
     }
-}
-
-/// Returns as many spaces.
-fn spaces(count: usize) -> &'static [u8]
-    requires { count ≤ 101 }
-    ensures { result.now ≡ replicate count 0x20 }
-{
-    &SPACES[..count]
 }

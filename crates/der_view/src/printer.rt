@@ -1,20 +1,21 @@
 //! Rows as text.
-ghost use Rattle.std.specs.Prelude.{◌≡◌, ◌++◌, List, OnOk, None, codes};
+ghost use Rattle.std.specs.Prelude.{◌≡◌, ◌+◌, ◌++◌, ◌/◌, List, OnOk, None, codes, false, length};
 ghost use Rattle.std.proofs.Common.{refl, ◌∙◌};
 ghost use Rattle.der_view.specs.Facts.{row_view};
 ghost use Rattle.der_view.specs.Lines.{kept, shown};
-ghost use Rattle.der_view.specs.Pictures.{rows_by};
-ghost use Rattle.der_view.specs.Printing.{HasWritten, content_lines, left_lines, line_count};
-ghost use Rattle.der_view.specs.Printing.{line_text, lines_text, mark_line, mark_lines, row_lines};
-ghost use Rattle.der_view.specs.Printing.{AreLines, rows_lines, rows_text, told_lines};
-ghost use Rattle.der_view.specs.Rows.{Row};
-ghost use Rattle.der_view.specs.PrintingLaws.{has_written_both, has_written_none};
-ghost use Rattle.der_view.specs.RowLines.{hex_words, row_line, spaces};
 ghost use Rattle.der_view.specs.Marks.{mark_words};
+ghost use Rattle.der_view.specs.Pictures.{rows_by};
+ghost use Rattle.der_view.specs.Printing.{AreLines, HasWritten, content_lines, line_text};
+ghost use Rattle.der_view.specs.Printing.{lines_text, mark_lines, rows_lines, rows_text};
+ghost use Rattle.der_view.specs.Printing.{told_lines};
+ghost use Rattle.der_view.specs.PrintingLaws.{IsPlain, has_written_both};
+ghost use Rattle.der_view.specs.RowLines.{hex_words, spaces};
+ghost use Rattle.der_view.specs.Rows.{Row};
 
 use crate::facts::RowFacts;
 use crate::form::draw_rows;
 use crate::grammar::Component;
+use crate::json::write_object;
 use crate::line::Line;
 use crate::marks::Mark;
 use crate::names::split;
@@ -68,12 +69,27 @@ pub fn write_line<W: Output>(writer: &mut W, line: &Line) -> Result<(), W::Error
     writer.push(b"\n")
 }
 
+/// How rows are written.
+#[derive(Clone, Copy)]
+pub(crate) struct Style {
+    /// How the bytes are drawn.
+    plan: Plan,
+    /// Whether every content is given.
+    all: bool,
+    /// Whether they are written as JSON.
+    pub(crate) is_json: bool,
+    /// Of how many levels they are written; 0 for all.
+    pub(crate) levels: usize,
+}
+
 /// Writes the lines of rows. It keeps the first error of the writer, and writes nothing after it.
+/// Of JSON and of some levels no clause says what is written.
 #[derive(Drop)]
 pub struct Printer<'a, W: Output> {
     writer: &'a mut W,
-    plan: Plan,
-    all: bool,
+    pub(crate) style: Style,
+    /// The offset of the first row that has a mark.
+    pub(crate) mark: Option<usize>,
     error: Option<W::Error>,
 }
 
@@ -82,14 +98,19 @@ impl<'a, W: Output> Printer<'a, W> {
     pub fn new(writer: &'a mut W, plan: Plan, all: bool) -> Printer<'a, W>
         ensures writer { result.writer.ghost_name ≡ writer.entry.ghost_name }
         ensures now { result.writer.now ≡ writer.old }
-        ensures plan { result.plan ≡ plan }
-        ensures all { result.all ≡ all }
+        ensures style { result.style
+            ≡ record { plan = plan; all = all; is_json = false; levels = 0 } }
         ensures error { result.error ≡ None }
     {
         Printer {
             writer,
-            plan,
-            all,
+            style: Style {
+                plan,
+                all,
+                is_json: false,
+                levels: 0,
+            },
+            mark: None,
             error: None,
         }
     }
@@ -110,30 +131,44 @@ impl<'a, W: Output> Printer<'a, W> {
         }
     }
 
-    /// Writes a row, unless a write has failed.
+    /// Writes a row, unless a write has failed, or it isn't of the first levels.
     fn tell(&mut self, row: &RowFacts)
         ensures writer { self.new.writer.ghost_name ≡ self.old.writer.ghost_name }
-        ensures plan { self.new.plan ≡ self.old.plan }
-        ensures all { self.new.all ≡ self.old.all }
-        ensures text { HasWritten W.appends self.old.error self.old.writer.now self.new.error
-            self.new.writer.now (lines_text (told_lines (row_view row.now))) }
+        ensures style { self.new.style ≡ self.old.style }
+        ensures text { IsPlain self.old.style → HasWritten W.appends self.old.error
+            self.old.writer.now self.new.error self.new.writer.now
+            (lines_text (told_lines (row_view row.now))) }
     {
-        if self.error.is_none() {
-            if let Err(error) = write_told(self.writer, row) {
-                self.error = Some(error);
-            }
+        let Style {
+            is_json,
+            levels,
+            ..
+        } = self.style;
+        if self.mark.is_none() && row.marks.iter().any(|mark| mark.is_some()) {
+            self.mark = Some(row.place.offset);
+        }
+        if self.error.is_some() || levels > 0 && row.place.depth >= levels {
+            return;
+        }
+        let told = if is_json {
+            write_object(self.writer, row)
+        } else {
+            write_row(self.writer, row)
+        };
+        if let Err(error) = told {
+            self.error = Some(error);
         }
     }
 }
 
 impl<W: Output> Rows for Printer<'_, W> {
     ghost tells = { λ a b rows. (b.writer.ghost_name ≡ a.writer.ghost_name)
-        × (b.plan ≡ a.plan) × (b.all ≡ a.all)
-        × HasWritten W.appends a.error a.writer.now b.error b.writer.now
-        (rows_text a.plan a.all rows) };
+        × (b.style ≡ a.style)
+        × (IsPlain a.style → HasWritten W.appends a.error a.writer.now b.error b.writer.now
+        (rows_text a.style.plan a.style.all rows)) };
 
     fn element(&mut self, place: Place, element: &Element) {
-        self.tell(&RowFacts::of_element(self.plan, self.all, place, element));
+        self.tell(&RowFacts::of_element(self.style.plan, self.style.all, place, element));
     }
 
     fn end_of_contents(&mut self, place: Place) {
@@ -141,78 +176,51 @@ impl<W: Output> Rows for Printer<'_, W> {
     }
 
     fn not_drawn(&mut self, place: Place, expected: &[Component], len: usize, content: &[u8]) {
-        self.tell(&RowFacts::of_not_drawn(self.plan, place, expected, len, content));
+        self.tell(&RowFacts::of_not_drawn(self.style.plan, place, expected, len, content));
     }
 
-    ghost nothing = { λ a. (
-      refl,
-      refl,
-      refl,
-      has_written_none W.appends W.nothing a.error a.writer.now,
-    ) };
+    ghost nothing = { λ a. (refl, refl, λ _ none. (none, W.nothing a.writer.now)) };
 
     ghost joined = { λ a b c first second one two. (
       two.0 ∙ one.0,
       two.1 ∙ one.1,
-      two.2 ∙ one.2,
-      has_written_both W.appends W.joined a.plan b.plan a.all b.all first second a.error b.error
-          c.error a.writer.now b.writer.now c.writer.now one.1 one.2 one.3 two.3,
+      λ plain. has_written_both W.appends W.joined a.style b.style first second a.error b.error
+          c.error a.writer.now b.writer.now c.writer.now one.1 plain (one.2 plain) two.2,
     ) };
 }
 
-/// Writes the lines of a row, unless it is of no bytes, and has no mark.
+/// Writes the lines of a row, unless it is of no bytes, and has no mark: its own, those of its
+/// content, if that one doesn't say all of it, and its marks.
 #[tactic(auto, unfolding(crate::specs::Printing::told_lines))]
-fn write_told<W: Output>(writer: &mut W, row: &RowFacts) -> Result<(), W::Error>
+fn write_row<W: Output>(writer: &mut W, row: &RowFacts) -> Result<(), W::Error>
     ensures { OnOk result
         (W.appends writer.old writer.new (lines_text (told_lines (row_view row.now)))) }
 {
-    if row.is_told() {
-        write_row(writer, row)
-    } else {
-        Ok(())
+    if !row.is_told() {
+        return Ok(());
     }
-}
-
-/// Writes the lines of a row: its own, those of its content, and its marks.
-fn write_row<W: Output>(writer: &mut W, row: &RowFacts) -> Result<(), W::Error>
-    ensures { OnOk result
-        (W.appends writer.old writer.new (lines_text (row_lines (row_view row.now)))) }
-{
     let line = row_line(row);
     write_line(writer, &line)?;
-    write_left(writer, row, line.len())?;
-    write_marks(writer, &row.marks, row.expected)
-}
-
-/// Writes the content of a row, if its line of this length doesn't say all of it.
-fn write_left<W: Output>(writer: &mut W, row: &RowFacts, len: usize) -> Result<(), W::Error>
-    ensures { OnOk result
-        (W.appends writer.old writer.new (lines_text (left_lines (row_view row.now) len))) }
-{
-    if row.is_said(len) {
-        Ok(())
-    } else {
-        write_content(writer, row.content)
+    if !row.is_said(line.len()) {
+        write_content(writer, row.content)?;
     }
+    write_marks(writer, &row.marks, row.expected)
 }
 
 /// Writes a content in lines of 16 bytes.
 fn write_content<W: Output>(writer: &mut W, content: &[u8]) -> Result<(), W::Error>
     ensures { OnOk result (W.appends writer.old writer.new
-        (lines_text (content_lines (line_count content.now) content.now))) }
+        (lines_text (content_lines content.now ((length content.now + 15) / 16)))) }
 {
-    let mut rest = content;
-    let mut left = content.len().div_ceil(BYTES_IN_LINE);
-    while left > 0 {
-        let (bytes, others) = split(rest, BYTES_IN_LINE);
+    for line in 0..content.len().div_ceil(BYTES_IN_LINE) {
+        let bytes = split(split(content, line * BYTES_IN_LINE).1, BYTES_IN_LINE).0;
         write_line(writer, &content_line(bytes))?;
-        rest = others;
-        left -= 1;
     }
     Ok(())
 }
 
 /// Returns the line of these bytes of a content.
+#[tactic(auto, using(crate::proofs::LineLemmas::kept_pieces))]
 fn content_line(bytes: &[u8]) -> Line
     ensures { result ≡ kept (spaces 25 ++ hex_words bytes.now) }
 {
@@ -241,6 +249,7 @@ fn write_marks<W: Output>(
 }
 
 /// Returns the line of a mark.
+#[tactic(auto, using(crate::proofs::LineLemmas::kept_pieces))]
 fn mark_line(mark: Mark, expected: &[Component]) -> Line
     ensures { result ≡ kept (codes "     ^ " ++ mark_words mark expected.now) }
 {

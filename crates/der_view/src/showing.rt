@@ -11,17 +11,15 @@ ghost use Rattle.der_view.specs.Sources.{source_len, source_view, text_len};
 use crate::characters::Characters;
 use crate::drawing::{is_read_as_key, known_of, reading_with, write_said, write_text};
 use crate::form::draw_rows;
-use crate::grammar::Component;
-use crate::json::{JsonRows, Object, mark_of, write_last, write_said_object};
+use crate::json::{Object, write_last, write_said_object};
 use crate::line::Line;
 use crate::output::Output;
 use crate::part::drawn_element;
-use crate::plan::{Plan, plan_of};
-use crate::printer::{Printer, write_line, write_rows};
+use crate::plan::plan_of;
+use crate::printer::{Printer, write_line};
 use crate::said::{Reading, file_note};
 use crate::sentences::Sentence;
 use crate::text::{Encoding, Found, Source, Sources, armour_of};
-use crate::walk::{Element, Place, Rows};
 
 /// What of an input is drawn, and how.
 #[derive(Clone, Copy)]
@@ -181,86 +179,20 @@ fn show_part<W: Output>(
     let plan = plan_of(bytes);
     let is_key = is_read_as_key(bytes);
     let known = known_of(plan, bytes);
-    let file = file_note(bytes);
+    let mut rows = Printer::new(writer, plan, options.all);
+    rows.style.is_json = options.json;
+    rows.style.levels = options.levels;
+    draw_rows(&mut rows, plan, bytes, options.all);
+    let mark = rows.mark;
+    rows.finish()?;
     if options.json {
-        let mut rows = JsonRows::new(writer, plan, options.all);
-        draw_levels(&mut rows, plan, bytes, options);
-        rows.finish()?;
-        write_said_object(writer, is_key, reading, file, &known, mark_of(plan, bytes))?;
-        return Ok(is_key);
+        write_said_object(writer, is_key, reading, file_note(bytes), &known, mark)?;
+    } else {
+        write_said(writer, is_key, reading, file_note(bytes), &known)?;
     }
     write_levels(writer, plan, bytes, options)?;
     write_said(writer, is_key, reading, file, &known)?;
     Ok(is_key)
-}
-
-/// Writes the rows of bytes of the levels that are asked for.
-fn write_levels<W: Output>(
-    writer: &mut W,
-    plan: Plan,
-    bytes: &[u8],
-    options: &Options,
-) -> Result<(), W::Error>
-    ensures { are_plain options.now ≡ true → OnOk result (W.appends writer.old writer.new
-        (rows_text plan options.now.all (rows_by plan options.now.all bytes.now))) }
-{
-    if options.levels == 0 {
-        return write_rows(writer, plan, bytes, options.all);
-    }
-    let mut rows = Printer::new(writer, plan, options.all);
-    draw_levels(&mut rows, plan, bytes, options);
-    rows.finish()
-}
-
-/// Tells the rows of bytes of the levels that are asked for.
-fn draw_levels<R: Rows>(rows: &mut R, plan: Plan, bytes: &[u8], options: &Options) {
-    let mut outer = OuterRows {
-        rows,
-        levels: options.levels,
-    };
-    draw_rows(&mut outer, plan, bytes, options.all);
-}
-
-/// Tells rows on, if fewer elements are around them than there are levels, or there is no limit.
-#[derive(Drop)]
-struct OuterRows<'a, R: Rows> {
-    /// Who is told.
-    rows: &'a mut R,
-    /// The number of levels; 0 for no limit.
-    levels: usize,
-}
-
-impl<R: Rows> OuterRows<'_, R> {
-    /// Returns `true` if a row at this place is told.
-    fn tells_at(&self, place: Place) -> bool {
-        self.levels == 0 || place.depth < self.levels
-    }
-}
-
-impl<R: Rows> Rows for OuterRows<'_, R> {
-    ghost tells = { λ _ _ _. Unit {0} };
-
-    fn element(&mut self, place: Place, element: &Element) {
-        if self.tells_at(place) {
-            self.rows.element(place, element);
-        }
-    }
-
-    fn end_of_contents(&mut self, place: Place) {
-        if self.tells_at(place) {
-            self.rows.end_of_contents(place);
-        }
-    }
-
-    fn not_drawn(&mut self, place: Place, expected: &[Component], len: usize, content: &[u8]) {
-        if self.tells_at(place) {
-            self.rows.not_drawn(place, expected, len, content);
-        }
-    }
-
-    ghost nothing = { λ _. tt };
-
-    ghost joined = { λ _ _ _ _ _ _ _. tt };
 }
 
 /// Writes the first object of the picture of a source, in which `found` was found.

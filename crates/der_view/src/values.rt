@@ -1,22 +1,23 @@
 //! What is shown of the content of a primitive element.
-ghost use Rattle.std.specs.Prelude.{◌≡◌, option_map};
-ghost use Rattle.der_view.specs.Values.{bit_string_text, bits_or_count, class_value, field_value};
-ghost use Rattle.der_view.specs.Values.{arcs_by, century, generalized_time_or_count};
-ghost use Rattle.der_view.specs.Values.{identifier_or_count, null_value};
-ghost use Rattle.der_view.specs.Values.{string_or_count, text_or_count, universal_value, value_by};
-ghost use Rattle.der_view.specs.Values.{utc_time_or_count, value_view};
+ghost use Rattle.std.specs.Prelude.{◌≡◌, ◌<◌, ◌≤◌, ◌^◌, length, option_map};
+ghost use Rattle.sec1_der.specs.Elements.{number_of};
 ghost use Rattle.der_view.specs.Characters.{string_codes};
+ghost use Rattle.der_view.specs.Values.{String, bits_value, boolean_value, integer_text, time_value};
+ghost use Rattle.der_view.specs.Values.{universal_value, value_by, value_view};
 
 mod arcs;
-mod short;
 mod text;
 
 use crate::characters::Characters;
 use crate::header::{Class, Tag};
-use crate::names::name_of;
+use crate::names::{name_of, split};
 pub use arcs::Arcs;
+use arrayvec::ArrayString;
 use der_types::kind::{GeneralizedTime, Kind, UtcTime, VisibleString};
-pub use short::ShortText;
+use itoa::Buffer;
+
+/// A short text.
+pub type ShortText = ArrayString<40>;
 
 /// What is shown of the content of a primitive element.
 #[derive(Drop)]
@@ -47,125 +48,132 @@ pub enum Value<'a> {
 pub fn value_of<'a>(tag: Tag, content: &'a [u8]) -> Value<'a>
     ensures { value_view result ≡ value_by tag content.now }
 {
-    match tag.class {
+    let value = match tag.class {
         Class::Universal => universal_value(tag.number, content),
-        _ => field_value(content),
+        // A field of another type: its characters, if it has some and all print.
+        _ if !content.is_empty() && VisibleString::test(content) => {
+            Some(Value::String(Characters::latin1(content)))
+        }
+        _ => None,
+    };
+    match value {
+        Some(value) => value,
+        None => Value::Count(content.len()),
     }
 }
 
-/// Returns what is shown of a field of another type: its characters, if it has some and all print.
-fn field_value<'a>(content: &'a [u8]) -> Value<'a>
-    ensures { value_view result ≡ field_value content.now }
-{
-    if content.is_empty() || !VisibleString::test(content) {
-        Value::Count(content.len())
-    } else {
-        Value::String(Characters::latin1(content))
-    }
-}
-
-/// Returns what is shown of the content of a type of X.680.
-fn universal_value<'a>(number: u32, content: &'a [u8]) -> Value<'a>
-    ensures { value_view result ≡ universal_value number content.now }
+/// Returns what is shown of the content of a type of X.680; `None` if it is the number of bytes
+/// alone.
+#[tactic(auto, using(crate::proofs::ValueLemmas::values))]
+fn universal_value<'a>(number: u32, content: &'a [u8]) -> Option<Value<'a>>
+    ensures { option_map value_view result ≡ universal_value number content.now }
 {
     match number {
-        1 => text_or_count(short::boolean(content), content),
-        2 | 10 => text_or_count(short::integer(content), content),
+        1 => boolean(content),
+        2 | 10 => Some(Value::Text(integer(content)?)),
         3 => bits(content),
-        5 => null_value(content),
-        6 => identifier(content),
-        23 => utc_time(content),
-        24 => generalized_time(content),
-        _ => string_or_count(number, content),
+        5 if content.is_empty() => Some(Value::Nothing),
+        6 => Some(Value::Identifier(name_of(content), Arcs::new(content)?)),
+        // The years from 50 on are in the twentieth century (RFC 5280 section 4.1.2.5.1).
+        23 if UtcTime::test(content) && content[0] >= b'5' => Some(time(b"19", content)),
+        23 if UtcTime::test(content) => Some(time(b"20", content)),
+        24 if GeneralizedTime::test(content) => Some(time(&content[..2], split(content, 2).1)),
+        _ => string(number, content),
     }
 }
 
-/// Returns what is shown of a NULL.
-fn null_value<'a>(content: &'a [u8]) -> Value<'a>
-    ensures { value_view result ≡ null_value content.now }
+/// Returns what is shown of a BOOLEAN: one byte, in BER (X.690 section 8.2).
+fn boolean<'a>(content: &'a [u8]) -> Option<Value<'a>>
+    ensures { option_map value_view result ≡ boolean_value content.now }
 {
-    if content.is_empty() {
-        Value::Nothing
-    } else {
-        Value::Count(content.len())
+    match content {
+        [0] => Some(Value::Text(short("FALSE"))),
+        [_] => Some(Value::Text(short("TRUE"))),
+        _ => None,
     }
 }
 
-/// Returns the short text, or else the number of bytes.
-fn text_or_count<'a>(text: Option<ShortText>, content: &'a [u8]) -> Value<'a>
-    ensures { value_view result
-        ≡ text_or_count (option_map (λ text. text.bytes) text) content.now }
+/// Returns a short text.
+fn short(text: &str) -> ShortText
+    requires { length text.now ≤ 40 }
+    ensures { result.bytes ≡ text.now }
 {
-    match text {
-        Some(text) => Value::Text(text),
-        None => Value::Count(content.len()),
-    }
+    let mut short = ShortText::new();
+    short.push_str(text);
+    short
 }
 
-/// Returns what is shown of a BIT STRING: its bits, if there are at most 24.
-fn bits<'a>(content: &'a [u8]) -> Value<'a>
-    ensures { value_view result ≡ bits_or_count (bit_string_text content.now) content.now }
+/// Returns a number in two's complement (X.690 section 8.3.3) in decimal digits; `None` if it has
+/// no byte, or more than eight.
+#[tactic(auto, using(crate::proofs::ValueLemmas::integers))]
+fn integer(content: &[u8]) -> Option<ShortText>
+    ensures { option_map (λ text. text.bytes) result ≡ integer_text content.now }
 {
-    match short::bits(content) {
-        Some(text) => Value::Text(text),
-        None => match content {
-            [] => Value::Count(0),
-            [unused, bytes @ ..] => Value::Bits {
-                count: bytes.len(),
-                unused: *unused,
-            },
-        },
+    if content.is_empty() || content.len() > 8 {
+        return None;
     }
+    let (number, end) = magnitude(content);
+    if content[0] < 0x80 {
+        return Some(short(Buffer::new().format(number)));
+    }
+    let mut text = short("-");
+    text.push_str(Buffer::new().format(end - number));
+    Some(text)
 }
 
-/// Returns what is shown of an OBJECT IDENTIFIER.
-fn identifier<'a>(content: &'a [u8]) -> Value<'a>
-    ensures { value_view result ≡ identifier_or_count (arcs_by content.now) content.now }
+/// Returns the number whose digits in base 256 are these, and 256 to the power of their number.
+#[tactic(auto, using(der_types::proofs::UnsignedLemmas::digit_steps))]
+fn magnitude(digits: &[u8]) -> (u128, u128)
+    requires { length digits.now ≤ 8 }
+    ensures number { result.0 ≡ number_of digits.now }
+    ensures end { result.1 ≡ 256 ^ length digits.now }
+    ensures below { result.0 < result.1 }
 {
-    match Arcs::new(content) {
-        Some(arcs) => Value::Identifier(name_of(content), arcs),
-        None => Value::Count(content.len()),
+    let mut number: u128 = 0;
+    let mut end: u128 = 1;
+    for digit in digits {
+        number = number * 256 + u128::from(*digit);
+        end *= 256;
     }
+    (number, end)
 }
 
-/// Returns what is shown of a UTCTime, whose years from 50 on are in the twentieth century
-/// (RFC 5280 section 4.1.2.5.1).
-#[tactic(auto, using(der_types::proofs::TimeLaws::utc_digits))]
-fn utc_time<'a>(content: &'a [u8]) -> Value<'a>
-    ensures { value_view result ≡ utc_time_or_count content.now }
+/// Returns what is shown of a BIT STRING (X.690 section 8.6.2): its bits, the first one first, if
+/// they are in one to three bytes.
+fn bits<'a>(content: &'a [u8]) -> Option<Value<'a>>
+    ensures { option_map value_view result ≡ bits_value content.now }
 {
-    if !UtcTime::test(content) {
-        return Value::Count(content.len());
+    let (unused, bytes) = content.split_first()?;
+    let (count, unused) = (bytes.len(), *unused);
+    if unused > 7 || count == 0 || count > 3 {
+        return Some(Value::Bits { count, unused });
     }
-    let time = short::date_time(century(content[0]), &content[..12]);
-    Value::Time(time, &content[12..])
+    let mut text = ShortText::new();
+    for place in 0..8 * count - usize::from(unused) {
+        let is_set = (bytes[place / 8] >> (7 - place % 8)) % 2 == 1;
+        text.push_str(if is_set { "1" } else { "0" });
+    }
+    Some(Value::Text(text))
 }
 
-/// Returns the first two digits of the year that has this digit as its third.
-fn century(digit: u8) -> &'static [u8]
-    ensures { result.now ≡ century digit }
+/// Returns the characters of a string of this type; `None` of another type.
+fn string<'a>(number: u32, content: &'a [u8]) -> Option<Value<'a>>
+    ensures { option_map value_view result
+        ≡ option_map String (string_codes number content.now) }
 {
-    if digit < b'5' { b"20" } else { b"19" }
+    Some(Value::String(Characters::of_string(number, content)?))
 }
 
-/// Returns what is shown of a GeneralizedTime.
-fn generalized_time<'a>(content: &'a [u8]) -> Value<'a>
-    ensures { value_view result ≡ generalized_time_or_count content.now }
+/// Returns a time to the second, and what follows it, from the first two digits of the year and
+/// what comes after them.
+fn time<'a>(century: &[u8], rest: &'a [u8]) -> Value<'a>
+    requires two { 2 ≤ length century.now }
+    requires twelve { 12 ≤ length rest.now }
+    ensures { value_view result ≡ time_value century.now rest.now }
 {
-    if !GeneralizedTime::test(content) {
-        return Value::Count(content.len());
-    }
-    let time = short::date_time(&content[..2], &content[2..14]);
-    Value::Time(time, &content[14..])
-}
-
-/// Returns what is shown of a string of characters, or of another type.
-fn string_or_count<'a>(number: u32, content: &'a [u8]) -> Value<'a>
-    ensures { value_view result
-        ≡ string_or_count (string_codes number content.now) content.now }
-{
-    match Characters::of_string(number, content) {
-        Some(characters) => Value::String(characters),
-        None => Value::Count(content.len()),
-    }
+    let time = [
+        century[0], century[1], rest[0], rest[1], b'-', rest[2], rest[3], b'-', rest[4], rest[5],
+        b' ', rest[6], rest[7], b':', rest[8], rest[9], b':', rest[10], rest[11],
+    ];
+    Value::Time(time, split(rest, 12).1)
 }

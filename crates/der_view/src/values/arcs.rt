@@ -1,6 +1,6 @@
 //! The arcs of an identifier.
-ghost use Rattle.std.specs.Prelude.{◌≡◌, ◌∷◌, ◌<◌, [], Bool, ℕ, List, IfSome, MatchOption};
-ghost use Rattle.std.specs.Prelude.{length, option_map, true};
+ghost use Rattle.std.specs.Prelude.{◌≡◌, ◌∷◌, [], Bool, ℕ, List, IfSome, MatchOption};
+ghost use Rattle.std.specs.Prelude.{option_map, true};
 ghost use Rattle.std.specs.List.{list_all};
 ghost use Rattle.sec1_der.specs.Identifiers.{arcs_of_numbers, numbers_after};
 ghost use Rattle.der_types.specs.ObjectIdentifiers.{are_subidentifiers};
@@ -26,10 +26,13 @@ impl<'a> Arcs<'a> {
     pub fn new(content: &'a [u8]) -> Option<Arcs<'a>>
         ensures { option_map arcs_view result ≡ arcs_by content.now }
     {
-        if !ObjectIdentifier::test(content) || !fit(content) {
+        if !ObjectIdentifier::test(content) {
             return None;
         }
         let (number, further) = split_subidentifier(0, content)?;
+        if !fit(further) {
+            return None;
+        }
         let (first, second) = first_arcs(number);
         Some(Arcs {
             first,
@@ -82,7 +85,6 @@ fn fit(bytes: &[u8]) -> bool
 fn split_subidentifier(high: u128, bytes: &[u8]) -> Option<(u128, &[u8])>
     ensures next { MatchOption result (numbers_below high bytes.now ≡ [])
         (λ split. numbers_below high bytes.now ≡ split.0 ∷ numbers_below 0 split.1.now) }
-    ensures shorter { IfSome result (λ split. length split.1.now < length bytes.now) }
     ensures all { IfSome result (λ split. list_all is_u128 (numbers_after high bytes.now)
         ≡ list_all is_u128 (numbers_after 0 split.1.now)) }
     ensures valid { IfSome result (λ split. (begins : Bool)

@@ -1,11 +1,13 @@
 //! What is shown of a content, in a line.
-ghost use Rattle.std.specs.Prelude.{◌≡◌, ◌++◌, codes, option_map, true};
+#![tactic(auto, using(crate::proofs::LineLemmas::kept_pieces))]
+
+ghost use Rattle.std.specs.Prelude.{◌≡◌, ◌++◌, true};
 ghost use Rattle.std.specs.Fmt.{decimal, digits};
 ghost use Rattle.sec1_der.specs.Identifiers.{dotted};
 ghost use Rattle.der_view.specs.Characters.{codes_of, escaped, escaped_all};
 ghost use Rattle.der_view.specs.Lines.{kept};
-ghost use Rattle.der_view.specs.Values.{arcs_view, count_text, identifier_text, one_or_more};
-ghost use Rattle.der_view.specs.Values.{unused_text, value_text, value_view};
+ghost use Rattle.der_view.specs.Values.{arcs_view, number_of_text};
+ghost use Rattle.der_view.specs.Values.{value_text, value_view};
 
 use super::{Arcs, Value};
 use crate::characters::Characters;
@@ -19,16 +21,33 @@ impl Line {
     {
         match value {
             Value::Nothing => self.push_str(""),
-            Value::Count(count) => self.push_count(*count),
+            Value::Count(count) => self.push_number_of(*count, " byte"),
             Value::Bits { count, unused } => {
-                self.push_count(*count);
+                self.push_number_of(*count, " byte");
                 if *unused > 0 {
-                    self.push_unused(*unused);
+                    self.push_number_of(usize::from(*unused), " unused bit");
                 }
             }
-            Value::Text(text) => self.push_text(text.as_str().as_bytes(), b""),
-            Value::Time(time, end) => self.push_text(time, *end),
-            Value::Identifier(name, arcs) => self.push_identifier(*name, *arcs),
+            Value::Text(text) => {
+                self.push_byte(b' ');
+                self.push_str(text.as_str());
+            }
+            Value::Time(time, end) => {
+                self.push_byte(b' ');
+                self.push_bytes(time);
+                self.push_bytes(*end);
+            }
+            Value::Identifier(None, arcs) => {
+                self.push_byte(b' ');
+                self.push_arcs(*arcs);
+            }
+            Value::Identifier(Some(name), arcs) => {
+                self.push_byte(b' ');
+                self.push_bytes(*name);
+                self.push_str(" (");
+                self.push_arcs(*arcs);
+                self.push_byte(b')');
+            }
             Value::String(characters) => {
                 self.push_str(" \"");
                 self.push_characters(*characters);
@@ -37,52 +56,18 @@ impl Line {
         }
     }
 
-    /// Appends a space, a text and its end.
-    fn push_text(&mut self, text: &[u8], end: &[u8])
-        ensures { self.new ≡ kept (self.old ++ (codes " " ++ (text.now ++ end.now))) }
-    {
-        self.push_byte(b' ');
-        self.push_bytes(text);
-        self.push_bytes(end);
-    }
-
-    /// Appends a space, and the arcs of an identifier, after its name if it has one.
-    fn push_identifier(&mut self, name: Option<&'static [u8]>, arcs: Arcs<'_>)
-        ensures { self.new ≡ kept (self.old
-            ++ (codes " " ++ identifier_text (option_map (λ name. name.now) name.entry)
-            (arcs_view arcs.entry))) }
-    {
-        self.push_byte(b' ');
-        match name {
-            None => self.push_arcs(arcs),
-            Some(name) => {
-                self.push_bytes(name);
-                self.push_str(" (");
-                self.push_arcs(arcs);
-                self.push_byte(b')');
-            }
-        }
-    }
-
-    /// Appends a number of bytes, as `, 1 byte` or `, 9 bytes`.
-    pub fn push_count(&mut self, count: usize)
-        ensures { self.new ≡ kept (self.old ++ count_text count) }
+    /// Appends a number of such things, as `, 1 byte` or `, 9 bytes`.
+    pub(crate) fn push_number_of(&mut self, count: usize, thing: &str)
+        ensures { self.new ≡ kept (self.old ++ number_of_text count thing.now) }
     {
         self.push_str(", ");
         self.push_decimal(count);
-        self.push_str(one_or_more(count, " byte", " bytes"));
-    }
-
-    /// Appends a number of unused bits of a BIT STRING, as `, 3 unused bits`.
-    pub fn push_unused(&mut self, unused: u8)
-        ensures { self.new ≡ kept (self.old ++ unused_text unused) }
-    {
-        self.push_str(", ");
-        self.push_decimal(unused as usize);
-        self.push_str(one_or_more(unused as usize, " unused bit", " unused bits"));
+        self.push_str(thing);
+        self.push_str(if count == 1 { "" } else { "s" });
     }
 
     /// Appends the arcs of an identifier, joined by full stops.
+    #[tactic(auto, using(crate::proofs::TextLemmas::arcs))]
     pub fn push_arcs(&mut self, arcs: Arcs<'_>)
         ensures { self.new ≡ kept (self.old ++ dotted (arcs_view arcs.entry)) }
     {
@@ -107,6 +92,7 @@ impl Line {
     }
 
     /// Appends characters; those that don't print in ASCII, `"` and `\` are escaped.
+    #[tactic(auto, using(crate::proofs::LineLemmas::until_full))]
     pub fn push_characters(&mut self, characters: Characters<'_>)
         ensures { self.new ≡ kept (self.old ++ escaped_all (codes_of characters.entry)) }
     {
@@ -121,13 +107,12 @@ impl Line {
 
     /// Appends a character: as itself if it prints in ASCII, `"` and `\` after a `\`, and another
     /// one by its code, as `\u{E4}`.
+    #[tactic(auto, using(crate::proofs::TextLemmas::characters))]
     fn push_character(&mut self, character: u32)
         ensures { self.new ≡ kept (self.old ++ escaped character) }
     {
-        if character == 0x22 {
-            self.push_str("\\\"");
-        } else if character == 0x5C {
-            self.push_str("\\\\");
+        if character == 0x22 || character == 0x5C {
+            self.push_bytes(&[b'\\', character as u8]);
         } else if character >= 0x20 && character <= 0x7E {
             self.push_byte(character as u8);
         } else {
@@ -138,19 +123,18 @@ impl Line {
     }
 
     /// Appends a number in hexadecimal digits, without zeros in front.
+    #[tactic(auto, using(crate::proofs::TextLemmas::characters))]
     fn push_code(&mut self, number: u32)
         ensures { self.new ≡ kept (self.old ++ digits 16 true number) }
     {
         if number >= 16 {
             self.push_code(number / 16);
         }
-        self.push_digit((number % 16) as u8);
+        let digit = (number % 16) as u8;
+        self.push_byte(if digit < 10 {
+            b'0' + digit
+        } else {
+            b'A' + (digit - 10)
+        });
     }
-}
-
-/// Returns the words for one of a thing, or for another number of them.
-fn one_or_more(count: usize, one: &'static str, more: &'static str) -> &'static str
-    ensures { result.now ≡ one_or_more count one.now more.now }
-{
-    if count == 1 { one } else { more }
 }

@@ -1,6 +1,6 @@
 use Rattle.std.proofs.Common.{◌≡◌, length}
 use Rattle.der_view.specs.Values.{bits_text}
-use Rattle.der_view.proofs.values.short.bit_digits.Given as goal
+use Rattle.der_view.proofs.values.bits.Given as goal
 
 abbrev pub invariant-loop-place : goal.invariant-loop-place
 invariant-loop-place l = record {

@@ -1,6 +1,0 @@
-use Rattle.der_view.proofs.LineLemmas.{kept-next}
-use Rattle.der_view.proofs.line.Line.push_indent.Goals as goal
-
-pub returns : goal.returns
-returns c =
-    kept-next c.args.self.now _ _ _ _ (rw c.min.ensures at c.push_spaces.ensures) c.push_level.ensures

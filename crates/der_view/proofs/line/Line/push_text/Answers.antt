@@ -1,5 +1,0 @@
-use Rattle.der_view.proofs.LineLemmas.{kept-three}
-use Rattle.der_view.proofs.line.Line.push_text.Goals as goal
-
-pub returns : goal.returns
-returns c = kept-three c.args.self.now _ _ _ _ _ _ c.push_byte.ensures c.push_bytes.ensures c.push_bytes-2.ensures
