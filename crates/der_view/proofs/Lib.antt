@@ -6,7 +6,6 @@ pub mod DerLemmas
 pub mod DrawingLemmas
 pub mod EncodedLemmas
 pub mod FaultLemmas
-pub mod FaultWalkLemmas
 pub mod HeaderLemmas
 pub mod KeyFormLemmas
 pub mod KeyLemmas
