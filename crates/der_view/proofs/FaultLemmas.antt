@@ -1,14 +1,13 @@
 -- The kinds at the places: each is that by which the reader refuses the bytes. And a step of the walk.
-use Rattle.std.proofs.Common.{◌≡◌, ◌≢◌, ◌==◌, ◌||◌, ◌&&◌, ◌∷◌, [], ◌++◌, ◌∙◌, ℕ, zero, suc, ◌+◌, ◌-◌, ◌≤◌, ◌<◌, List, Bool}
-use Rattle.std.proofs.Common.{true, false, length, drop, get_or, refl, sym, subst, if◌then◌else◌, Option, Some, None, Result, Ok}
-use Rattle.std.proofs.Common.{Err, arith}
-use Rattle.std.proofs.lemmas.Bool.{and_parts, eqb-true}
+use Rattle.std.proofs.Common.{◌≡◌, ◌≢◌, ◌==◌, ◌||◌, ◌∷◌, [], ◌++◌, ℕ, zero, suc, ◌+◌, ◌-◌, ◌≤◌, List, Bool, true, false}
+use Rattle.std.proofs.Common.{length, refl, subst, if◌then◌else◌, Option, Some, None, Result, Ok, Err, arith}
+use Rattle.std.proofs.lemmas.Bool.{eqb-true}
 use Rattle.std.proofs.lemmas.Bool.Decides.{nat_tests}
 use Rattle.std.proofs.lemmas.List.{length-drop}
 use Rattle.std.specs.Option.{option_and_then, option_or}
 use Rattle.der_types.proofs.KindLaws.{other_says, set_says}
 use Rattle.der_types.specs.AnyElements.{all_tags, among_all, any_element_fault}
-use Rattle.der_types.specs.Choices.{choice_fault, optional_part_fault}
+use Rattle.der_types.specs.Choices.{optional_part_fault}
 use Rattle.der_types.specs.Sequences.{elements_fault, is_ascending, sequence_fault, set_fault}
 use Rattle.der_types.specs.Times.{is_generalized_time, is_utc_time}
 use Rattle.pkix.proofs.KindLaws.{attribute_says, key_attribute_says}
@@ -19,28 +18,21 @@ use Rattle.sec1_der.proofs.ForestFaultLemmas.{forest_at, forest_deep, forest_som
 use Rattle.sec1_der.proofs.KindLaws as laws
 use Rattle.sec1_der.proofs.KindLaws.{bits_says, byte_says, identifier_says, none_says, test_says, whole_says}
 use Rattle.sec1_der.specs.Contents.{value_unless, whole_bits_fault, whole_bits_field_fault}
-use Rattle.sec1_der.specs.Contents as contents
 use Rattle.sec1_der.specs.Elements.{IsHeader, element, is_constructed, is_tag}
 use Rattle.sec1_der.specs.Faults.{Fault, SaysKinds, any_fault, content_at, element_fault, end_fault, nested_fault}
 use Rattle.sec1_der.specs.Faults.{no_fault, optional_fault, parts_fault, tree_fault}
 use Rattle.sec1_der.specs.declared.error.ErrorKind.{ErrorKind}
 use Rattle.sec1_der.specs.declared.error.ErrorKind.TheVariants.{Truncated, Tag, TrailingData, Depth}
 use Rattle.der_view.specs.Containers.{container_fault, has_version_one}
-use Rattle.der_view.specs.FaultPlaces.{Component, IsPlaceOf, Place, after, at_end, at_first, before, certificate_place, comes}
+use Rattle.der_view.specs.FaultPlaces.{Component, IsPlaceOf, Place, at_end, at_first, before, certificate_place}
 use Rattle.der_view.specs.FaultPlaces.{container_place, content_place, element_at, fits, key_place, level_place}
-use Rattle.der_view.specs.FaultPlaces.{own_place, parts_at, parts_place, place_of, placed, public_key_place, row_place}
-use Rattle.der_view.specs.FaultPlaces.{signature_place, time_fault, tree_place}
+use Rattle.der_view.specs.FaultPlaces.{own_fault, own_place, parts_at, parts_place, place_of, placed, public_key_place}
+use Rattle.der_view.specs.FaultPlaces.{row_place, signature_place, tree_place}
 use Rattle.der_view.specs.declared.faults.Position.{Position}
 use Rattle.der_view.specs.declared.faults.table.Rule.{Rule}
 use Rattle.der_view.specs.declared.faults.table.Rule.TheVariants as rules
 use Rattle.der_view.specs.declared.faults.table.TheConstants as table
 use Rattle.der_view.specs.declared.grammar.Presence.TheVariants.{Needed, Optional, Many}
-
-pub names_say : SaysKinds (set_fault 0x30 records.attribute_fault)
-names_say = set_says 0x30 records.attribute_fault attribute_says
-
-pub attributes_say : SaysKinds (set_fault 0x30 records.key_attribute_fault)
-attributes_say = set_says 0x30 records.key_attribute_fault key_attribute_says
 
 pub utc_says : SaysKinds (λ utc. value_unless (is_utc_time utc))
 utc_says = test_says is_utc_time
@@ -49,7 +41,7 @@ pub general_says : SaysKinds (λ general. value_unless (is_generalized_time gene
 general_says = test_says is_generalized_time
 
 -- what the types of contents say
-pub ruleset says = (names_say, attributes_say, utc_says, general_says)
+pub ruleset says = (set_says, attribute_says, key_attribute_says, utc_says, general_says)
 
 -- ---- one step of the walk
 
@@ -76,31 +68,6 @@ element_refused expected end first bytes tail kind is has refused =
         → parts_at first end tail found ≡ Err (before end tail kind)
     by (Err said) e = let same : said ≡ kind = cc in rw same refl
     by (Ok x) e = absurd (cc e)
-
--- at a level with these components
-pub level_step : (levels left : ℕ) (row : List Component) (end : ℕ) (bytes : List ℕ) → levels ≡ suc left
-    → level_place levels row end bytes
-    ≡ row_place (content_place (level_place left)) (length row + length bytes) row end bytes
-level_step levels left row end bytes is = rw is refl
-
--- where the first component doesn't come, and where it does
-pub row_passed : (content : Rule → ℕ → Place) (most left : ℕ) (row others : List Component) (d : Component) (end : ℕ)
-    (bytes : List ℕ) → most ≡ suc left → 0 < length row → others ≡ drop 1 row
-    → comes (get_or row 0 d).1 (get_or row 0 d).0 bytes ≡ false
-    → row_place content most row end bytes ≡ row_place content left others end bytes
-row_passed content most left [] others d end bytes is some tail absent = absurd (omega arith)
-row_passed content most left (c ∷ row) others d end bytes is some tail absent = rw (is, tail, absent) refl
-
-pub row_came : (content : Rule → ℕ → Place) (most left : ℕ) (row others : List Component) (d : Component)
-    (end tag : ℕ) (bytes inside rest : List ℕ) → most ≡ suc left → 0 < length row → others ≡ drop 1 row
-    → comes (get_or row 0 d).1 (get_or row 0 d).0 bytes ≡ true
-    → element_at (get_or row 0 d).0 end bytes ≡ Ok (tag, inside, rest)
-    → content (get_or row 0 d).2 tag (end - length rest) inside ≡ None
-    → row_place content most row end bytes
-    ≡ row_place content left (after (get_or row 0 d).1 row others) end rest
-row_came content most left [] others d end tag bytes inside rest is some tail there found none = absurd (omega arith)
-row_came content most left (c ∷ row) others d end tag bytes inside rest is some tail there found none =
-    rw (is, tail, there, found, none) refl
 
 -- ---- what a place says
 
@@ -199,8 +166,8 @@ row {levels} {c} {others} {f} none some = record { says = by }
 needed : {levels t : ℕ} {rule : Rule} {others : List Component} {f g : Fault} → IsTag t → RuleSays levels rule (λ _. f)
     → RowSays levels others g → RowSays levels ((t, Needed, rule) ∷ others) (element_fault t f g)
 needed {levels} {t} {rule} {others} {f} {g} same one two = row (λ most end few. here end [] Truncated)
-    (λ most end tag bytes few. rw (same tag) (element_says (rule_place levels rule) (rest_place levels most others) (λ _. f) g end tag bytes
-    (tag == t) (one tag) (λ rest less. two.says most end rest (omega arith))))
+    (λ most end tag bytes few. rw (same tag) (element_says (rule_place levels rule) (rest_place levels most others)
+    (λ _. f) g end tag bytes (tag == t) (one tag) (λ rest less. two.says most end rest (omega arith))))
 
 optional : {levels t : ℕ} {rule : Rule} {others : List Component} {f g : Fault} → IsTag t
     → RuleSays levels rule (λ _. f) → RowSays levels others g
@@ -213,7 +180,8 @@ optional {levels} {t} {rule} {others} {f} {g} same one two = row (λ most end fe
 any : {levels : ℕ} {rule : Rule} {others : List Component} {f : ℕ → Fault} {g : Fault} → RuleSays levels rule f
     → RowSays levels others g → RowSays levels ((0x00, Needed, rule) ∷ others) (any_fault f g)
 any {levels} {rule} {others} {f} {g} one two = row (λ most end few. here end [] Truncated)
-    (λ most end tag bytes few. element_says (rule_place levels rule) (rest_place levels most others) f g end tag bytes (is_tag tag) (one tag)
+    (λ most end tag bytes few. element_says (rule_place levels rule) (rest_place levels most others) f g end tag bytes
+    (is_tag tag) (one tag)
     (λ rest less. two.says most end rest (omega arith)))
 
 optional_any : {levels : ℕ} {rule : Rule} {others : List Component} {f : ℕ → Fault} {g : Fault}
@@ -229,19 +197,20 @@ timed : {levels : ℕ} {others : List Component} {g : Fault} → RowSays levels 
     → RowSays levels ((0x17, Needed, rules.Time) ∷ others) (records.time_fault g)
 timed {levels} {others} {g} two = row (λ most end few. here end [] Truncated)
     (λ most end tag bytes few. rw (same tag bytes (tag == 0x17) (tag == 0x18) refl refl)
-    (element_says (rule_place levels rules.Time) (rest_place levels most others) time_fault g end tag bytes (tag == 0x17 || tag == 0x18)
-    (one tag)
+    (element_says (rule_place levels rules.Time) (rest_place levels most others) (own_fault rules.Time) g end tag bytes
+    (tag == 0x17 || tag == 0x18) (one tag)
     (λ rest less. two.says most end rest (omega arith))))
   where
-    one : (tag : ℕ) → Places (at_first (time_fault tag)) (time_fault tag)
-    one tag = first_says (time_fault tag) (record {
+    one : (tag : ℕ) → Places (at_first (own_fault rules.Time tag)) (own_fault rules.Time tag)
+    one tag = first_says (own_fault rules.Time tag) (record {
       kind = λ time. laws.either_says (tag == 0x17) _ _
           (utc_says.kind time) (general_says.kind time);
     })
 
     same : (tag : ℕ) (bytes : List ℕ) (utc general : Bool) → tag == 0x17 ≡ utc → tag == 0x18 ≡ general
         → records.time_fault g (tag ∷ bytes)
-        ≡ (if tag == 0x17 || tag == 0x18 then parts_fault (time_fault tag) g (content_at bytes) else Some (Some Tag))
+        ≡ (if tag == 0x17 || tag == 0x18 then parts_fault (own_fault rules.Time tag) g (content_at bytes)
+        else Some (Some Tag))
     same tag bytes true general is other = rw (eqb-true tag 0x17 is) refl
     same tag bytes false true is other = rw (eqb-true tag 0x18 other) refl
     same tag bytes false false is other = rw (is, other) refl
@@ -259,8 +228,9 @@ repeated {levels} {t} {rule} {f} same one =
     by (suc n) (suc most) end [] less few = nowhere end
     by zero (suc most) end (tag ∷ bytes) less few = absurd (omega arith)
     by (suc n) (suc most) end (tag ∷ bytes) less few =
-        rw (same tag) (element_says (rule_place levels rule) (rest_place levels most ((t, Many, rule) ∷ [])) (λ _. f) (elements_fault t f n) end
-        tag bytes (tag == t) (one tag) (λ rest short. by n most end rest (omega arith) (omega arith)))
+        rw (same tag) (element_says (rule_place levels rule) (rest_place levels most ((t, Many, rule) ∷ [])) (λ _. f)
+        (elements_fault t f n) end tag bytes (tag == t) (one tag)
+        (λ rest short. by n most end rest (omega arith) (omega arith)))
 
 -- ---- contents
 
@@ -324,7 +294,7 @@ public_key l tag =
 
 attributes : RuleSays 62 rules.KeyAttributes (λ _. set_fault 0x30 records.key_attribute_fault)
 attributes tag =
-    ordered 61 rules.KeyAttribute records.key_attribute_fault attributes_say
+    ordered 61 rules.KeyAttribute records.key_attribute_fault (set_says _ _ key_attribute_says)
     (λ tag. only 60 table.KEY_ATTRIBUTE _ (needed (λ _. refl) identifier (needed (λ _. refl) anything (ends 60))))
 
 container : RuleSays 63 rules.Container (λ _. container_fault)
@@ -345,7 +315,8 @@ container tag end bytes = by (has_version_one bytes)
 name : RuleSays 61 rules.Name (λ _. records.names_fault)
 unfolding any_element_fault
 name tag =
-    only 60 table.NAME _ (repeated (λ _. refl) (λ tag. ordered 59 rules.NameAttribute records.attribute_fault names_say
+    only 60 table.NAME _ (repeated (λ _. refl) (λ tag. ordered 59 rules.NameAttribute records.attribute_fault
+    (set_says _ _ attribute_says)
     (λ tag. only 58 table.NAME_ATTRIBUTE _ (needed (λ _. refl) identifier (any (λ _. anything 0) (ends 58))))))
 
 extensions : RuleSays 61 rules.ExtensionsField
@@ -373,8 +344,8 @@ nested : (levels : ℕ) (f : Fault) → Places (level_place levels table.TREES) 
 nested levels f one tag end bytes = by (is_constructed tag)
   where
     by : (c : Bool) → IsPlaceOf (if c then f bytes else None) end
-        (option_or (option_and_then (λ inside. level_place levels inside end bytes) (if c then Some table.TREES else None))
-        None)
+        (option_or (option_and_then (λ inside. level_place levels inside end bytes)
+        (if c then Some table.TREES else None)) None)
     by true = rw (alone (level_place levels table.TREES end bytes)) (one end bytes)
     by false = nowhere end
 

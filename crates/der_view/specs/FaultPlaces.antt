@@ -128,11 +128,6 @@ inside_of rules.Extensions tag content = Some table.EXTENSIONS
 inside_of rules.Extension tag content = Some table.EXTENSION
 inside_of _ tag content = None
 
--- X.690 section 11.8, RFC 5280 section 4.1.2.5: a content of a UTCTime, or of a GeneralizedTime
-abbrev pub time_fault : ℕ → Fault
-time_fault tag time =
-    if tag == 0x17 then value_unless (is_utc_time time) else value_unless (is_generalized_time time)
-
 -- the fault of a content as a whole, which is tested after its components
 abbrev pub own_fault : Rule → ℕ → Fault
 own_fault rules.Zero tag = byte_fault 0
@@ -145,7 +140,9 @@ own_fault rules.True tag =
 own_fault rules.Bits tag = bit_string_fault
 own_fault rules.Identifier tag = identifier_fault
 own_fault rules.CurveName tag = contents.identifier_fault
-own_fault rules.Time tag = time_fault tag
+own_fault rules.Time tag = λ time.
+    if tag == 0x17 then value_unless (is_utc_time time)
+    else value_unless (is_generalized_time time)
 own_fault rules.RelativeName tag = set_fault 0x30 attribute_fault
 own_fault rules.KeyAttributes tag = set_fault 0x30 key_attribute_fault
 own_fault _ tag = no_fault

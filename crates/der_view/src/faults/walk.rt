@@ -126,13 +126,15 @@ fn decoded<'a, T: DecodeValue<'a> + Drop>(end: usize, content: &'a [u8]) -> Step
 /// # Errors
 ///
 /// Truncated, Tag or Length if the bytes begin with no such element.
+#[tactic(auto, using(crate::proofs::FaultLemmas::element_refused))]
 fn first_element(expected: u8, end: usize, bytes: &[u8]) -> Step<(u8, &[u8], &[u8])>
     requires { length bytes.now ≤ end }
     ensures found { MatchResult result
         (λ x. element_at expected end bytes.now ≡ Ok (x.0, x.1.now, x.2.now))
         (λ fault. element_at expected end bytes.now ≡ Err fault) }
     ensures within { IfOk result
-        (λ x. (length x.1.now + length x.2.now < length bytes.now) × (length x.1.now ≤ max_length)) }
+        (λ x. (length x.1.now + length x.2.now < length bytes.now)
+        × (length x.1.now ≤ max_length)) }
 {
     let Some((first, rest)) = bytes.split_first() else {
         return Err(before(end, bytes, ErrorKind::Truncated));
