@@ -1,33 +1,30 @@
--- The texts of an input's sources are together no longer than the input.
-use Rattle.std.proofs.Common.{◌≡◌, ℕ, zero, suc, ◌+◌, ◌-◌, ◌≤◌, ◌==◌, ◌&&◌, ◌||◌, Bool, true, false, cond, List}
-use Rattle.std.proofs.Common.{[]}
-use Rattle.std.proofs.Common.{◌∷◌}
-use Rattle.std.proofs.Common.{Option, Some, None, length, take, drop, refl, sym, ap, ◌∙◌, arith, length-append, codes}
-use Rattle.std.proofs.Common.{length-drop}
+-- The texts of an input's sources, and two bytes more for each, are together no longer than the input and two bytes.
+use Rattle.std.proofs.Common.{◌≡◌, ℕ, zero, suc, ◌+◌, ◌-◌, ◌≤◌, ◌==◌, ◌&&◌, ◌||◌, Bool, true, false, cond, List, []}
+use Rattle.std.proofs.Common.{◌∷◌, Option, Some, None, length, take, drop, refl, sym, ap, ◌∙◌, arith, length-append}
+use Rattle.std.proofs.Common.{codes, length-drop, inl, inr, min}
 use Rattle.std.proofs.lemmas.List.{take-take, length-take}
 use Rattle.std.proofs.lemmas.Slice.Eq.{bytes_eq-Decides}
-use Rattle.std.proofs.Common.{inl, inr, min}
 use Rattle.std.proofs.lemmas.Bool.{cases_Bool}
 use Rattle.std.specs.Char.{is_ascii_whitespace}
 use Rattle.std.specs.List.{list_any, suffix_len, after_first, before_first, concat, position_or_len}
 use Rattle.std.specs.Str.{bytes_eq}
 use Rattle.der_view.proofs.BlockLemmas.{concat-lines_of}
 use Rattle.der_view.specs.Blocks.{BlockView, begins_with_headers, blocks_in, body_of, is_boundary, is_empty_line}
-use Rattle.der_view.specs.Blocks.{is_key_of_openssl, is_of_private_key, label_of, line_text, lines_of, trimmed}
-use Rattle.der_view.specs.Blocks.{with_block}
+use Rattle.der_view.specs.Blocks.{is_line_end, is_key_of_openssl, is_of_private_key, label_of, line_text, lines_of}
+use Rattle.der_view.specs.Blocks.{trimmed, with_block}
 use Rattle.der_view.specs.Sources.{SourceView, Der, Pem, Text, blocks_or, has_begin, is_der, is_text, or_source}
 use Rattle.der_view.specs.Sources.{pem_sources, source_len, sources_by, sources_of, text_len, wide_note, without_mark}
 use Rattle.der_view.specs.declared.sentences.Sentence.{Sentence}
 
--- the length of the texts of sources
+-- the memory for what sources encode
 abbrev pub total_len : List SourceView → ℕ
 total_len [] = 0
-total_len (source ∷ sources) = source_len source + total_len sources
+total_len (source ∷ sources) = source_len source + 2 + total_len sources
 
--- the length of the bodies of blocks
+-- that for what blocks encode
 abbrev bodies_len : List BlockView → ℕ
 bodies_len [] = 0
-bodies_len (block ∷ blocks) = length block.body + bodies_len blocks
+bodies_len (block ∷ blocks) = length block.body + 2 + bodies_len blocks
 
 of_blocks : (reads : Bool) (blocks : List BlockView) → total_len (pem_sources reads blocks) ≡ bodies_len blocks
 of_blocks reads [] = refl
@@ -36,9 +33,9 @@ of_blocks reads (block ∷ blocks) =
     as (λ v. total_len
     (cond v (Pem block (reads && is_key_of_openssl block) ∷ pem_sources false blocks)
     (Pem block false ∷ pem_sources reads blocks))
-    ≡ length block.body + bodies_len blocks) [
-      | true ↦ ap (λ n. length block.body + n) (of_blocks false blocks)
-      | false ↦ ap (λ n. length block.body + n) (of_blocks reads blocks)
+    ≡ length block.body + 2 + bodies_len blocks) [
+      | true ↦ ap (λ n. length block.body + 2 + n) (of_blocks false blocks)
+      | false ↦ ap (λ n. length block.body + 2 + n) (of_blocks reads blocks)
     ]
 
 -- lines in two parts
@@ -62,8 +59,9 @@ body_within inside =
 abbrev from_boundary : List (List ℕ) → List (List ℕ)
 from_boundary lines = drop (position_or_len is_boundary lines) lines
 
--- a line that is a block's first one is a boundary
-first_is_boundary : (line label : List ℕ) → label_of (line_text line) ≡ Some label → is_boundary line ≡ true
+-- a line that is a block's first one is a boundary, and not short
+first_is_boundary : (line label : List ℕ) → label_of (line_text line) ≡ Some label
+    → (is_boundary line ≡ true) × (2 ≤ length line)
 first_is_boundary line label is =
     elim (cases_Bool (bytes_eq (take 11 (trimmed (line_text line))) (codes "-----BEGIN "))) [
       | inl passes ↦
@@ -76,7 +74,10 @@ first_is_boundary line label is =
           let front : take 5 text ≡ codes "-----" =
           sym (take-take 5 n text (omega arith))
           ∙ (sym (take-take 5 11 (take n text) (omega arith)) ∙ ap (λ t. take 5 t) same) in
-          rw front refl
+          let some : min 5 (length text) ≡ 5 = sym (length-take 5 text) ∙ ap length front in (
+            rw front refl,
+            omega (arith, length-take (position_or_len is_line_end line) line),
+          )
       | inr fails ↦ cc (rw fails at is)
     ]
 
@@ -104,7 +105,8 @@ one_block : (found : Option (List ℕ)) (number : ℕ) (line : List ℕ) (lines 
     → bodies_len (with_block found number lines blocks) ≤ length (concat (from_boundary (line ∷ lines)))
 one_block None number line lines blocks is fits = omega (arith, with_line line lines)
 one_block (Some label) number line lines blocks is fits =
-    rw (first_is_boundary line label is)
+    let (bounds, some) = first_is_boundary line label is in
+    rw bounds
     (omega (
       arith,
       fits,
@@ -121,12 +123,12 @@ blocks_total number (line ∷ lines) =
     (blocks_total (number + 1) lines)
 
 or_total : (most : ℕ) (other : SourceView) (sources : List SourceView) → source_len other ≤ most
-    → total_len sources ≤ most → total_len (or_source other sources) ≤ most
+    → total_len sources ≤ most → total_len (or_source other sources) ≤ most + 2
 or_total most other [] one fits = omega arith
-or_total most other (source ∷ sources) one fits = fits
+or_total most other (source ∷ sources) one fits = omega arith
 
 blocks_or_total : (most : ℕ) (other : SourceView) (text : List ℕ) → length text ≤ most → source_len other ≤ most
-    → total_len (blocks_or other text) ≤ most
+    → total_len (blocks_or other text) ≤ most + 2
 blocks_or_total most other text fits one =
     let reads : Bool = list_any (λ byte. byte == 0x0A) text in
     let lines : List (List ℕ) = lines_of text in
@@ -146,7 +148,7 @@ mark_within text =
     [ true ↦ omega (arith, length-drop 3 text) | false ↦ omega arith ]
 
 by_total : (is_der is_text begins : Bool) (note : Option Sentence) (input : List ℕ)
-    → total_len (sources_by is_der is_text begins note input) ≤ cond (is_text || begins) (length input) 0
+    → total_len (sources_by is_der is_text begins note input) ≤ cond (is_text || begins) (length input) 0 + 2
 by_total true is_text begins wide input = omega arith
 by_total false true begins wide input =
     blocks_or_total (length input) (Text (without_mark input)) (without_mark input) (mark_within input)
@@ -156,6 +158,6 @@ by_total false false true None input = blocks_or_total (length input) (Der input
 by_total false false false None input = omega arith
 
 -- the texts of the sources of an input
-pub sources_total : (input : List ℕ) → total_len (sources_of input) ≤ text_len input
+pub sources_total : (input : List ℕ) → total_len (sources_of input) ≤ text_len input + 2
 unfolding sources_of
 sources_total input = by_total (is_der input) (is_text input) (has_begin input) (wide_note input) input

@@ -1,10 +1,8 @@
 use Rattle.std.proofs.Common.{◌≡◌, ◌≤◌, ◌+◌, ◌-◌, ◌/◌, [], ◌∷◌, ◌++◌, List, length, refl, sym, ap, ◌∙◌, arith}
-use Rattle.std.proofs.Common.{append_assoc}
-use Rattle.std.proofs.Common.{subst}
+use Rattle.std.proofs.Common.{append_assoc, subst}
 use Rattle.std.proofs.lemmas.List.{length-take-le}
 use Rattle.std.specs.List.{flat_map}
 use Rattle.der_view.specs.Sources.{SourceView, source_view}
-use Rattle.sec1_c.proofs.DecodedLemmas.{decoded_within}
 use Rattle.sec1_c.proofs.PictureLineLemmas.{decoded-snoc, decoded_all, part_written, sources_lines-snoc}
 use Rattle.sec1_c.proofs.SourceLemmas.{sources_total, total_len}
 use Rattle.sec1_c.specs.PictureLines.{AreStored, IsDecodedAt, decoded_of, source_lines, sources_lines}
@@ -30,17 +28,16 @@ loop-source-preserved c =
     let more = c.push_source-used.result in
     let fits : more ≤ length new = omega (arith, c.push_source-used.ensures.within, c.push_source-used.auto.bytes) in
     let written =
-    part_written c.loop-source.used (length c.loop-source.bytes - c.loop-source.used) more c.loop-source.bytes new
-    c.loop-source.invariant.within fits in
+    part_written c.loop-source.used (c.loop-source.used + c.saturating_add-room_len.result - c.loop-source.used) more
+    c.loop-source.bytes new c.loop-source.invariant.within fits in
     let len : length (decoded_of source) ≡ more =
     sym (ap length c.push_source-used.ensures.decoded) ∙ length-take-le more new fits in
     let used : length (flat_map decoded_of done.0) ≡ c.loop-source.used =
     sym (ap length done.2) ∙ length-take-le c.loop-source.used c.loop-source.bytes c.loop-source.invariant.within in
-    let place : c.saturating_add-in-Some.result ≡ length c.loop-source.digits + length (flat_map decoded_of done.0) =
-    omega (arith, c.saturating_add-in-Some.ensures, used, c.loop-source.auto.digits, c.loop-source.auto.bytes) in
+    let place : c.saturating_add.result ≡ length c.loop-source.digits + length (flat_map decoded_of done.0) =
+    omega (arith, c.saturating_add.ensures, used, c.loop-source.auto.digits, c.loop-source.auto.bytes) in
     record {
       room =
-          let few = decoded_within source in
           let left = ap total_len c.in-Some.ensures in
           omega arith;
       within = written.1;
