@@ -1,7 +1,6 @@
 -- The lines of a picture in an array, and what they are of.
 use Rattle.std.proofs.Common.{◌≡◌, ℕ, ◌+◌, ◌-◌, ◌^◌, ◌<◌, ◌≤◌, ◌∙◌, List, [], ◌∷◌, ◌++◌, ap, arith, refl, sym, length}
 use Rattle.std.proofs.Common.{take, drop, min, inl, inr, length-append, append_assoc, append-nil, length-drop, add-zero}
-use Rattle.std.proofs.Common.{subst}
 use Rattle.std.proofs.Math.ListN.{set}
 use Rattle.std.proofs.Math.Seq.{drop-append_seam, drop-nil, set_out, take-append-add, take-nil}
 use Rattle.std.proofs.lemmas.Bool.{cases_lt}
@@ -11,8 +10,7 @@ use Rattle.std.proofs.lemmas.Slice.{take-put_mid}
 use Rattle.std.specs.List.{flat_map}
 use borrow.Rule.Slice.PartMut.{put_mid}
 use Rattle.der_view.specs.Sources.{SourceView, sources_of}
-use Rattle.sec1_c.specs.PictureLines.{Adds, GrowsBy, IsDecodedAt, decoded_of, source_lines, sources_lines}
-use Rattle.sec1_c.specs.declared.picture.lines.Lines.{Lines}
+use Rattle.sec1_c.specs.PictureLines.{Adds, IsDecodedAt, decoded_of, source_lines, sources_lines}
 use Rattle.sec1_c.specs.declared.picture.lines.PictureLine.{PictureLine}
 
 -- an array whose first elements are these lines, as many as it has room for
@@ -115,12 +113,3 @@ decoded_all before used input digits bytes done size within all decoded =
     let same : sources_of input ≡ done = all ∙ append-nil done in
     let len : length (flat_map decoded_of done) ≡ used = sym (ap length decoded) ∙ length-take-le used bytes within in
     rw (same, size, drop-append_seam digits bytes, len) decoded
-
--- a line was stored
-pub one_grows : (a b : Lines) (line : PictureLine) (lines : List PictureLine) → b.plan ≡ a.plan
-    → b.lines.ghost_name ≡ a.lines.ghost_name → Adds a.lines.now a.count b.lines.now b.count (line ∷ [])
-    → line ∷ [] ≡ lines → GrowsBy a b lines
-one_grows a b line lines plan place adds is = record {
-  plan = plan;
-  grows = record { place = place; adds = subst (Adds a.lines.now a.count b.lines.now b.count) is adds };
-}
