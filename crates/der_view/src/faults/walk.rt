@@ -20,11 +20,7 @@ use sec1_der::{
 type Step<T> = std::result::Result<T, Position>;
 
 /// Checks that the bytes, which end at this offset, are these components, with at most so many
-/// levels.
-///
-/// # Errors
-///
-/// The first fault from left to right.
+/// levels; or returns the first fault from left to right.
 #[cycle(check)]
 pub(super) fn check(levels: usize, components: &[Component], end: usize, bytes: &[u8]) -> Step<()>
     requires { length bytes.now ≤ end }
@@ -65,11 +61,8 @@ fn check_content(levels: usize, rule: Rule, tag: u8, end: usize, content: &[u8])
     check_own(rule, tag, end, content)
 }
 
-/// Checks a content, which ends at this offset, as a whole: its components have been checked.
-///
-/// # Errors
-///
-/// Value at its first byte, or at that of a BIT STRING with unused bits.
+/// Checks a content, which ends at this offset, as a whole: its components have been checked. It is
+/// refused at its first byte, or at that of a BIT STRING with unused bits.
 #[tactic(auto, using(crate::proofs::FaultLemmas::says))]
 fn check_own(rule: Rule, tag: u8, end: usize, content: &[u8]) -> Step<()>
     requires end { length content.now ≤ end }
@@ -102,11 +95,8 @@ fn check_own(rule: Rule, tag: u8, end: usize, content: &[u8]) -> Step<()>
     }
 }
 
-/// Checks that a content is one of a value of T, whose rule says the kinds of its errors.
-///
-/// # Errors
-///
-/// The kind by which T refuses the content, at its first byte.
+/// Checks that a content is one of a value of T, whose rule says the kinds of its errors. It is
+/// refused by this kind at its first byte.
 fn decoded<'a, T: DecodeValue<'a> + Drop>(end: usize, content: &'a [u8]) -> Step<()>
     requires says { SaysKinds T.fault }
     requires end { length content.now ≤ end }
@@ -121,11 +111,7 @@ fn decoded<'a, T: DecodeValue<'a> + Drop>(end: usize, content: &'a [u8]) -> Step
 }
 
 /// Returns the tag and the content of the element with this tag that the bytes begin with, and the
-/// bytes after it.
-///
-/// # Errors
-///
-/// Truncated, Tag or Length if the bytes begin with no such element.
+/// bytes after it; or Truncated, Tag or Length if they begin with none.
 #[tactic(auto, using(crate::proofs::FaultLemmas::element_refused))]
 fn first_element(expected: u8, end: usize, bytes: &[u8]) -> Step<(u8, &[u8], &[u8])>
     requires { length bytes.now ≤ end }
@@ -183,11 +169,7 @@ fn after<'a>(presence: Presence, again: &'a [Component], others: &'a [Component]
     }
 }
 
-/// Checks that there are no bytes.
-///
-/// # Errors
-///
-/// This kind if there are.
+/// Checks that there are no bytes; or returns this kind at the first one.
 fn finish(end: usize, bytes: &[u8], kind: ErrorKind) -> Step<()>
     requires { length bytes.now ≤ end }
     ensures { MatchResult result (λ _. at_end kind end bytes.now ≡ None)
