@@ -1,398 +1,406 @@
--- The kinds at the places: each is that by which the reader refuses the bytes.
-use Rattle.std.proofs.Common.{◌≡◌, ◌≢◌, ◌==◌, ◌∷◌, [], ℕ, zero, suc, ◌+◌, ◌-◌, ◌≤◌, ◌∙◌, List, Bool, true, false}
-use Rattle.std.proofs.Common.{length, refl, sym, if◌then◌else◌, Option, Some, None, Result, Ok, Err, arith}
+-- The kinds at the places: each is that by which the reader refuses the bytes. And a step of the walk.
+use Rattle.std.proofs.Common.{◌≡◌, ◌≢◌, ◌==◌, ◌||◌, ◌∷◌, [], ◌++◌, ℕ, zero, suc, ◌+◌, ◌-◌, ◌≤◌, List, Bool, true, false}
+use Rattle.std.proofs.Common.{length, refl, subst, if◌then◌else◌, Option, Some, None, Result, Ok, Err, arith}
 use Rattle.std.proofs.lemmas.Bool.{eqb-true}
-use Rattle.std.proofs.lemmas.List.{length-drop, length-take}
-use Rattle.std.specs.Prelude.{IfSome, option_map}
-use Rattle.std.specs.Option.{option_or}
+use Rattle.std.proofs.lemmas.Bool.Decides.{nat_tests}
+use Rattle.std.proofs.lemmas.List.{length-drop}
+use Rattle.std.specs.Option.{option_and_then, option_or}
 use Rattle.der_types.proofs.KindLaws.{other_says, set_says}
 use Rattle.der_types.specs.AnyElements.{all_tags, among_all, any_element_fault}
-use Rattle.der_types.specs.Choices.{choice_fault, optional_part_fault}
-use Rattle.der_types.specs.Contents.{is_boolean}
-use Rattle.der_types.specs.Integers.{is_integer, is_unsigned}
-use Rattle.der_types.specs.ObjectIdentifiers.{is_object_identifier}
+use Rattle.der_types.specs.Choices.{optional_part_fault}
 use Rattle.der_types.specs.Sequences.{elements_fault, is_ascending, sequence_fault, set_fault}
 use Rattle.der_types.specs.Times.{is_generalized_time, is_utc_time}
-use Rattle.pkix.specs.Records.{certificate_fault, public_key_fault, signature_fault}
-use Rattle.pkix.specs.Versions.{is_later_version}
+use Rattle.pkix.proofs.KindLaws.{attribute_says, key_attribute_says}
+use Rattle.pkix.specs.Records as records
 use Rattle.sec1.specs.KeyFaults.{key_fault}
+use Rattle.sec1_der.proofs.FaultLaws.{split_octets}
 use Rattle.sec1_der.proofs.ForestFaultLemmas.{forest_at, forest_deep, forest_some, tree_next}
-use Rattle.sec1_der.proofs.KindLaws.{bits_says, byte_says, end_says, identifier_says, none_says, test_says}
 use Rattle.sec1_der.proofs.KindLaws as laws
-use Rattle.sec1_der.specs.Contents.{value_unless, whole_bits_fault}
-use Rattle.sec1_der.specs.Elements.{is_constructed, is_tag}
-use Rattle.sec1_der.specs.Faults.{Fault, SaysKinds, any_fault, content_at, end_fault, nested_fault, no_fault}
-use Rattle.sec1_der.specs.Faults.{parts_fault}
-use Rattle.sec1_der.specs.Faults.{tree_fault}
-use Rattle.sec1_der.specs.Faults as r
+use Rattle.sec1_der.proofs.KindLaws.{bits_says, byte_says, identifier_says, none_says, test_says, whole_says}
+use Rattle.sec1_der.specs.Contents.{value_unless, whole_bits_fault, whole_bits_field_fault}
+use Rattle.sec1_der.specs.Elements.{IsHeader, element, is_constructed, is_tag}
+use Rattle.sec1_der.specs.Faults.{Fault, SaysKinds, any_fault, content_at, element_fault, end_fault, nested_fault}
+use Rattle.sec1_der.specs.Faults.{no_fault, optional_fault, parts_fault, tree_fault}
 use Rattle.sec1_der.specs.declared.error.ErrorKind.{ErrorKind}
-use Rattle.sec1_der.specs.declared.error.ErrorKind.TheVariants.{Truncated, Tag}
+use Rattle.sec1_der.specs.declared.error.ErrorKind.TheVariants.{Truncated, Tag, TrailingData, Depth}
 use Rattle.der_view.specs.Containers.{container_fault, has_version_one}
-use Rattle.der_view.specs.FaultPlaces.{Place, at_first, certificate_place, component_place, container_place}
-use Rattle.der_view.specs.FaultPlaces.{content_place}
-use Rattle.der_view.specs.FaultPlaces.{depth_fault, element_place, inside_place, comes, key_place, level_place}
-use Rattle.der_view.specs.FaultPlaces.{many_place, parts_place, place_of, placed, public_key_place, row_place}
-use Rattle.der_view.specs.FaultPlaces.{signature_place, tag_of, tree_place, whole_place}
-use Rattle.der_view.specs.FaultRules.{Component, fits, inside_of, own_fault, time_fault}
+use Rattle.der_view.specs.FaultPlaces.{Component, IsPlaceOf, Place, at_end, at_first, before, certificate_place}
+use Rattle.der_view.specs.FaultPlaces.{container_place, content_place, element_at, fits, key_place, level_place}
+use Rattle.der_view.specs.FaultPlaces.{own_fault, own_place, parts_at, parts_place, place_of, placed, public_key_place}
+use Rattle.der_view.specs.FaultPlaces.{row_place, signature_place, tree_place}
 use Rattle.der_view.specs.declared.faults.Position.{Position}
-use Rattle.der_view.specs.declared.faults.table.Expected.{Expected}
-use Rattle.der_view.specs.declared.faults.table.Expected.TheVariants as tags
 use Rattle.der_view.specs.declared.faults.table.Rule.{Rule}
 use Rattle.der_view.specs.declared.faults.table.Rule.TheVariants as rules
 use Rattle.der_view.specs.declared.faults.table.TheConstants as table
-use Rattle.der_view.specs.declared.grammar.Presence.{Presence}
 use Rattle.der_view.specs.declared.grammar.Presence.TheVariants.{Needed, Optional, Many}
-use Rattle.der_view.proofs.FaultWalkLemmas.{alone}
 
 pub utc_says : SaysKinds (λ utc. value_unless (is_utc_time utc))
 utc_says = test_says is_utc_time
 
-pub generalized_says : SaysKinds (λ general. value_unless (is_generalized_time general))
-generalized_says = test_says is_generalized_time
+pub general_says : SaysKinds (λ general. value_unless (is_generalized_time general))
+general_says = test_says is_generalized_time
 
-pub ordered_says : SaysKinds (set_fault 0x30 no_fault)
-ordered_says = set_says 0x30 no_fault none_says
+-- what the types of contents say
+pub ruleset says = (set_says, attribute_says, key_attribute_says, utc_says, general_says)
 
-pub ruleset says = (utc_says, generalized_says, ordered_says)
+-- ---- one step of the walk
+
+fits_tag : (expected tag : ℕ) → fits expected tag ≡ true → is_tag tag ≡ true
+fits_tag expected tag is = grind (arith, nat_tests)
+
+-- the element that is there
+pub element_found : (expected end first tag : ℕ) (content bytes tail rest : List ℕ) → bytes ≡ first ∷ tail
+    → fits expected first ≡ true → IsHeader tag (length content) → bytes ≡ element tag content ++ rest
+    → element_at expected end bytes ≡ Ok (tag, content, rest)
+element_found expected end first tag content bytes tail rest is has h same =
+    let known : first ≡ tag = cc (is, same) in
+    let fit : fits expected tag ≡ true = rw (← known) has in
+    rw (same, fit, split_octets content rest h.bounded) refl
+
+-- where its length or its content isn't there, the place is at its length
+pub element_refused : (expected end first : ℕ) (bytes tail : List ℕ) (kind : ErrorKind) → bytes ≡ first ∷ tail
+    → fits expected first ≡ true → any_fault (λ _. no_fault) no_fault bytes ≡ Some (Some kind)
+    → element_at expected end bytes ≡ Err (before end tail kind)
+element_refused expected end first bytes tail kind is has refused =
+    rw (is, has) (by (content_at tail) (rw (is, fits_tag expected first has) at refused))
+  where
+    by : (found : Result (List ℕ × List ℕ) ErrorKind) → parts_fault no_fault no_fault found ≡ Some (Some kind)
+        → parts_at first end tail found ≡ Err (before end tail kind)
+    by (Err said) e = let same : said ≡ kind = cc in rw same refl
+    by (Ok x) e = absurd (cc e)
 
 -- ---- what a place says
 
-abbrev pub kind_of : Option Position → Option (Option ErrorKind)
-kind_of place = option_map (λ (f : Position). Some f.kind) place
-
--- the kind at a place, if there is one, is that of a refusal, and it doesn't lie after this offset
-abbrev pub Says : ℕ → Option Position → Option (Option ErrorKind) → Type 0
-Says end place fault = (kind_of place ≡ fault) × IfSome place (λ f. f.offset ≤ end)
-
 -- the same of all bytes
 abbrev pub Places : Place → Fault → Type 0
-Places place fault = (end : ℕ) (bytes : List ℕ) → Says end (place end bytes) (fault bytes)
+Places place fault = (end : ℕ) (bytes : List ℕ) → IsPlaceOf (fault bytes) end (place end bytes)
 
-or_says : (end inner : ℕ) (a b : Option Position) (j k : Option (Option ErrorKind)) → inner ≤ end → Says inner a j
-    → Says end b k → Says end (option_or a b) (option_or j k)
-or_says end inner None b j k fits x y = rw (← x.0) y
-or_says end inner (Some f) b j k fits x y = rw (← x.0) (refl, omega (arith, fits, x.1))
+nowhere : (end : ℕ) → IsPlaceOf None end None
+nowhere end = record { kind = refl; within = tt }
 
-either_says : (end : ℕ) (c : Bool) (a b : Option Position) (j k : Option (Option ErrorKind)) → Says end a j
-    → Says end b k → Says end (if c then a else b) (if c then j else k)
-either_says end true a b j k x y = x
-either_says end false a b j k x y = y
+here : (end : ℕ) (left : List ℕ) (kind : ErrorKind) → IsPlaceOf (Some (Some kind)) end (Some (before end left kind))
+here end left kind = record { kind = refl; within = omega arith }
+
+or_says : (end inner : ℕ) (p q : Option Position) (f g : Option (Option ErrorKind)) → inner ≤ end → IsPlaceOf f inner p
+    → IsPlaceOf g end q → IsPlaceOf (option_or f g) end (option_or p q)
+or_says end inner None q f g fits one two = rw (← one.kind) two
+or_says end inner (Some fault) q f g fits one two =
+    rw (← one.kind) (record { kind = refl; within = omega (arith, fits, one.within) })
+
+either_says : (end : ℕ) (c : Bool) (p q : Option Position) (f g : Option (Option ErrorKind)) → IsPlaceOf f end p
+    → IsPlaceOf g end q → IsPlaceOf (if c then f else g) end (if c then p else q)
+either_says end true p q f g one two = one
+either_says end false p q f g one two = two
 
 first_says : (f : Fault) → SaysKinds f → Places (at_first f) f
 first_says f says end bytes = by (f bytes) (says.kind bytes)
   where
-    by : (o : Option (Option ErrorKind)) → o ≢ Some None → Says end (placed end bytes o) o
-    by None other = (refl, tt)
+    by : (o : Option (Option ErrorKind)) → o ≢ Some None → IsPlaceOf o end (placed end bytes o)
+    by None other = nowhere end
     by (Some None) other = absurd (other refl)
-    by (Some (Some kind)) other = (refl, omega arith)
+    by (Some (Some kind)) other = here end bytes kind
 
--- ---- an element with one of these tags
-
-abbrev element_fault : Expected → (ℕ → Fault) → Fault → Fault
-element_fault e content rest [] = Some (Some Truncated)
-element_fault e content rest (tag ∷ bytes) =
-    if fits e tag then parts_fault (content (tag_of e tag)) rest (content_at bytes) else Some (Some Tag)
-
-abbrev many_fault : Expected → (ℕ → Fault) → ℕ → Fault
-many_fault e content zero bytes = None
-many_fault e content (suc most) [] = None
-many_fault e content (suc most) (tag ∷ bytes) = element_fault e content (many_fault e content most) (tag ∷ bytes)
-
-abbrev one_of : Presence → Expected → (ℕ → Fault) → Fault → Fault
-one_of Many e content rest = λ bytes. many_fault e content (length bytes) bytes
-one_of presence e content rest =
-    λ bytes. if comes presence e bytes then element_fault e content rest bytes else rest bytes
-
-parts_says : (p q : Place) (f g : Fault) → Places p f → Places q g → (end : ℕ) (bytes : List ℕ)
-    → (found : Result (List ℕ × List ℕ) ErrorKind)
-    → Says end (parts_place p q end bytes found) (parts_fault f g found)
-parts_says p q f g x y end bytes (Err kind) = (refl, omega arith)
-parts_says p q f g x y end bytes (Ok parts) =
-    or_says end (end - length parts.1) _ _ _ _ (omega arith) (x (end - length parts.1) parts.0) (y end parts.1)
-
-element_says : (e : Expected) (p : ℕ → Place) (q : Place) (f : ℕ → Fault) (g : Fault)
-    → ((tag : ℕ) → Places (p tag) (f tag)) → Places q g → Places (element_place e p q) (element_fault e f g)
-element_says e p q f g x y end [] = (refl, omega arith)
-element_says e p q f g x y end (tag ∷ bytes) =
-    let t = tag_of e tag in
-    either_says end (fits e tag) _ _ _ _ (parts_says (p t) q (f t) g (x t) y end bytes (content_at bytes))
-    (refl, omega arith)
-
-many_says : (e : Expected) (p : ℕ → Place) (f : ℕ → Fault) → ((tag : ℕ) → Places (p tag) (f tag)) → (most : ℕ)
-    → Places (many_place e p most) (many_fault e f most)
-many_says e p f x zero end bytes = (refl, tt)
-many_says e p f x (suc most) end [] = (refl, tt)
-many_says e p f x (suc most) end (tag ∷ bytes) =
-    element_says e p (many_place e p most) f (many_fault e f most) x (many_says e p f x most) end (tag ∷ bytes)
-
-one_says : (presence : Presence) (e : Expected) (p : ℕ → Place) (q : Place) (f : ℕ → Fault) (g : Fault)
-    → ((tag : ℕ) → Places (p tag) (f tag)) → Places q g
-    → Places (component_place presence e p q) (one_of presence e f g)
-one_says Needed e p q f g x y end bytes = element_says e p q f g x y end bytes
-one_says Optional e p q f g x y end bytes =
-    either_says end (comes Optional e bytes) _ _ _ _ (element_says e p q f g x y end bytes) (y end bytes)
-one_says Many e p q f g x y end bytes = many_says e p f x (length bytes) end bytes
-
--- ---- the readers' words for it
-
--- two faults of an element are the same if they agree on its content, and on fewer bytes after it
-alike : (e : Expected) (f h : ℕ → Fault) (g k : Fault) (tag : ℕ) (bytes : List ℕ)
-    → ((content : List ℕ) → length content ≤ length bytes → f (tag_of e tag) content ≡ h (tag_of e tag) content)
-    → ((rest : List ℕ) → length rest ≤ length bytes → g rest ≡ k rest)
-    → element_fault e f g (tag ∷ bytes) ≡ element_fault e h k (tag ∷ bytes)
-alike e f h g k tag bytes inside rest = grind (arith, length-take {A = ℕ}, length-drop {A = ℕ})
-
-one_many : (t : ℕ) (f : ℕ → Fault) → is_tag t ≡ true → (most : ℕ) (bytes : List ℕ)
-    → elements_fault t (f t) most bytes ≡ many_fault (tags.One t) f most bytes
-one_many t f valid zero bytes = refl
-one_many t f valid (suc most) [] = refl
-one_many t f valid (suc most) (tag ∷ bytes) =
-    rw valid refl ∙ alike (tags.One t) f f (elements_fault t (f t) most) (many_fault (tags.One t) f most) tag bytes
-    (λ content few. refl) (λ rest few. one_many t f valid most rest)
-
-abbrev tagged_fault : ℕ → Presence → Fault → Fault → Fault
-tagged_fault t Needed f g = r.element_fault t f g
-tagged_fault t Optional f g = r.optional_fault t f g
-tagged_fault t Many f g = sequence_fault t f
-
-abbrev component_fault : Expected → Presence → (ℕ → Fault) → Fault → Fault
-component_fault (tags.One t) presence f g =
-    if is_tag t then tagged_fault t presence (f t) g else one_of presence (tags.One t) f g
-component_fault tags.Time Needed f g =
-    choice_fault (0x17 ∷ []) (r.element_fault 0x17 (f 0x17)) (r.element_fault 0x18 (f 0x18)) g
-component_fault tags.Any Needed f g = any_fault f g
-component_fault tags.Any Optional f g = optional_part_fault all_tags (any_fault f) g
-component_fault e presence f g = one_of presence e f g
-
-component_same : (e : Expected) (presence : Presence) (f : ℕ → Fault) (g : Fault) (bytes : List ℕ)
-    → component_fault e presence f g bytes ≡ one_of presence e f g bytes
-component_same (tags.One t) presence f g bytes = by (is_tag t) refl presence bytes
+-- an element, if its tag fits, and fewer bytes after it
+element_says : (p : ℕ → Place) (q : Place) (f : ℕ → Fault) (g : Fault) (end tag : ℕ) (bytes : List ℕ) (has : Bool)
+    → Places (p tag) (f tag)
+    → ((rest : List ℕ) → length rest ≤ length bytes → IsPlaceOf (g rest) end (q end rest))
+    → IsPlaceOf (if has then parts_fault (f tag) g (content_at bytes) else Some (Some Tag)) end
+    (parts_place p q end
+    (if has then parts_at tag end bytes (content_at bytes) else Err (before end (tag ∷ bytes) Tag)))
+element_says p q f g end tag bytes false one two = here end (tag ∷ bytes) Tag
+element_says p q f g end tag bytes true one two = by (content_at bytes) shorter
   where
-    by : (valid : Bool) → is_tag t ≡ valid → (presence : Presence) (bytes : List ℕ)
-        → (if valid then tagged_fault t presence (f t) g else one_of presence (tags.One t) f g) bytes
-        ≡ one_of presence (tags.One t) f g bytes
-    by false other presence bytes = refl
-    by true valid Needed [] = refl
-    by true valid Needed (tag ∷ bytes) = rw valid refl
-    by true valid Optional [] = refl
-    by true valid Optional (tag ∷ bytes) = rw valid refl
-    by true valid Many bytes = one_many t f valid (length bytes) bytes
-component_same tags.Time Needed f g [] = refl
-component_same tags.Time Needed f g (tag ∷ bytes) = by (tag == 0x17) (tag == 0x18) refl refl
+    shorter : (x : List ℕ × List ℕ) → content_at bytes ≡ Ok x → length x.1 ≤ length bytes
+    shorter x is = grind (arith, length-drop {A = ℕ})
+
+    by : (found : Result (List ℕ × List ℕ) ErrorKind)
+        → ((x : List ℕ × List ℕ) → found ≡ Ok x → length x.1 ≤ length bytes)
+        → IsPlaceOf (parts_fault (f tag) g found) end (parts_place p q end (parts_at tag end bytes found))
+    by (Err kind) few = here end bytes kind
+    by (Ok x) few =
+        or_says end (end - length x.1) _ _ _ _ (omega arith) (one (end - length x.1) x.0) (two x.1 (few x refl))
+
+-- ---- rows
+
+-- the place in components is that of this refusal
+record RowSays (levels : ℕ) (row : List Component) (fault : Fault) : Type 0 where
+  pub says : (most end : ℕ) (bytes : List ℕ) → length row + length bytes ≤ most
+      → IsPlaceOf (fault bytes) end (row_place (content_place (level_place levels)) most row end bytes)
+
+-- and in a content
+abbrev RuleSays : ℕ → Rule → (ℕ → Fault) → Type 0
+RuleSays levels rule fault = (tag : ℕ) → Places (content_place (level_place levels) rule tag) (fault tag)
+
+-- the test of a tag is that of the reader
+abbrev IsTag : ℕ → Type 0
+IsTag t = (tag : ℕ) → fits t tag ≡ (tag == t)
+
+abbrev rule_place : ℕ → Rule → ℕ → Place
+rule_place levels rule = content_place (level_place levels) rule
+
+abbrev rest_place : ℕ → ℕ → List Component → Place
+rest_place levels most row = row_place (content_place (level_place levels)) most row
+
+ends : (levels : ℕ) → RowSays levels [] end_fault
+ends levels = record { says = λ most end bytes few. by end bytes }
   where
-    by : (utc general : Bool) → tag == 0x17 ≡ utc → tag == 0x18 ≡ general
-        → component_fault tags.Time Needed f g (tag ∷ bytes) ≡ element_fault tags.Time f g (tag ∷ bytes)
-    by true general is other = rw (eqb-true tag 0x17 is) refl
-    by false true is other = rw (eqb-true tag 0x18 other) refl
-    by false false is other = rw (is, other) refl
-component_same tags.Time Optional f g bytes = refl
-component_same tags.Time Many f g bytes = refl
-component_same tags.Any Needed f g [] = refl
-component_same tags.Any Needed f g (tag ∷ bytes) = refl
-component_same tags.Any Optional f g [] = refl
-component_same tags.Any Optional f g (tag ∷ bytes) = rw (among_all tag) refl
-component_same tags.Any Many f g bytes = refl
+    by : (end : ℕ) (bytes : List ℕ) → IsPlaceOf (end_fault bytes) end (at_end TrailingData end bytes)
+    by end [] = nowhere end
+    by end (byte ∷ bytes) = here end (byte ∷ bytes) TrailingData
 
-abbrev row_fault : (Rule → ℕ → Fault) → List Component → Fault
-row_fault f [] = end_fault
-row_fault f (component ∷ others) =
-    component_fault component.0 component.1 (f component.2) (row_fault f others)
+-- it is known by no bytes and by some
+row : {levels : ℕ} {c : Component} {others : List Component} {f : Fault}
+    → ((most end : ℕ) → length others ≤ most
+    → IsPlaceOf (f []) end (rest_place levels (suc most) (c ∷ others) end []))
+    → ((most end tag : ℕ) (bytes : List ℕ) → length others + suc (length bytes) ≤ most
+    → IsPlaceOf (f (tag ∷ bytes)) end (rest_place levels (suc most) (c ∷ others) end (tag ∷ bytes)))
+    → RowSays levels (c ∷ others) f
+row {levels} {c} {others} {f} none some = record { says = by }
+  where
+    by : (most end : ℕ) (bytes : List ℕ) → suc (length others) + length bytes ≤ most
+        → IsPlaceOf (f bytes) end (rest_place levels most (c ∷ others) end bytes)
+    by zero end bytes few = absurd (omega arith)
+    by (suc most) end [] few = none most end (omega arith)
+    by (suc most) end (tag ∷ bytes) few = some most end tag bytes (omega arith)
 
-row_says : (p : Rule → ℕ → Place) (f : Rule → ℕ → Fault) → ((rule : Rule) (tag : ℕ) → Places (p rule tag) (f rule tag))
-    → (row : List Component) → Places (row_place p row) (row_fault f row)
-row_says p f x [] end bytes = first_says end_fault end_says end bytes
-row_says p f x ((e, presence, rule) ∷ others) end bytes =
-    rw (component_same e presence (f rule) (row_fault f others) bytes)
-    (one_says presence e (p rule) (row_place p others) (f rule) (row_fault f others) (x rule)
-    (row_says p f x others) end bytes)
+needed : {levels t : ℕ} {rule : Rule} {others : List Component} {f g : Fault} → IsTag t → RuleSays levels rule (λ _. f)
+    → RowSays levels others g → RowSays levels ((t, Needed, rule) ∷ others) (element_fault t f g)
+needed {levels} {t} {rule} {others} {f} {g} same one two = row (λ most end few. here end [] Truncated)
+    (λ most end tag bytes few. rw (same tag) (element_says (rule_place levels rule) (rest_place levels most others)
+    (λ _. f) g end tag bytes (tag == t) (one tag) (λ rest less. two.says most end rest (omega arith))))
+
+optional : {levels t : ℕ} {rule : Rule} {others : List Component} {f g : Fault} → IsTag t
+    → RuleSays levels rule (λ _. f) → RowSays levels others g
+    → RowSays levels ((t, Optional, rule) ∷ others) (optional_fault t f g)
+optional {levels} {t} {rule} {others} {f} {g} same one two = row (λ most end few. two.says most end [] (omega arith))
+    (λ most end tag bytes few. rw (same tag) (either_says end (tag == t) _ _ _ _
+    (element_says (rule_place levels rule) (rest_place levels most others) (λ _. f) g end tag bytes (tag == t) (one tag)
+    (λ rest less. two.says most end rest (omega arith))) (two.says most end (tag ∷ bytes) (omega arith))))
+
+any : {levels : ℕ} {rule : Rule} {others : List Component} {f : ℕ → Fault} {g : Fault} → RuleSays levels rule f
+    → RowSays levels others g → RowSays levels ((0x00, Needed, rule) ∷ others) (any_fault f g)
+any {levels} {rule} {others} {f} {g} one two = row (λ most end few. here end [] Truncated)
+    (λ most end tag bytes few. element_says (rule_place levels rule) (rest_place levels most others) f g end tag bytes
+    (is_tag tag) (one tag)
+    (λ rest less. two.says most end rest (omega arith)))
+
+optional_any : {levels : ℕ} {rule : Rule} {others : List Component} {f : ℕ → Fault} {g : Fault}
+    → RuleSays levels rule f → RowSays levels others g
+    → RowSays levels ((0x00, Optional, rule) ∷ others) (optional_part_fault all_tags (any_fault f) g)
+optional_any {levels} {rule} {others} {f} {g} one two = row (λ most end few. two.says most end [] (omega arith))
+    (λ most end tag bytes few. rw (among_all tag) (either_says end (is_tag tag) _ _ _ _
+    (element_says (rule_place levels rule) (rest_place levels most others) f g end tag bytes (is_tag tag) (one tag)
+    (λ rest less. two.says most end rest (omega arith))) (two.says most end (tag ∷ bytes) (omega arith))))
+
+-- a UTCTime or a GeneralizedTime
+timed : {levels : ℕ} {others : List Component} {g : Fault} → RowSays levels others g
+    → RowSays levels ((0x17, Needed, rules.Time) ∷ others) (records.time_fault g)
+timed {levels} {others} {g} two = row (λ most end few. here end [] Truncated)
+    (λ most end tag bytes few. rw (same tag bytes (tag == 0x17) (tag == 0x18) refl refl)
+    (element_says (rule_place levels rules.Time) (rest_place levels most others) (own_fault rules.Time) g end tag bytes
+    (tag == 0x17 || tag == 0x18) (one tag)
+    (λ rest less. two.says most end rest (omega arith))))
+  where
+    one : (tag : ℕ) → Places (at_first (own_fault rules.Time tag)) (own_fault rules.Time tag)
+    one tag = first_says (own_fault rules.Time tag) (record {
+      kind = λ time. laws.either_says (tag == 0x17) _ _
+          (utc_says.kind time) (general_says.kind time);
+    })
+
+    same : (tag : ℕ) (bytes : List ℕ) (utc general : Bool) → tag == 0x17 ≡ utc → tag == 0x18 ≡ general
+        → records.time_fault g (tag ∷ bytes)
+        ≡ (if tag == 0x17 || tag == 0x18 then parts_fault (own_fault rules.Time tag) g (content_at bytes)
+        else Some (Some Tag))
+    same tag bytes true general is other = rw (eqb-true tag 0x17 is) refl
+    same tag bytes false true is other = rw (eqb-true tag 0x18 other) refl
+    same tag bytes false false is other = rw (is, other) refl
+
+-- elements to the end
+repeated : {levels t : ℕ} {rule : Rule} {f : Fault} → IsTag t → RuleSays levels rule (λ _. f)
+    → RowSays levels ((t, Many, rule) ∷ []) (sequence_fault t f)
+repeated {levels} {t} {rule} {f} same one =
+    record { says = λ most end bytes few. by (length bytes) most end bytes (omega arith) (omega arith) }
+  where
+    by : (n most end : ℕ) (bytes : List ℕ) → length bytes ≤ n → suc (length bytes) ≤ most
+        → IsPlaceOf (elements_fault t f n bytes) end (rest_place levels most ((t, Many, rule) ∷ []) end bytes)
+    by n zero end bytes less few = absurd (omega arith)
+    by zero (suc most) end [] less few = nowhere end
+    by (suc n) (suc most) end [] less few = nowhere end
+    by zero (suc most) end (tag ∷ bytes) less few = absurd (omega arith)
+    by (suc n) (suc most) end (tag ∷ bytes) less few =
+        rw (same tag) (element_says (rule_place levels rule) (rest_place levels most ((t, Many, rule) ∷ [])) (λ _. f)
+        (elements_fault t f n) end tag bytes (tag == t) (one tag)
+        (λ rest short. by n most end rest (omega arith) (omega arith)))
 
 -- ---- contents
 
-abbrev content_fault : (List Component → Fault) → Rule → ℕ → Fault
-content_fault row rules.Point tag =
-    λ bytes. option_or (row table.POINT bytes) (r.element_fault 0x03 whole_bits_fault no_fault bytes)
-content_fault row rules.RelativeName tag =
-    λ bytes. option_or (row table.RELATIVE_NAME bytes) (value_unless (is_ascending bytes))
-content_fault row rules.KeyAttributes tag =
-    λ bytes. option_or (row table.KEY_ATTRIBUTES bytes) (value_unless (is_ascending bytes))
-content_fault row rules.Container tag =
-    λ bytes. if has_version_one bytes then row table.ONE_ASYMMETRIC_KEY bytes else row table.PRIVATE_KEY_INFO bytes
-content_fault row rules.Tree tag = nested_fault (row table.TREES) tag
-content_fault row rule tag = or_else (own_fault rule tag) row (inside_of rule tag [])
-  where
-    or_else : Fault → (List Component → Fault) → Option (List Component) → Fault
-    or_else own row None = own
-    or_else own row (Some components) = row components
+leaf : {f : Fault} → SaysKinds f → ℕ → Places (at_first f) f
+leaf {f} says tag end bytes = first_says f says end bytes
 
-abbrev level_fault : ℕ → List Component → Fault
-level_fault zero row = depth_fault
-level_fault (suc levels) row = row_fault (content_fault (level_fault levels)) row
+anything : ℕ → Places (at_first no_fault) no_fault
+anything = leaf none_says
 
-depth_says : SaysKinds depth_fault
-depth_says = laws.split_says depth_fault (λ e. cc e) (λ byte bytes e. cc e)
-
-time_says : (tag : ℕ) → SaysKinds (time_fault tag)
-time_says tag = record {
-  kind = λ bytes. laws.either_says (tag == 0x17) _ _ (utc_says.kind bytes) (generalized_says.kind bytes);
-}
-
--- what elements of one rule are, they are of none
-sequences : (t : ℕ) (f : Fault) (most : ℕ) (bytes : List ℕ) → elements_fault t f most bytes ≡ None
-    → elements_fault t no_fault most bytes ≡ None
-sequences t f zero bytes none = refl
-sequences t f (suc most) [] none = refl
-sequences t f (suc most) (tag ∷ bytes) none =
-    let others : (rest : List ℕ) → elements_fault t f most rest ≡ None → elements_fault t no_fault most rest ≡ None =
-    λ rest. sequences t f most rest in
-    grind arith
-
--- SEQUENCEs that aren't refused are tested for their order
-ordered : (levels : ℕ) (rule : Rule) → ((row : List Component) → Places (level_place levels row)
-    (level_fault levels row))
-    → (end : ℕ) (bytes : List ℕ)
-    → Says end
-    (option_or (level_place levels ((tags.One 0x30, Many, rule) ∷ []) end bytes)
-    (at_first (set_fault 0x30 no_fault) end bytes))
-    (option_or (level_fault levels ((tags.One 0x30, Many, rule) ∷ []) bytes) (value_unless (is_ascending bytes)))
-ordered levels rule x end bytes =
-    rw (← by (level_fault levels ((tags.One 0x30, Many, rule) ∷ []) bytes) (passes levels bytes))
-    (or_says end end _ _ _ _ (omega arith) (x ((tags.One 0x30, Many, rule) ∷ []) end bytes)
-    (first_says (set_fault 0x30 no_fault) ordered_says end bytes))
-  where
-    passes : (levels : ℕ) (bytes : List ℕ) → level_fault levels ((tags.One 0x30, Many, rule) ∷ []) bytes ≡ None
-        → sequence_fault 0x30 no_fault bytes ≡ None
-    passes zero [] none = refl
-    passes zero (byte ∷ bytes) none = absurd (cc none)
-    passes (suc levels) bytes none = sequences 0x30 _ (length bytes) bytes none
-
-    by : (o : Option (Option ErrorKind)) → (o ≡ None → sequence_fault 0x30 no_fault bytes ≡ None)
-        → option_or o (set_fault 0x30 no_fault bytes) ≡ option_or o (value_unless (is_ascending bytes))
-    by o known = grind arith
-
-whole_says : Places whole_place (r.element_fault 0x03 whole_bits_fault no_fault)
-whole_says end [] = (refl, omega arith)
-whole_says end (tag ∷ bytes) =
-    element_says (tags.One 0x03) (λ _. at_first whole_bits_fault) (at_first no_fault) (λ _. whole_bits_fault) no_fault
-    (λ _. first_says whole_bits_fault laws.whole_says) (first_says no_fault none_says) end (tag ∷ bytes)
+alone : (o : Option Position) → option_or o None ≡ o
+alone None = refl
+alone (Some fault) = refl
 
 -- the components are all that is tested
-only : (levels : ℕ) → ((row : List Component) → Places (level_place levels row) (level_fault levels row))
-    → (row : List Component) (end : ℕ) (bytes : List ℕ)
-    → Says end (option_or (level_place levels row end bytes) None) (level_fault levels row bytes)
-only levels x row end bytes = rw (alone (level_place levels row end bytes)) (x row end bytes)
+only : (levels : ℕ) (row : List Component) (f : Fault) → RowSays levels row f → (end : ℕ) (bytes : List ℕ)
+    → IsPlaceOf (f bytes) end (option_or (level_place (suc levels) row end bytes) None)
+only levels row f x end bytes =
+    rw (alone (level_place (suc levels) row end bytes)) (x.says (length row + length bytes) end bytes (omega arith))
 
-content_says : (levels : ℕ) → ((row : List Component) → Places (level_place levels row) (level_fault levels row))
-    → (rule : Rule) (tag : ℕ)
-    → Places (content_place (level_place levels) rule tag) (content_fault (level_fault levels) rule tag)
-content_says levels x rules.EcPrivateKey tag end bytes = only levels x table.EC_PRIVATE_KEY end bytes
-content_says levels x rules.Curve tag end bytes = only levels x table.CURVE end bytes
-content_says levels x rules.Signature tag end bytes = only levels x table.NUMBERS end bytes
-content_says levels x rules.Algorithm tag end bytes = only levels x table.ALGORITHM end bytes
-content_says levels x rules.PublicKeyInfo tag end bytes = only levels x table.PUBLIC_KEY_INFO end bytes
-content_says levels x rules.KeyAttribute tag end bytes = only levels x table.KEY_ATTRIBUTE end bytes
-content_says levels x rules.Certificate tag end bytes = only levels x table.CERTIFICATE end bytes
-content_says levels x rules.TbsCertificate tag end bytes = only levels x table.TBS_CERTIFICATE end bytes
-content_says levels x rules.Version tag end bytes = only levels x table.VERSION end bytes
-content_says levels x rules.Name tag end bytes = only levels x table.NAME end bytes
-content_says levels x rules.NameAttribute tag end bytes = only levels x table.NAME_ATTRIBUTE end bytes
-content_says levels x rules.Validity tag end bytes = only levels x table.VALIDITY end bytes
-content_says levels x rules.ExtensionsField tag end bytes = only levels x table.EXTENSIONS_FIELD end bytes
-content_says levels x rules.Extensions tag end bytes = only levels x table.EXTENSIONS end bytes
-content_says levels x rules.Extension tag end bytes = only levels x table.EXTENSION end bytes
-content_says levels x rules.Point tag end bytes =
-    or_says end end _ _ _ _ (omega arith) (x table.POINT end bytes) (whole_says end bytes)
-content_says levels x rules.RelativeName tag end bytes = ordered levels rules.NameAttribute x end bytes
-content_says levels x rules.KeyAttributes tag end bytes = ordered levels rules.KeyAttribute x end bytes
-content_says levels x rules.Container tag end bytes = by (has_version_one bytes)
+-- elements that aren't refused are tested for their order
+ordered : (levels : ℕ) (rule : Rule) (f : Fault) → SaysKinds (set_fault 0x30 f) → RuleSays levels rule (λ _. f)
+    → (end : ℕ) (bytes : List ℕ)
+    → IsPlaceOf (set_fault 0x30 f bytes) end (option_or (level_place (suc levels) ((0x30, Many, rule) ∷ []) end bytes)
+    (at_first (set_fault 0x30 f) end bytes))
+ordered levels rule f kinds one end bytes =
+    subst (λ (fault : Option (Option ErrorKind)). IsPlaceOf fault end
+    (option_or (level_place (suc levels) ((0x30, Many, rule) ∷ []) end bytes) (at_first (set_fault 0x30 f) end bytes)))
+    (twice (sequence_fault 0x30 f bytes) (value_unless (is_ascending bytes)))
+    (or_says end end _ _ (sequence_fault 0x30 f bytes) _ (omega arith)
+    ((repeated (λ _. refl) one).says (1 + length bytes) end bytes (omega arith))
+    (first_says (set_fault 0x30 f) kinds end bytes))
   where
-    by : (one : Bool) → Says end
-        (option_or (inside_place (level_place levels)
-        (if one then Some table.ONE_ASYMMETRIC_KEY else Some table.PRIVATE_KEY_INFO) end bytes) None)
-        (if one then level_fault levels table.ONE_ASYMMETRIC_KEY bytes
-        else level_fault levels table.PRIVATE_KEY_INFO bytes)
-    by true = only levels x table.ONE_ASYMMETRIC_KEY end bytes
-    by false = only levels x table.PRIVATE_KEY_INFO end bytes
-content_says levels x rules.Tree tag end bytes = by (is_constructed tag)
-  where
-    by : (constructed : Bool) → Says end
-        (option_or (inside_place (level_place levels) (if constructed then Some table.TREES else None) end bytes) None)
-        (if constructed then level_fault levels table.TREES bytes else None)
-    by true = only levels x table.TREES end bytes
-    by false = (refl, tt)
-content_says levels x rules.Bytes tag end bytes = (refl, tt)
-content_says levels x rules.Zero tag end bytes = first_says _ (byte_says 0) end bytes
-content_says levels x rules.One tag end bytes = first_says _ (byte_says 1) end bytes
-content_says levels x rules.LaterVersion tag end bytes = first_says _ (test_says is_later_version) end bytes
-content_says levels x rules.Integer tag end bytes = first_says _ (test_says is_integer) end bytes
-content_says levels x rules.Unsigned tag end bytes = first_says _ (test_says is_unsigned) end bytes
-content_says levels x rules.True tag end bytes =
-    first_says _ (other_says (0x00 ∷ []) _ (test_says is_boolean)) end bytes
-content_says levels x rules.Bits tag end bytes = first_says _ bits_says end bytes
-content_says levels x rules.Identifier tag end bytes = first_says _ (test_says is_object_identifier) end bytes
-content_says levels x rules.CurveName tag end bytes = first_says _ identifier_says end bytes
-content_says levels x rules.Time tag end bytes = first_says _ (time_says tag) end bytes
+    twice : (o p : Option (Option ErrorKind)) → option_or o (option_or o p) ≡ option_or o p
+    twice None p = refl
+    twice (Some fault) p = refl
 
-level_says : (levels : ℕ) (row : List Component) → Places (level_place levels row) (level_fault levels row)
-level_says zero row end bytes = first_says depth_fault depth_says end bytes
-level_says (suc levels) row end bytes =
-    row_says (content_place (level_place levels)) (content_fault (level_fault levels))
-    (content_says levels (level_says levels)) row end bytes
+point : (l : ℕ) → RuleSays (suc l) rules.Point (λ _. whole_bits_field_fault)
+point l tag end bytes =
+    or_says end end _ _ _ _ (omega arith)
+    ((needed (λ _. refl) (leaf bits_says) (ends l)).says (1 + length bytes) end bytes (omega arith)) (unused bytes)
+  where
+    unused : (bytes : List ℕ) → IsPlaceOf (element_fault 0x03 whole_bits_fault no_fault bytes) end
+        (own_place rules.Point tag end bytes)
+    unused [] = here end [] Truncated
+    unused (t ∷ bytes) =
+        element_says (λ _. at_first whole_bits_fault) (at_first no_fault) (λ _. whole_bits_fault) no_fault end t bytes
+        (t == 0x03) (first_says whole_bits_fault whole_says) (λ rest few. nowhere end)
+
+identifier : ℕ → Places (at_first records.identifier_fault) records.identifier_fault
+identifier = leaf (test_says _)
+
+algorithm : (l : ℕ) → RuleSays (suc l) rules.Algorithm (λ _. records.algorithm_fault)
+unfolding any_element_fault
+algorithm l tag =
+    only l table.ALGORITHM _ (needed (λ _. refl) identifier (optional_any (λ _. anything 0) (ends l)))
+
+public_key : (l : ℕ) → RuleSays (suc (suc l)) rules.PublicKeyInfo (λ _. records.public_key_fault)
+public_key l tag =
+    only (suc l) table.PUBLIC_KEY_INFO _
+    (needed (λ _. refl) (algorithm l) (needed (λ _. refl) (leaf bits_says) (ends (suc l))))
+
+attributes : RuleSays 62 rules.KeyAttributes (λ _. set_fault 0x30 records.key_attribute_fault)
+attributes tag =
+    ordered 61 rules.KeyAttribute records.key_attribute_fault (set_says _ _ key_attribute_says)
+    (λ tag. only 60 table.KEY_ATTRIBUTE _ (needed (λ _. refl) identifier (needed (λ _. refl) anything (ends 60))))
+
+container : RuleSays 63 rules.Container (λ _. container_fault)
+container tag end bytes = by (has_version_one bytes)
+  where
+    by : (one : Bool)
+        → IsPlaceOf (if one then records.asymmetric_key_fault bytes else records.private_key_fault bytes) end
+        (option_or (option_and_then (λ inside. level_place 63 inside end bytes)
+        (if one then Some table.ONE_ASYMMETRIC_KEY else Some table.PRIVATE_KEY_INFO)) None)
+    by true =
+        only 62 table.ONE_ASYMMETRIC_KEY _ (needed (λ _. refl) (leaf (byte_says 1)) (needed (λ _. refl) (algorithm 61)
+        (needed (λ _. refl) anything (optional (λ _. refl) attributes
+        (optional (λ _. refl) (leaf bits_says) (ends 62)))))) end bytes
+    by false =
+        only 62 table.PRIVATE_KEY_INFO _ (needed (λ _. refl) (leaf (byte_says 0)) (needed (λ _. refl) (algorithm 61)
+        (needed (λ _. refl) anything (optional (λ _. refl) attributes (ends 62))))) end bytes
+
+name : RuleSays 61 rules.Name (λ _. records.names_fault)
+unfolding any_element_fault
+name tag =
+    only 60 table.NAME _ (repeated (λ _. refl) (λ tag. ordered 59 rules.NameAttribute records.attribute_fault
+    (set_says _ _ attribute_says)
+    (λ tag. only 58 table.NAME_ATTRIBUTE _ (needed (λ _. refl) identifier (any (λ _. anything 0) (ends 58))))))
+
+extensions : RuleSays 61 rules.ExtensionsField
+    (λ _. element_fault 0x30 (sequence_fault 0x30 records.extension_fault) end_fault)
+extensions tag =
+    only 60 table.EXTENSIONS_FIELD _ (needed (λ _. refl) (λ tag. only 59 table.EXTENSIONS _ (repeated (λ _. refl)
+    (λ tag. only 58 table.EXTENSION _ (needed (λ _. refl) identifier
+    (optional (λ _. refl) (leaf (other_says (0x00 ∷ []) _ (test_says _)))
+    (needed (λ _. refl) anything (ends 58))))))) (ends 60))
+
+tbs_certificate : RuleSays 62 rules.TbsCertificate (λ _. records.tbs_fault)
+tbs_certificate tag =
+    only 61 table.TBS_CERTIFICATE _ (optional (λ _. refl)
+    (λ tag. only 60 table.VERSION _ (needed (λ _. refl) (leaf (test_says _)) (ends 60)))
+    (needed (λ _. refl) (leaf (test_says _)) (needed (λ _. refl) (algorithm 60) (needed (λ _. refl) name
+    (needed (λ _. refl) (λ tag. only 60 table.VALIDITY _ (timed (timed (ends 60)))) (needed (λ _. refl) name
+    (needed (λ _. refl) (public_key 59) (optional (λ _. refl) (leaf bits_says)
+    (optional (λ _. refl) (leaf bits_says) (optional (λ _. refl) extensions (ends 61)))))))))))
+
+-- ---- trees
+
+-- a content is elements if the tag is constructed
+nested : (levels : ℕ) (f : Fault) → Places (level_place levels table.TREES) f
+    → RuleSays levels rules.Tree (nested_fault f)
+nested levels f one tag end bytes = by (is_constructed tag)
+  where
+    by : (c : Bool) → IsPlaceOf (if c then f bytes else None) end
+        (option_or (option_and_then (λ inside. level_place levels inside end bytes)
+        (if c then Some table.TREES else None)) None)
+    by true = rw (alone (level_place levels table.TREES end bytes)) (one end bytes)
+    by false = nowhere end
+
+trees : (levels level : ℕ) → level + levels ≡ 65 → Places (level_place levels table.TREES) (forest_at level)
+trees zero level is end [] = nowhere end
+trees zero level is end (byte ∷ bytes) =
+    rw (forest_deep level (byte ∷ bytes) (omega arith) (omega (arith, is))) (here end (byte ∷ bytes) Depth)
+trees (suc levels) level is end bytes =
+    by (trees levels (level + 1) (omega (arith, is))) (1 + length bytes) end bytes (omega arith)
+  where
+    by : Places (level_place levels table.TREES) (forest_at (level + 1)) → (most end : ℕ) (bytes : List ℕ)
+        → suc (length bytes) ≤ most
+        → IsPlaceOf (forest_at level bytes) end (rest_place levels most table.TREES end bytes)
+    by inside zero end bytes few = absurd (omega arith)
+    by inside (suc most) end [] few = nowhere end
+    by inside (suc most) end (tag ∷ bytes) few =
+        rw (forest_some level (tag ∷ bytes) (omega arith) (omega (arith, is)))
+        (element_says (rule_place levels rules.Tree) (rest_place levels most table.TREES)
+        (nested_fault (forest_at (level + 1))) (forest_at level) end tag bytes (is_tag tag)
+        (nested levels (forest_at (level + 1)) inside tag) (λ rest less. by inside most end rest (omega arith)))
 
 -- ---- the documents
 
--- the kind at the place of components, which is within the bytes
-pub place_says : (e : Expected) (rule : Rule) (bytes : List ℕ)
-    → Says (length bytes) (place_of e rule bytes) (level_fault 64 ((e, Needed, rule) ∷ []) bytes)
-place_says e rule bytes = level_says 64 ((e, Needed, rule) ∷ []) (length bytes) bytes
+whole : (rule : Rule) (f : Fault) → RuleSays 63 rule (λ _. f) → (bytes : List ℕ)
+    → IsPlaceOf (element_fault 0x30 f end_fault bytes) (length bytes) (place_of 0x30 rule bytes)
+whole rule f one bytes = (needed (λ _. refl) one (ends 63)).says (1 + length bytes) (length bytes) bytes (omega arith)
 
-pub key_kind : (bytes : List ℕ) → kind_of (key_place bytes) ≡ key_fault bytes
+pub key_refused : (bytes : List ℕ) → IsPlaceOf (key_fault bytes) (length bytes) (key_place bytes)
 unfolding key_fault
-key_kind bytes = (place_says (tags.One 0x30) rules.EcPrivateKey bytes).0
+key_refused = whole rules.EcPrivateKey _
+    (λ tag. only 62 table.EC_PRIVATE_KEY _ (needed (λ _. refl) (leaf (byte_says 1)) (needed (λ _. refl) anything
+    (optional (λ _. refl) (λ tag. only 61 table.CURVE _ (needed (λ _. refl) (leaf identifier_says) (ends 61)))
+    (optional (λ _. refl) (point 61) (ends 62))))))
 
-pub signature_kind : (bytes : List ℕ)
-    → kind_of (signature_place bytes) ≡ r.element_fault 0x30 signature_fault end_fault bytes
-signature_kind bytes = (place_says (tags.One 0x30) rules.Signature bytes).0
+pub tree_refused : (bytes : List ℕ) → IsPlaceOf (tree_fault bytes) (length bytes) (tree_place bytes)
+tree_refused bytes =
+    rw (tree_next bytes) ((any (nested 63 (forest_at 2) (trees 63 2 refl)) (ends 63)).says (1 + length bytes)
+    (length bytes) bytes (omega arith))
 
-pub public_key_kind : (bytes : List ℕ)
-    → kind_of (public_key_place bytes) ≡ r.element_fault 0x30 public_key_fault end_fault bytes
-unfolding any_element_fault
-public_key_kind bytes = (place_says (tags.One 0x30) rules.PublicKeyInfo bytes).0
+pub signature_refused : (bytes : List ℕ)
+    → IsPlaceOf (element_fault 0x30 records.signature_fault end_fault bytes) (length bytes) (signature_place bytes)
+signature_refused = whole rules.Signature _
+    (λ tag. only 62 table.NUMBERS _ (needed (λ _. refl) (leaf (test_says _))
+    (needed (λ _. refl) (leaf (test_says _)) (ends 62))))
 
-pub container_kind : (bytes : List ℕ)
-    → kind_of (container_place bytes) ≡ r.element_fault 0x30 container_fault end_fault bytes
-unfolding any_element_fault
-container_kind bytes = (place_says (tags.One 0x30) rules.Container bytes).0
+pub public_key_refused : (bytes : List ℕ)
+    → IsPlaceOf (element_fault 0x30 records.public_key_fault end_fault bytes) (length bytes) (public_key_place bytes)
+public_key_refused = whole rules.PublicKeyInfo _ (public_key 61)
 
-pub certificate_kind : (bytes : List ℕ)
-    → kind_of (certificate_place bytes) ≡ r.element_fault 0x30 certificate_fault end_fault bytes
-unfolding any_element_fault
-certificate_kind bytes = (place_says (tags.One 0x30) rules.Certificate bytes).0
+pub container_refused : (bytes : List ℕ)
+    → IsPlaceOf (element_fault 0x30 container_fault end_fault bytes) (length bytes) (container_place bytes)
+container_refused = whole rules.Container _ container
 
--- elements of any tags at a level are those of a tree
-trees_same : (levels level : ℕ) → level + levels ≡ 65 → (bytes : List ℕ)
-    → level_fault levels table.TREES bytes ≡ forest_at level bytes
-trees_same zero level is [] = refl
-trees_same zero level is (byte ∷ bytes) = sym (forest_deep level (byte ∷ bytes) (omega arith) (omega (arith, is)))
-trees_same (suc levels) level is bytes =
-    row (level_fault levels table.TREES) (trees_same levels (level + 1) (omega (arith, is)))
-    (length bytes) bytes (omega arith)
-  where
-    row : (f : Fault) → ((content : List ℕ) → f content ≡ forest_at (level + 1) content) → (most : ℕ) (bytes : List ℕ)
-        → length bytes ≤ most → many_fault tags.Any (nested_fault f) most bytes ≡ forest_at level bytes
-    row f inside zero [] few = refl
-    row f inside (suc most) [] few = refl
-    row f inside zero (tag ∷ bytes) few = absurd (omega arith)
-    row f inside (suc most) (tag ∷ bytes) few =
-        alike tags.Any (nested_fault f) (nested_fault (forest_at (level + 1))) _ (forest_at level) tag bytes
-        (λ content few. rw (inside content) refl) (λ rest less. row f inside most rest (omega arith))
-        ∙ sym (forest_some level (tag ∷ bytes) (omega arith) (omega (arith, is)))
-
-pub tree_kind : (bytes : List ℕ) → kind_of (tree_place bytes) ≡ tree_fault bytes
-tree_kind bytes = (place_says tags.Any rules.Tree bytes).0 ∙ (same bytes ∙ sym (tree_next bytes))
-  where
-    same : (bytes : List ℕ) → any_fault (nested_fault (level_fault 63 table.TREES)) end_fault bytes
-        ≡ any_fault (nested_fault (forest_at 2)) end_fault bytes
-    same [] = refl
-    same (tag ∷ bytes) =
-        alike tags.Any (nested_fault (level_fault 63 table.TREES)) (nested_fault (forest_at 2)) end_fault end_fault tag
-        bytes (λ content few. rw (trees_same 63 2 refl content) refl) (λ rest few. refl)
+pub certificate_refused : (bytes : List ℕ)
+    → IsPlaceOf (element_fault 0x30 records.certificate_fault end_fault bytes) (length bytes) (certificate_place bytes)
+certificate_refused = whole rules.Certificate _
+    (λ tag. only 62 table.CERTIFICATE _ (needed (λ _. refl) tbs_certificate (needed (λ _. refl) (algorithm 61)
+    (needed (λ _. refl) (leaf bits_says) (ends 62)))))

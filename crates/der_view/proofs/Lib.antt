@@ -4,7 +4,6 @@ pub mod CharacterLemmas
 pub mod CurveLemmas
 pub mod DrawingLemmas
 pub mod FaultLemmas
-pub mod FaultWalkLemmas
 pub mod HeaderLemmas
 pub mod KeyFormLemmas
 pub mod KeyLemmas

@@ -1,7 +1,6 @@
 pub mod AlgorithmLemmas
 pub mod CertificateLemmas
 pub mod ContainerLemmas
-pub mod DecodedLemmas
 pub mod FaultLemmas
 pub mod FieldLemmas
 pub mod HexTextLemmas

@@ -1,7 +1,6 @@
 -- The text of a picture in a buffer.
-use Rattle.std.proofs.Common.{◌≡◌, ℕ, ◌+◌, ◌-◌, ◌^◌, ◌≤◌, ◌<◌, ◌==◌, ◌&&◌, not, Bool, true, false, ◌∙◌, List, [], ◌++◌}
-use Rattle.std.proofs.Common.{ap, arith, length, length-append, refl, subst, sym, take, drop, if◌then◌else◌}
-use Rattle.std.proofs.lemmas.Bool.{eqb-true}
+use Rattle.std.proofs.Common.{◌≡◌, ℕ, ◌+◌, ◌-◌, ◌^◌, ◌≤◌, ◌<◌, Bool, true, false, ◌∙◌, List, [], ◌++◌, ap, arith}
+use Rattle.std.proofs.Common.{length, length-append, refl, subst, sym, take, drop, if◌then◌else◌}
 use Rattle.std.specs.Prelude.{min}
 use mir.Val.{bool_byte}
 use Rattle.sec1_c.specs.Outputs.{Writes}
@@ -53,16 +52,6 @@ drawn text old new bytes memory key result stored is_key len holds size few with
 -- no text, at the beginning of memory
 pub holds_none : (memory : List ℕ) (len : ℕ) → len ≡ 0 → Holds memory len []
 holds_none memory len none = record { len_is = omega (arith, none); begins = λ fits. refl }
-
-second : (a b : Bool) → (a && b) ≡ true → b ≡ true
-second true b both = both
-second false b both = cc
-
--- plain options ask for no element alone
-pub none_alone : (json : Bool) (levels offset : ℕ) → (not json && (levels == 0 && offset == 0)) ≡ true → offset ≡ 0
-none_alone json levels offset plain =
-    eqb-true offset 0
-    (second (levels == 0) (offset == 0) (second (not json) (levels == 0 && offset == 0) plain))
 
 -- the number that says whether there is a key
 pub told_number : (found has : Bool) (number : ℕ) → number ≡ bool_byte found → found ≡ has

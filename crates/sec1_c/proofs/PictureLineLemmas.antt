@@ -1,7 +1,6 @@
 -- The lines of a picture in an array, and what they are of.
-use Rattle.std.proofs.Common.{◌≡◌, ℕ, ◌+◌, ◌-◌, ◌^◌, ◌<◌, ◌≤◌, ◌∙◌, List, [], ◌∷◌, ◌++◌}
-use Rattle.std.proofs.Common.{ap, arith, refl, sym, length, take, drop, min, inl, inr}
-use Rattle.std.proofs.Common.{length-append, append_assoc, append-nil, length-drop, add-zero, subst}
+use Rattle.std.proofs.Common.{◌≡◌, ℕ, ◌+◌, ◌-◌, ◌^◌, ◌<◌, ◌≤◌, ◌∙◌, List, [], ◌∷◌, ◌++◌, ap, arith, refl, sym, length}
+use Rattle.std.proofs.Common.{take, drop, min, inl, inr, length-append, append_assoc, append-nil, length-drop, add-zero}
 use Rattle.std.proofs.Math.ListN.{set}
 use Rattle.std.proofs.Math.Seq.{drop-append_seam, drop-nil, set_out, take-append-add, take-nil}
 use Rattle.std.proofs.lemmas.Bool.{cases_lt}
@@ -10,15 +9,8 @@ use Rattle.std.proofs.lemmas.List.{length-take, length-take-le, take-take}
 use Rattle.std.proofs.lemmas.Slice.{take-put_mid}
 use Rattle.std.specs.List.{flat_map}
 use borrow.Rule.Slice.PartMut.{put_mid}
-use Rattle.der_view.specs.Drawings.{found_of}
-use Rattle.der_view.specs.Parts.{Content, IsIn, decoded_len}
 use Rattle.der_view.specs.Sources.{SourceView, sources_of}
-use Rattle.der_view.specs.declared.text.Found.{Found}
-use Rattle.der_view.specs.declared.text.Found.TheVariants as founds
-use Rattle.sec1_c.specs.PictureLines.{Adds, GrowsBy, IsDecodedAt, decoded_in, decoded_of}
-use Rattle.sec1_c.specs.PictureLines.{source_lines, sources_lines}
-use Rattle.sec1_c.specs.PictureLineLaws.{GrowsBy-none}
-use Rattle.sec1_c.specs.declared.picture.lines.Lines.{Lines}
+use Rattle.sec1_c.specs.PictureLines.{Adds, IsDecodedAt, decoded_of, source_lines, sources_lines}
 use Rattle.sec1_c.specs.declared.picture.lines.PictureLine.{PictureLine}
 
 -- an array whose first elements are these lines, as many as it has room for
@@ -69,21 +61,6 @@ Adds-one old new old_count new_count line few len wrote first before held =
                 ∙ (ap (λ array. set array (length before) line) held.stored ∙ one_more before first line room)
           ];
     }
-
--- what is found is that of its content
-pub found_is : (found : Found) (memory : List ℕ) (content : Content) → IsIn memory found content
-    → found ≡ found_of content
-found_is founds.Itself memory content is = ap found_of is.0
-found_is (founds.Decoded encoding flaw len) memory content is =
-    ap (λ n. founds.Decoded encoding flaw n) (sym (length-take-le len memory is.1)) ∙ ap found_of is.0
-found_is (founds.Said note) memory content is = ap found_of is.0
-
--- and what was decoded lies in the memory
-pub decoded_is : (found : Found) (memory : List ℕ) (content : Content) → IsIn memory found content
-    → take (decoded_len found) memory ≡ decoded_in content
-decoded_is founds.Itself memory content is = ap decoded_in is.0
-decoded_is (founds.Decoded encoding flaw len) memory content is = ap decoded_in is.0
-decoded_is (founds.Said note) memory content is = ap decoded_in is.0
 
 -- the lines of one more source
 pub sources_lines-snoc : (before : ℕ) (sources : List SourceView) (source : SourceView)
@@ -136,16 +113,3 @@ decoded_all before used input digits bytes done size within all decoded =
     let same : sources_of input ≡ done = all ∙ append-nil done in
     let len : length (flat_map decoded_of done) ≡ used = sym (ap length decoded) ∙ length-take-le used bytes within in
     rw (same, size, drop-append_seam digits bytes, len) decoded
-
--- a line was stored
-pub one_grows : (a b : Lines) (line : PictureLine) (lines : List PictureLine) → b.plan ≡ a.plan
-    → b.lines.ghost_name ≡ a.lines.ghost_name → Adds a.lines.now a.count b.lines.now b.count (line ∷ [])
-    → line ∷ [] ≡ lines → GrowsBy a b lines
-one_grows a b line lines plan place adds is = record {
-  plan = plan;
-  grows = record { place = place; adds = subst (Adds a.lines.now a.count b.lines.now b.count) is adds };
-}
-
--- or none
-pub none_grows : (a b : Lines) (lines : List PictureLine) → b ≡ a → [] ≡ lines → GrowsBy a b lines
-none_grows a b lines same is = rw (same, sym is) (GrowsBy-none a)

@@ -9,11 +9,11 @@ use Rattle.sec1_c.specs.declared.picture.lines.Lines.{Lines}
 use Rattle.sec1_c.specs.declared.picture.lines.PictureLine.{PictureLine}
 
 -- none
-pub Grows-none : (a : Lines) → Grows a a []
-Grows-none a = record { place = refl; adds = λ first before held. rw (append-nil before) held }
-
 pub GrowsBy-none : (a : Lines) → GrowsBy a a []
-GrowsBy-none a = record { plan = refl; grows = Grows-none a }
+GrowsBy-none a = record {
+  plan = refl;
+  grows = record { place = refl; adds = λ first before held. rw (append-nil before) held };
+}
 
 -- some, and more
 pub Grows-join : (a b c : Lines) (lines more : List PictureLine) → Grows a b lines → Grows b c more

@@ -67,12 +67,10 @@ words_lines said =
     ∷ (line_if said.key 3
     ++ (line_if said.point 3 ++ (line_if said.words 3 ++ line_if said.command 4)))
 
-abbrev pub text_if : List ℕ → ℕ → List PictureLine
-text_if text kind = line_if (not (length text == 0)) kind
-
 -- and of a source with none
 abbrev pub note_lines : Sentence → List PictureLine
-note_lines note = text_if (words_of note) 3 ++ text_if (command_of note) 4
+note_lines note =
+    line_if (not (length (words_of note) == 0)) 3 ++ line_if (not (length (command_of note) == 0)) 4
 
 -- the lines of the picture of bytes, which OpenSSL reads so
 unfoldable pub bytes_lines : Reading → List ℕ → List PictureLine

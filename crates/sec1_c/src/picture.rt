@@ -1,9 +1,8 @@
 //! Pictures of any input, DER or a text that encodes some: `sec1_picture_draw`,
 //! `sec1_picture_write` and `sec1_picture_lines`.
 ghost use Rattle.std.specs.Prelude.{◌≡◌, ◌<◌, ◌≤◌, ◌+◌, ◌*◌, ◌-◌, ◌/◌, ◌^◌, ◌==◌, length, min};
-ghost use Rattle.std.specs.Prelude.{◌↔◌, IsTrue, not, true};
+ghost use Rattle.std.specs.Prelude.{◌↔◌, IsTrue, not};
 ghost use Rattle.der_view.specs.Drawings.{has_key, picture_text};
-ghost use Rattle.der_view.specs.Shows.{are_plain};
 ghost use Rattle.der_view.specs.Sources.{source_len, source_view, text_len};
 ghost use Rattle.sec1_c.specs.PictureLines.{AreListed, IsDecodedAt, picture_lines};
 ghost use Rattle.sec1_c.specs.Pictures.{IsDrawn, IsStored, key_number};
@@ -45,14 +44,7 @@ pub extern "C" fn sec1_picture_draw(
         < length text.old + min (2 * text_len input.now + 2) (2 ^ 64 - 1)
         → (result ≡ 7) × (len.new ≡ 0) × (text.new ≡ text.old) × (is_key.new ≡ 0) }
 {
-    let options = Options {
-        all: all != 0,
-        json: false,
-        levels: 0,
-        offset: 0,
-        file: &[],
-    };
-    write_picture(input, &options, room, text, len, is_key)
+    sec1_picture_write(input, all, 0, 0, 0, &[], room, text, len, is_key)
 }
 
 /// Writes the picture of an input as `sec1_picture_draw` does, or in another form: with `json`
@@ -86,6 +78,11 @@ pub extern "C" fn sec1_picture_write(
         < length text.old + min (2 * text_len input.now + 2) (2 ^ 64 - 1)
         → (result ≡ 7) × (len.new ≡ 0) × (text.new ≡ text.old) × (is_key.new ≡ 0) }
 {
+    *len = 0;
+    *is_key = 0;
+    if room.len() < text.len() || !is_room(input, room.len() - text.len()) {
+        return kind_number(ErrorKind::Buffer);
+    }
     let options = Options {
         all: all != 0,
         json: json != 0,
@@ -93,41 +90,9 @@ pub extern "C" fn sec1_picture_write(
         offset,
         file,
     };
-    write_picture(input, &options, room, text, len, is_key)
-}
-
-/// Writes the picture of an input by these options at the beginning of `text`, and stores its
-/// length and whether some part of what is drawn is a key.
-///
-/// # Errors
-///
-/// Those of `sec1_picture_draw`.
-fn write_picture(
-    input: &[u8],
-    options: &Options,
-    room: &mut [u8],
-    text: &mut [u8],
-    len: &mut usize,
-    is_key: &mut usize,
-) -> u32
-    ensures exact { are_plain options.now ≡ true
-        → length text.old + min (2 * text_len input.now + 2) (2 ^ 64 - 1) ≤ length room.old
-        → IsDrawn (picture_text options.now.all input.now) (key_number input.now) text.old text.new
-        result len.new is_key.new }
-    ensures stored { IsStored text.old text.new result len.new is_key.new }
-    ensures key { result ≡ 0 → options.now.offset ≡ 0 → is_key.new ≡ key_number input.now }
-    ensures buffer { length room.old
-        < length text.old + min (2 * text_len input.now + 2) (2 ^ 64 - 1)
-        → (result ≡ 7) × (len.new ≡ 0) × (text.new ≡ text.old) × (is_key.new ≡ 0) }
-{
-    *len = 0;
-    *is_key = 0;
-    if room.len() < text.len() || !is_room(input, room.len() - text.len()) {
-        return kind_number(ErrorKind::Buffer);
-    }
     let (copy, room) = room.split_at_mut(text.len());
     let mut writer = Text::new(copy);
-    let has_key = match show(&mut writer, input, room, options) {
+    let has_key = match show(&mut writer, input, room, &options) {
         Ok(has_key) => has_key,
         Err(never) => match never {},
     };
@@ -172,11 +137,12 @@ pub extern "C" fn sec1_picture_lines(
     let mut sources = Sources::new(input);
     let mut used = 0;
     while let Some(source) = sources.next_source() {
-        let rest = &mut bytes[used..];
         let source_len = source_len(&source);
-        if digits.len() < source_len || rest.len() < source_len.saturating_add(2) {
+        let room_len = source_len.saturating_add(2);
+        if digits.len() < source_len || bytes.len() - used < room_len {
             return kind_number(ErrorKind::Buffer);
         }
+        let rest = &mut bytes[used..used + room_len];
         used += lines.push_source(&source, digits.len().saturating_add(used), digits, rest);
     }
     *count = lines.count();
@@ -192,14 +158,7 @@ pub extern "C" fn sec1_picture_lines(
 fn is_room(input: &[u8], len: usize) -> bool
     ensures { IsTrue result ↔ (min (2 * text_len input.now + 2) (2 ^ 64 - 1) ≤ len) }
 {
-    room_of_text(input.len()) <= len || room_len(input) <= len
-}
-
-/// Returns the number of bytes of memory that decoding a text of so many bytes needs.
-fn room_of_text(len: usize) -> usize
-    ensures { result ≡ min (2 * len + 2) (2 ^ 64 - 1) }
-{
-    len.saturating_mul(2).saturating_add(2)
+    input.len().saturating_mul(2).saturating_add(2) <= len || room_len(input) <= len
 }
 
 /// Returns the number of characters of a part that may encode bytes.

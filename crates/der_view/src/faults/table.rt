@@ -3,22 +3,15 @@
 ghost use Rattle.std.specs.Prelude.{◌≡◌, ◌≤◌, length, Some, option_map};
 ghost use Rattle.sec1_der.specs.Elements.{max_length};
 ghost use Rattle.der_view.specs.Containers.{has_version_one};
-ghost use Rattle.der_view.specs.FaultRules.{inside_of};
+ghost use Rattle.der_view.specs.FaultPlaces.{inside_of};
 
-use self::Expected::{Any, One, Time};
+use self::Rule::{
+    Algorithm, Bits, Bytes, Container, Curve, CurveName, Extensions, ExtensionsField, Identifier,
+    Integer, KeyAttributes, LaterVersion, Name, Point, PublicKeyInfo, TbsCertificate, Time, Tree,
+    Unsigned, Validity, Version,
+};
 use crate::grammar::Presence::{self, Many, Needed, Optional};
 use sec1_der::{SliceReader, SmallInteger};
-
-/// The tags that an element may have.
-#[derive(Clone, Copy)]
-pub(crate) enum Expected {
-    /// This one.
-    One(u8),
-    /// That of a UTCTime or a GeneralizedTime (RFC 5280 section 4.1.2.5).
-    Time,
-    /// Every tag.
-    Any,
-}
 
 /// What a content has to be.
 #[derive(Clone, Copy)]
@@ -88,129 +81,115 @@ pub(crate) enum Rule {
     Extension,
 }
 
-/// A component of a structure: its tag, whether it may be absent, and its content. One that may
-/// come many times is the last.
-pub(crate) type Component = (Expected, Presence, Rule);
+/// A component of a structure: its tag, whether it may be absent, and its content. The tag `17`
+/// stands for a UTCTime or a GeneralizedTime (RFC 5280 section 4.1.2.5), and `00` for any. One that
+/// may come many times is the last.
+pub(crate) type Component = (u8, Presence, Rule);
 
 const EC_PRIVATE_KEY: [Component; 4] = [
-    (One(0x02), Needed, Rule::One),
-    (One(0x04), Needed, Rule::Bytes),
-    (One(0xA0), Optional, Rule::Curve),
-    (One(0xA1), Optional, Rule::Point),
+    (0x02, Needed, Rule::One),
+    (0x04, Needed, Bytes),
+    (0xA0, Optional, Curve),
+    (0xA1, Optional, Point),
 ];
 
-const CURVE: [Component; 1] = [(One(0x06), Needed, Rule::CurveName)];
+const CURVE: [Component; 1] = [(0x06, Needed, CurveName)];
 
-const POINT: [Component; 1] = [(One(0x03), Needed, Rule::Bits)];
+const POINT: [Component; 1] = [(0x03, Needed, Bits)];
 
-const TREES: [Component; 1] = [(Any, Many, Rule::Tree)];
+const TREES: [Component; 1] = [(0x00, Many, Tree)];
 
-const NUMBERS: [Component; 2] = [
-    (One(0x02), Needed, Rule::Unsigned),
-    (One(0x02), Needed, Rule::Unsigned),
-];
+const NUMBERS: [Component; 2] = [(0x02, Needed, Unsigned), (0x02, Needed, Unsigned)];
 
-const ALGORITHM: [Component; 2] = [
-    (One(0x06), Needed, Rule::Identifier),
-    (Any, Optional, Rule::Bytes),
-];
+const ALGORITHM: [Component; 2] = [(0x06, Needed, Identifier), (0x00, Optional, Bytes)];
 
-const PUBLIC_KEY_INFO: [Component; 2] = [
-    (One(0x30), Needed, Rule::Algorithm),
-    (One(0x03), Needed, Rule::Bits),
-];
+const PUBLIC_KEY_INFO: [Component; 2] = [(0x30, Needed, Algorithm), (0x03, Needed, Bits)];
 
 const PRIVATE_KEY_INFO: [Component; 4] = [
-    (One(0x02), Needed, Rule::Zero),
-    (One(0x30), Needed, Rule::Algorithm),
-    (One(0x04), Needed, Rule::Bytes),
-    (One(0xA0), Optional, Rule::KeyAttributes),
+    (0x02, Needed, Rule::Zero),
+    (0x30, Needed, Algorithm),
+    (0x04, Needed, Bytes),
+    (0xA0, Optional, KeyAttributes),
 ];
 
 const ONE_ASYMMETRIC_KEY: [Component; 5] = [
-    (One(0x02), Needed, Rule::One),
-    (One(0x30), Needed, Rule::Algorithm),
-    (One(0x04), Needed, Rule::Bytes),
-    (One(0xA0), Optional, Rule::KeyAttributes),
-    (One(0x81), Optional, Rule::Bits),
+    (0x02, Needed, Rule::One),
+    (0x30, Needed, Algorithm),
+    (0x04, Needed, Bytes),
+    (0xA0, Optional, KeyAttributes),
+    (0x81, Optional, Bits),
 ];
 
-const KEY_ATTRIBUTES: [Component; 1] = [(One(0x30), Many, Rule::KeyAttribute)];
+const KEY_ATTRIBUTES: [Component; 1] = [(0x30, Many, Rule::KeyAttribute)];
 
-const KEY_ATTRIBUTE: [Component; 2] = [
-    (One(0x06), Needed, Rule::Identifier),
-    (One(0x31), Needed, Rule::Bytes),
-];
+const KEY_ATTRIBUTE: [Component; 2] = [(0x06, Needed, Identifier), (0x31, Needed, Bytes)];
 
 const CERTIFICATE: [Component; 3] = [
-    (One(0x30), Needed, Rule::TbsCertificate),
-    (One(0x30), Needed, Rule::Algorithm),
-    (One(0x03), Needed, Rule::Bits),
+    (0x30, Needed, TbsCertificate),
+    (0x30, Needed, Algorithm),
+    (0x03, Needed, Bits),
 ];
 
 const TBS_CERTIFICATE: [Component; 10] = [
-    (One(0xA0), Optional, Rule::Version),
-    (One(0x02), Needed, Rule::Integer),
-    (One(0x30), Needed, Rule::Algorithm),
-    (One(0x30), Needed, Rule::Name),
-    (One(0x30), Needed, Rule::Validity),
-    (One(0x30), Needed, Rule::Name),
-    (One(0x30), Needed, Rule::PublicKeyInfo),
-    (One(0x81), Optional, Rule::Bits),
-    (One(0x82), Optional, Rule::Bits),
-    (One(0xA3), Optional, Rule::ExtensionsField),
+    (0xA0, Optional, Version),
+    (0x02, Needed, Integer),
+    (0x30, Needed, Algorithm),
+    (0x30, Needed, Name),
+    (0x30, Needed, Validity),
+    (0x30, Needed, Name),
+    (0x30, Needed, PublicKeyInfo),
+    (0x81, Optional, Bits),
+    (0x82, Optional, Bits),
+    (0xA3, Optional, ExtensionsField),
 ];
 
-const VERSION: [Component; 1] = [(One(0x02), Needed, Rule::LaterVersion)];
+const VERSION: [Component; 1] = [(0x02, Needed, LaterVersion)];
 
-const NAME: [Component; 1] = [(One(0x31), Many, Rule::RelativeName)];
+const NAME: [Component; 1] = [(0x31, Many, Rule::RelativeName)];
 
-const RELATIVE_NAME: [Component; 1] = [(One(0x30), Many, Rule::NameAttribute)];
+const RELATIVE_NAME: [Component; 1] = [(0x30, Many, Rule::NameAttribute)];
 
-const NAME_ATTRIBUTE: [Component; 2] = [
-    (One(0x06), Needed, Rule::Identifier),
-    (Any, Needed, Rule::Bytes),
-];
+const NAME_ATTRIBUTE: [Component; 2] = [(0x06, Needed, Identifier), (0x00, Needed, Bytes)];
 
-const VALIDITY: [Component; 2] = [(Time, Needed, Rule::Time), (Time, Needed, Rule::Time)];
+const VALIDITY: [Component; 2] = [(0x17, Needed, Time), (0x17, Needed, Time)];
 
-const EXTENSIONS_FIELD: [Component; 1] = [(One(0x30), Needed, Rule::Extensions)];
+const EXTENSIONS_FIELD: [Component; 1] = [(0x30, Needed, Extensions)];
 
-const EXTENSIONS: [Component; 1] = [(One(0x30), Many, Rule::Extension)];
+const EXTENSIONS: [Component; 1] = [(0x30, Many, Rule::Extension)];
 
 const EXTENSION: [Component; 3] = [
-    (One(0x06), Needed, Rule::Identifier),
-    (One(0x01), Optional, Rule::True),
-    (One(0x04), Needed, Rule::Bytes),
+    (0x06, Needed, Identifier),
+    (0x01, Optional, Rule::True),
+    (0x04, Needed, Bytes),
 ];
 
 /// Borrows the components that the content of an element with this tag has to be, if they are of a
 /// structure.
-pub(crate) fn inside_of(rule: Rule, tag: u8, content: &[u8]) -> Option<&'static [Component]>
+pub(super) fn inside_of(rule: Rule, tag: u8, content: &[u8]) -> Option<&'static [Component]>
     requires { length content.now ≤ max_length }
     ensures { option_map (λ row. row.now) result ≡ inside_of rule tag content.now }
 {
     match rule {
-        Rule::Tree if tag & 0x20 != 0 => Some(&TREES),
+        Tree if tag & 0x20 != 0 => Some(&TREES),
         Rule::EcPrivateKey => Some(&EC_PRIVATE_KEY),
-        Rule::Curve => Some(&CURVE),
-        Rule::Point => Some(&POINT),
+        Curve => Some(&CURVE),
+        Point => Some(&POINT),
         Rule::Signature => Some(&NUMBERS),
-        Rule::Algorithm => Some(&ALGORITHM),
-        Rule::PublicKeyInfo => Some(&PUBLIC_KEY_INFO),
-        Rule::Container if has_version_one(content) => Some(&ONE_ASYMMETRIC_KEY),
-        Rule::Container => Some(&PRIVATE_KEY_INFO),
-        Rule::KeyAttributes => Some(&KEY_ATTRIBUTES),
+        Algorithm => Some(&ALGORITHM),
+        PublicKeyInfo => Some(&PUBLIC_KEY_INFO),
+        Container if has_version_one(content) => Some(&ONE_ASYMMETRIC_KEY),
+        Container => Some(&PRIVATE_KEY_INFO),
+        KeyAttributes => Some(&KEY_ATTRIBUTES),
         Rule::KeyAttribute => Some(&KEY_ATTRIBUTE),
         Rule::Certificate => Some(&CERTIFICATE),
-        Rule::TbsCertificate => Some(&TBS_CERTIFICATE),
-        Rule::Version => Some(&VERSION),
-        Rule::Name => Some(&NAME),
+        TbsCertificate => Some(&TBS_CERTIFICATE),
+        Version => Some(&VERSION),
+        Name => Some(&NAME),
         Rule::RelativeName => Some(&RELATIVE_NAME),
         Rule::NameAttribute => Some(&NAME_ATTRIBUTE),
-        Rule::Validity => Some(&VALIDITY),
-        Rule::ExtensionsField => Some(&EXTENSIONS_FIELD),
-        Rule::Extensions => Some(&EXTENSIONS),
+        Validity => Some(&VALIDITY),
+        ExtensionsField => Some(&EXTENSIONS_FIELD),
+        Extensions => Some(&EXTENSIONS),
         Rule::Extension => Some(&EXTENSION),
         _ => None,
     }

@@ -164,7 +164,7 @@ impl<'a> Lines<'a> {
     fn push_said(&mut self, said: SaidLines)
         ensures { GrowsBy self.old self.new (words_lines said) }
     {
-        self.push(of_kind(WORDS));
+        self.push_if(true, WORDS);
         self.push_if(said.key, WORDS);
         self.push_if(said.point, WORDS);
         self.push_if(said.words, WORDS);

@@ -1,13 +1,11 @@
 use Rattle.std.proofs.Common.{◌≡◌, ◌≤◌, ◌+◌, ◌-◌, ◌/◌, [], ◌∷◌, ◌++◌, List, length, refl, sym, ap, ◌∙◌, arith}
 use Rattle.std.proofs.Common.{append_assoc}
-use Rattle.std.proofs.Common.{subst}
 use Rattle.std.proofs.lemmas.List.{length-take-le}
 use Rattle.std.specs.List.{flat_map}
-use Rattle.der_view.proofs.SourceLemmas.{sources_within}
-use Rattle.der_view.specs.Sources.{SourceView, source_view, total_len}
-use Rattle.sec1_c.proofs.DecodedLemmas.{decoded_within}
+use Rattle.der_view.specs.Sources.{SourceView, source_view}
 use Rattle.sec1_c.proofs.PictureLineLemmas.{decoded-snoc, decoded_all, part_written, sources_lines-snoc}
-use Rattle.sec1_c.specs.PictureLines.{AreStored, IsDecodedAt, decoded_of, source_lines, sources_lines}
+use Rattle.sec1_c.proofs.SourceLemmas.{sources_total, total_len}
+use Rattle.sec1_c.specs.PictureLines.{IsDecodedAt, decoded_of}
 use Rattle.sec1_c.proofs.picture.sec1_picture_lines.Goals as goal
 use Rattle.sec1_c.proofs.picture.sec1_picture_lines.Goals.{In_default}
 
@@ -30,17 +28,16 @@ loop-source-preserved c =
     let more = c.push_source-used.result in
     let fits : more ≤ length new = omega (arith, c.push_source-used.ensures.within, c.push_source-used.auto.bytes) in
     let written =
-    part_written c.loop-source.used (length c.loop-source.bytes - c.loop-source.used) more c.loop-source.bytes new
-    c.loop-source.invariant.within fits in
+    part_written c.loop-source.used (c.loop-source.used + c.saturating_add-room_len.result - c.loop-source.used) more
+    c.loop-source.bytes new c.loop-source.invariant.within fits in
     let len : length (decoded_of source) ≡ more =
     sym (ap length c.push_source-used.ensures.decoded) ∙ length-take-le more new fits in
     let used : length (flat_map decoded_of done.0) ≡ c.loop-source.used =
     sym (ap length done.2) ∙ length-take-le c.loop-source.used c.loop-source.bytes c.loop-source.invariant.within in
-    let place : c.saturating_add-in-Some.result ≡ length c.loop-source.digits + length (flat_map decoded_of done.0) =
-    omega (arith, c.saturating_add-in-Some.ensures, used, c.loop-source.auto.digits, c.loop-source.auto.bytes) in
+    let place : c.saturating_add.result ≡ length c.loop-source.digits + length (flat_map decoded_of done.0) =
+    omega (arith, c.saturating_add.ensures, used, c.loop-source.auto.digits, c.loop-source.auto.bytes) in
     record {
       room =
-          let few = decoded_within source in
           let left = ap total_len c.in-Some.ensures in
           omega arith;
       within = written.1;
@@ -51,15 +48,8 @@ loop-source-preserved c =
             ∙ (ap (λ (rest : List SourceView). done.0 ++ rest) c.in-Some.ensures
             ∙ sym (append_assoc done.0 (source ∷ []) _)),
         written.0 ∙ decoded-snoc done.0 source _ _ done.2 c.push_source-used.ensures.decoded,
-        subst (λ n. AreStored c.args.lines.now c.push_source-used.new.self.lines.now
-            c.push_source-used.new.self.count (sources_lines n (done.0 ++ source ∷ [])))
-            (sym c.push_source-used.auto.digits)
-            (subst (AreStored c.args.lines.now c.push_source-used.new.self.lines.now c.push_source-used.new.self.count)
-            (sym (sources_lines-snoc (length c.loop-source.digits) done.0 source))
-            (subst (λ n. AreStored c.args.lines.now c.push_source-used.new.self.lines.now
-            c.push_source-used.new.self.count
-            (sources_lines (length c.loop-source.digits) done.0 ++ source_lines n source)) place
-            (c.push_source-used.ensures.added.adds c.args.lines.now _ done.3))),
+        rw (c.push_source-used.auto.digits, sources_lines-snoc (length c.loop-source.digits) done.0 source, ← place)
+            (c.push_source-used.ensures.added.adds c.args.lines.now _ done.3),
       );
     }
 

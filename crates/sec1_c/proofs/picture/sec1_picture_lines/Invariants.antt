@@ -6,7 +6,7 @@ use Rattle.sec1_c.proofs.picture.sec1_picture_lines.Given as goal
 
 abbrev pub invariant-loop-source : goal.invariant-loop-source
 invariant-loop-source l = record {
-  room : l.used + total_len l.sources ≤ text_len l.input;
+  room : l.used + total_len l.sources ≤ text_len l.input + 2;
   within : l.used ≤ length l.bytes;
   same_reference : l.lines.lines.ghost_name ≡ l.initial.lines.lines.ghost_name;
   listed :

@@ -1,48 +1,27 @@
-use Rattle.std.proofs.Common.{rules, ◌≡◌, ◌∙◌, ◌-◌, None, List, ℕ, arith, drop, length, refl}
+use Rattle.std.proofs.Common.{rules, ◌+◌, ◌-◌, arith, length}
 use Rattle.std.proofs.lemmas.Grind.{common_steps}
-use Rattle.std.specs.Prelude.{option_map}
-use Rattle.der_view.specs.FaultPlaces.{inside_place, level_place}
-use Rattle.der_view.proofs.FaultWalkLemmas.{found, passed}
 use Rattle.der_view.proofs.faults.walk.+check.Goals as goal
-use Rattle.der_view.proofs.faults.walk.+check.Goals.{in-Some+in_ok-check, in_default-inside_of}
 
-pub returns-in_err-check_own : goal.returns-in_err-check_own
-returns-in_err-check_own t c =
-    let x = c.in_ok-found.found in
-    let rest : List ℕ = x.rest.now in
-    let content : List ℕ = x.content.now in
-    let end = c.args.end - length rest in
-    let row = option_map (λ row. row.now) c.inside_of.result in
-    let none : inside_place (level_place (c.args.levels - 1)) row end content ≡ None =
-    elim c.match-inside_of.branch [
-      | in-Some+in_ok-check w ↦ rw w.in-Some.is w.in_ok-check.ensures
-      | in_default-inside_of w ↦ rw w.in_default-inside_of.is refl
-    ] in
-    let e = c.loop-components.invariant.0
-    ∙ found c.args.levels (c.args.levels - 1) _ c.loop-components.components.now
-    (drop 1 c.loop-components.components.now) c.args.end c.loop-components.rest.now x.tag content rest _ (search rules)
-    (search rules) refl (search rules)
-    c.in_ok-found.ensures.found (search rules)
-    (passed (c.args.levels - 1) _ x.tag end content row _ c.inside_of.ensures none c.in_err-check_own.ensures) in
-    search rules
+pub check-loop-components-init : goal.check-loop-components-init
+check-loop-components-init t c = (
+  length c.args.components.now + length c.args.bytes.now,
+  omega arith,
+  grind (arith, common_steps),
+  omega arith,
+)
 
-pub loop-components-preserved-then-comes : goal.loop-components-preserved-then-comes
-loop-components-preserved-then-comes t c =
-    let x = c.in_ok-found.found in
-    let rest : List ℕ = x.rest.now in
-    let content : List ℕ = x.content.now in
-    let end = c.args.end - length rest in
-    let row = option_map (λ row. row.now) c.inside_of.result in
-    let none : inside_place (level_place (c.args.levels - 1)) row end content ≡ None =
-    elim c.match-inside_of.branch [
-      | in-Some+in_ok-check w ↦ rw w.in-Some.is w.in_ok-check.ensures
-      | in_default-inside_of w ↦ rw w.in_default-inside_of.is refl
-    ] in (
-      c.loop-components.invariant.0
-          ∙ rw c.after-components.ensures
-          (found c.args.levels (c.args.levels - 1) _ c.loop-components.components.now _ c.args.end
-          c.loop-components.rest.now x.tag content rest None (search rules) (search rules) (grind (arith, common_steps))
-          (search rules) c.in_ok-found.ensures.found (search rules)
-          (passed (c.args.levels - 1) _ x.tag end content row None c.inside_of.ensures none c.in_ok-check_own.ensures)),
-      search rules,
-    )
+pub check-loop-components-preserved-then-comes : goal.check-loop-components-preserved-then-comes
+check-loop-components-preserved-then-comes t c = (
+  c.loop-components.invariant.0 - 1,
+  omega (arith, c.in_ok-tag.ensures.within.0, c.after-components.ensures.within),
+  grind (arith, common_steps, c.loop-components.invariant.2, c.in_ok-tag.ensures.found, c.in_ok-check_content.ensures),
+  search rules,
+)
+
+pub check-loop-components-preserved : goal.check-loop-components-preserved
+check-loop-components-preserved t c = (
+  c.loop-components.invariant.0 - 1,
+  grind (arith, common_steps),
+  grind (arith, common_steps, c.loop-components.invariant.2),
+  search rules,
+)

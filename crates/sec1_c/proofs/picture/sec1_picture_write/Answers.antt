@@ -1,13 +1,12 @@
-use Rattle.std.proofs.Common.{◌≡◌, [], length, arith, ◌∙◌}
+use Rattle.std.proofs.Common.{◌≡◌, [], length, arith, refl, ◌∙◌}
 use Rattle.der_view.specs.Drawings.{has_key}
-use Rattle.sec1_c.proofs.PictureLemmas.{drawn, holds_none, none_alone, told_number}
-use Rattle.sec1_c.proofs.picture.write_picture.Goals as goal
+use Rattle.sec1_c.proofs.PictureLemmas.{drawn, holds_none, told_number}
+use Rattle.sec1_c.proofs.picture.sec1_picture_write.Goals as goal
 
 pub returns-clause-exact : goal.returns-clause-exact
-returns-clause-exact c plain room =
-    let options = c.args.options.now in
-    let written = c.in-Ok.ensures.plain plain in
-    let told = c.in-Ok.ensures.key (none_alone options.json options.levels options.offset plain) in
+returns-clause-exact c json levels offset room =
+    let written = c.in-Ok.ensures.plain (rw (json, levels, offset) refl) in
+    let told = c.in-Ok.ensures.key offset in
     let copy : length c.new-writer.result.buffer.now ≡ length c.args.text.now =
     omega (arith, c.new-writer.ensures.size, c.split_at_mut-copy.ensures.front_len) in
     drawn _ _ _ _ _ _ _ _ _ _
