@@ -11,7 +11,7 @@ use Rattle.sec1.specs.Keys.{IsKeyOf, Key, field}
 use Rattle.sec1_der.specs.Elements.{element, header, length_octets}
 use Rattle.sec1_der.specs.Identifiers.{content_of}
 use Rattle.sec1_der.specs.Trees.{forest, joined, leaf}
-use Rattle.der_view.specs.Grammar.{Component, Form, cases, components, key_components}
+use Rattle.der_view.specs.Grammar.{Component, Form, cases, components}
 use Rattle.der_view.specs.Headers.{max_content_len}
 use Rattle.der_view.specs.Keys.{is_low}
 use Rattle.der_view.specs.Pictures.{best, better, capped, ended_by, first_place, known_as, left_as, left_in, nearest}
@@ -149,31 +149,31 @@ field_follows some tag inner content rest g p s name c others low deep is known 
     (leaf_follows 2 (components s) inner content [] c [] refl deep known shut (ended 2 [] refl) most few less)) next
 
 abbrev ec_key : List Component
-ec_key = components (structures.Key of_keys.EcPrivateKey)
+ec_key = components structures.EcPrivateKey
 
 abbrev point_row : Component
-point_row = (0xA1, presences.Optional, contents.Inside (structures.Key of_keys.PublicPoint), names.PublicKey)
+point_row = (0xA1, presences.Optional, contents.Inside structures.PublicPoint, names.PublicKey)
 
 public_follows : (some : List Component) (q : Option (List ℕ)) → may_end some ≡ true
     → ((x : List ℕ) → component_at 0xA1 (der_header 0xA1 (length x)) x some ≡ Some (point_row, []))
     → Follows 1 some (joined (forest (field 1 (option_map (λ bytes. leaf 0x03 (0 ∷ bytes)) q))))
-unfolding cases components key_components admits opened_in others_after
+unfolding cases components admits opened_in others_after
 public_follows some None may is = ended 1 some may
 public_follows some (Some bytes) may is =
-    field_follows some 0xA1 0x03 (0 ∷ bytes) [] _ _ (structures.Key of_keys.PublicPoint) _ _ [] refl refl is refl
+    field_follows some 0xA1 0x03 (0 ∷ bytes) [] _ _ structures.PublicPoint _ _ [] refl refl is refl
     (λ whole. refl) (ended 1 [] refl)
 
 fields_follow : (p q : Option (List ℕ)) → Follows 1 (drop 2 ec_key) (joined (forest
     (field 0 (option_map (λ arcs. leaf 0x06 (content_of arcs)) p)
     ++ field 1 (option_map (λ bytes. leaf 0x03 (0 ∷ bytes)) q))))
-unfolding cases components key_components admits opened_in others_after
+unfolding cases components admits opened_in others_after
 fields_follow None q = public_follows (drop 2 ec_key) q refl (λ x. refl)
 fields_follow (Some arcs) q =
-    field_follows (drop 2 ec_key) 0xA0 0x06 (content_of arcs) _ _ _ (structures.Key of_keys.CurveName) _ _
+    field_follows (drop 2 ec_key) 0xA0 0x06 (content_of arcs) _ _ _ structures.CurveName _ _
     (drop 3 ec_key) refl refl (λ x. refl) refl (λ whole. refl) (public_follows (drop 3 ec_key) q refl (λ x. refl))
 
 key_follows : (key : Key) → Follows 1 ec_key (inside_key key)
-unfolding cases components key_components admits opened_in others_after
+unfolding cases components admits opened_in others_after
 key_follows key =
     leaf_follows 1 ec_key 0x02 (1 ∷ []) _ _ (drop 1 ec_key) refl refl refl (λ whole. refl)
     (leaf_follows 1 (drop 1 ec_key) 0x04 key.private_key _ _ (drop 2 ec_key) refl refl refl (λ whole. refl)
@@ -218,7 +218,7 @@ key_known key a is few =
     ∙ (next_is true false (root ∷ []) 0x30 m content refl (omega (arith, size, few))
     ∙ rw (short, take-length content, drop-length content) refl) in
     let goes : Goes (length a) 0 (root ∷ []) step =
-    inside_goes (length a) 0 (root ∷ []) (der_header 0x30 m) head _ _ (structures.Key of_keys.EcPrivateKey) _
+    inside_goes (length a) 0 (root ∷ []) (der_header 0x30 m) head _ _ structures.EcPrivateKey _
     [] content [] refl (key_follows key (length a) (omega (arith, size, few)) (omega (arith, size))) in
     let whole : whole_as false root a ≡ true =
     whole_found false root a step begins

@@ -205,7 +205,7 @@ numbers_unseen levels numbers m n x y rest shut all are some few =
 
 pub ec_unseen : (m n : ℕ) (version x y rest : List ℕ) → length version ≤ max_content_len
     → AreUnseen m [] ((0x02, version) ∷ []) 0x04 n x y rest
-unfolding cases components container_components key_components public_components service_components signed_components
+unfolding cases components
 ec_unseen m n version x y rest few =
     unseen [] ((0x02, version) ∷ []) 0x04 m n x y rest (octets_shut n, refl) refl ((refl, few, tt), refl)
 

@@ -16,7 +16,6 @@ pub mod NameLemmas
 pub mod PictureLemmas
 pub mod PictureMaskLemmas
 pub mod PrintingLemmas
-pub mod RestLemmas
 pub mod RowLemmas
 pub mod RowLenLemmas
 pub mod RowMaskLemmas

@@ -237,13 +237,6 @@ module _ (whole : Structure → List ℕ → Bool) (loose : Bool) (header : Head
   front_within (contents.Bits t) (a ∷ x) s is = omega arith
   front_within k x s is = omega arith
 
--- an indefinite content has none
-pub front_open : (header : Header) (k : Content) (x : List ℕ) → admits header k x ≡ true
-    → is_none header.content_len ≡ true → front_len k ≡ 0
-unfolding admits
-front_open header (contents.Bits t) x fits is = grind arith
-front_open header k x fits is = refl
-
 -- a content whose mask has zeros is taken for the same component: no identifier begins with 0
 zeros_other : (family : Family) (x : List ℕ) → is_of (identifiers family) (zeros x) ≡ false
 unfolding identifiers

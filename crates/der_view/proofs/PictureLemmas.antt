@@ -37,14 +37,6 @@ module _ (loose : Bool) (root : Component) (bytes : List ℕ) where
   unfolding whole_as
   whole_found step is = rw is refl
 
-pub ended_none : (step : Step) (rest : List ℕ) → length rest ≡ 0 → ended_by step (Some rest) ≡ is_complete step
-ended_none step [] none = refl
-ended_none step (byte ∷ rest) none = absurd (cc none)
-
-pub ended_left : (step : Step) (rest : List ℕ) → length rest ≢ 0 → ended_by step (Some rest) ≡ false
-ended_left step [] some = absurd (some refl)
-ended_left step (byte ∷ rest) some = refl
-
 -- a number that is counted as a usize
 pub counted : (n m : ℕ) → n < 2 ^ 64 → capped n ≡ capped (0 + m) → n ≡ capped m
 counted n m fits same = omega (arith, fits, same)

@@ -133,12 +133,6 @@ pub row_step : (how : How) (most : ℕ) (marked : Bool) (place : Place) (some : 
     (rest_after how.loose most (place.depth + 1) step)
 row_step how most marked place some bytes step is at = rw (is, at) refl
 
-pub mask_stop : (loose small : Bool) (most depth : ℕ) (marked : Bool) (some : List Component) (bytes : List ℕ)
-    → end_at loose marked some bytes ≡ None → step_at loose depth some bytes ≡ None
-    → (masked loose small (suc most) depth marked some bytes ≡ undrawn bytes)
-    × (rest_of loose (suc most) depth marked some bytes ≡ None)
-mask_stop loose small most depth marked some bytes is at = (rw (is, at) refl, rw (is, at) refl)
-
 module _ (loose small : Bool) (most : ℕ) (marked : Bool) (place : Place) (some : List Component) (bytes : List ℕ)
     (inner : Inner small most) where
   -- as many other bytes, with these after the level, and these rows

@@ -61,8 +61,9 @@ block_within : (line : ℕ) (label : List ℕ) (lines : List (List ℕ)) (cut : 
 block_within line label lines None = body_within (concat lines)
 block_within line label lines (Some cut) = body_within cut.before
 
--- the first line of a block is a boundary
-first_is_boundary : (line label : List ℕ) → label_of line ≡ Some label → is_of kinds.Boundary line ≡ true
+-- the first line of a block is a boundary, and not short
+first_is_boundary : (line label : List ℕ) → label_of line ≡ Some label
+    → (is_of kinds.Boundary line ≡ true) × (2 ≤ length line)
 first_is_boundary line label is = elim (cases_Bool (bytes_eq (take 11 (trimmed line)) (codes "-----BEGIN "))) [
   | inl passes ↦
       let n : ℕ = length line - suffix_len is_ascii_whitespace line in
@@ -73,20 +74,21 @@ first_is_boundary line label is = elim (cases_Bool (bytes_eq (take 11 (trimmed l
       let front : take 5 line ≡ codes "-----" =
       sym (take-take 5 n line (omega arith))
       ∙ (sym (take-take 5 11 (take n line) (omega arith)) ∙ ap (λ (t : List ℕ). take 5 t) same) in
-      rw front refl
+      (rw front refl, omega (arith, length-take n line, ap length same, length-take 11 (take n line)))
   | inr fails ↦ cc (rw fails at is)
 ]
 
 -- the bodies of blocks
 abbrev bodies_len : List BlockView → ℕ
 bodies_len [] = 0
-bodies_len (block ∷ blocks) = length block.body + bodies_len blocks
+bodies_len (block ∷ blocks) = length block.body + 2 + bodies_len blocks
 
 bodies_by : (label : Option (List ℕ)) (number : ℕ) (line : List ℕ) (lines : List (List ℕ)) (blocks : List BlockView)
     → label_of line ≡ label → bodies_len blocks ≤ rest_len (cut_at kinds.Boundary lines)
     → bodies_len (with_block label number lines blocks) ≤ rest_len (cut_at kinds.Boundary (line ∷ lines))
 bodies_by (Some label) number line lines blocks is fits =
-    rw (first_is_boundary line label is)
+    let (bounds, some) = first_is_boundary line label is in
+    rw bounds
     (omega (
       arith,
       block_within number label lines (cut_at kinds.Boundary lines),
@@ -107,10 +109,10 @@ bodies_within number (line ∷ lines) =
 of_blocks : (reads : Bool) (blocks : List BlockView) → total_len (pem_sources reads blocks) ≡ bodies_len blocks
 of_blocks reads [] = refl
 of_blocks reads (block ∷ blocks) =
-    ap (λ (n : ℕ). length block.body + n) (of_blocks (reads && not (is_of_private_key block)) blocks)
+    ap (λ (n : ℕ). length block.body + 2 + n) (of_blocks (reads && not (is_of_private_key block)) blocks)
 
 blocks_or_within : (most : ℕ) (other : SourceView) (text : List ℕ) → length text ≤ most → source_len other ≤ most
-    → total_len (blocks_or other text) ≤ most
+    → total_len (blocks_or other text) ≤ most + 2
 blocks_or_within most other text fits one =
     let reads : Bool = list_any (λ byte. byte == 0x0A) text in
     let blocks : List BlockView = blocks_in 0 (lines_of text) in
@@ -123,9 +125,9 @@ blocks_or_within most other text fits one =
       ap length (concat-lines_of text),
     ))
   where
-    by : (sources : List SourceView) → total_len sources ≤ most → total_len (or_source (Some other) sources) ≤ most
+    by : (sources : List SourceView) → total_len sources ≤ most → total_len (or_source (Some other) sources) ≤ most + 2
     by [] fits = omega arith
-    by (source ∷ sources) fits = fits
+    by (source ∷ sources) fits = omega arith
 
 mark_within : (text : List ℕ) → length (without_mark text) ≤ length text
 mark_within text =
@@ -134,7 +136,7 @@ mark_within text =
     [ true ↦ omega (arith, length-drop 3 text) | false ↦ omega arith ]
 
 by_within : (is_der is_text begins : Bool) (told : Option Sentence) (input : List ℕ)
-    → total_len (sources_by is_der is_text begins told input) ≤ cond (is_text || begins) (length input) 0
+    → total_len (sources_by is_der is_text begins told input) ≤ cond (is_text || begins) (length input) 0 + 2
 by_within true is_text begins told input = omega arith
 by_within false true begins told input =
     blocks_or_within (length input) (Text (without_mark input)) (without_mark input) (mark_within input)
@@ -143,6 +145,6 @@ by_within false false begins (Some told) input = omega arith
 by_within false false true None input = blocks_or_within (length input) (Der input) input (omega arith) (omega arith)
 by_within false false false None input = omega arith
 
-pub sources_within : (input : List ℕ) → total_len (sources_of input) ≤ text_len input
+pub sources_within : (input : List ℕ) → total_len (sources_of input) ≤ text_len input + 2
 unfolding sources_of
 sources_within input = by_within (is_der input) (is_text input) (has_begin input) (wide_note input) input

@@ -1,5 +1,5 @@
 -- Bytes that aren't drawn and elements of the root, counted row by row.
-use Rattle.std.proofs.Common.{◌≡◌, ℕ, ◌+◌, List, [], ◌∷◌, ◌++◌, refl, sym, arith}
+use Rattle.std.proofs.Common.{◌≡◌, ℕ, ◌+◌, List, [], ◌∷◌, ◌++◌, arith, add-zero}
 use Rattle.der_view.specs.Pictures.{capped, left_in, parts_in}
 use Rattle.der_view.specs.Rows.{Element, EndOfContents, NotDrawn, Row}
 
@@ -13,9 +13,9 @@ left_join (EndOfContents place ∷ first) second = left_join first second
 left_join (NotDrawn place expected len content ∷ first) second =
     omega (arith, left_join first second)
 
-parts_join : (first second : List Row) → parts_in (first ++ second)
-    ≡ parts_in first + parts_in second
-parts_join [] second = sym (omega arith)
+parts_join : (first second : List Row)
+    → parts_in (first ++ second) ≡ parts_in first + parts_in second
+parts_join [] second = omega arith
 parts_join (Element place element ∷ first) second = grind (arith, parts_join first second)
 parts_join (EndOfContents place ∷ first) second = parts_join first second
 parts_join (NotDrawn place expected len content ∷ first) second = parts_join first second

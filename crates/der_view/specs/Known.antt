@@ -49,8 +49,8 @@ abbrev pub is_after : Option Mark → Bool
 is_after (Some marks.AfterRoot) = true
 is_after _ = false
 
--- the weight of a mark: 1 of one that says what a command repairs, a length, a constructed string or
--- bytes after the root, and 2 of another
+-- the weight of a mark: 1 of one that says what a command repairs, a length, a constructed string
+-- or bytes after the root, and 2 of another
 abbrev pub weight : Option Mark → ℕ
 weight None = 0
 weight (Some marks.AfterRoot) = 1

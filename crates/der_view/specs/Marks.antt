@@ -46,7 +46,8 @@ length_len len =
 -- X.690 section 10.1: the length is definite and in its shortest form
 abbrev pub length_fault : Option ℕ → ℕ → Option Fault
 length_fault None len = Some faults.Indefinite
-length_fault (Some content_len) len = fault_unless (nat_le len (length_len content_len)) faults.Length
+length_fault (Some content_len) len =
+    fault_unless (nat_le len (length_len content_len)) faults.Length
 
 -- X.680 section 8.4: BIT STRING, OCTET STRING, UTF8String, the other strings of characters, and the
 -- times, which are VisibleStrings

@@ -1,5 +1,6 @@
 -- The names of object identifiers: `names.txt` by all bytes of the contents but the last.
-use Rattle.std.specs.Prelude.{ℕ, suc, ◌==◌, ◌-◌, ◌*◌, ◌+◌, if◌then◌else◌, List, [], ◌∷◌, length, take, drop}
+use Rattle.std.specs.Prelude.{ℕ, suc, ◌==◌, ◌-◌, ◌*◌, ◌+◌, if◌then◌else◌, List, [], ◌∷◌, length}
+use Rattle.std.specs.Prelude.{take, drop}
 use Rattle.std.specs.Prelude.{Option, Some, None, slice_get, slice_index_or}
 use Rattle.std.specs.List.{slice_split}
 use Rattle.std.specs.Option.{option_and_then}

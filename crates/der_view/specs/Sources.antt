@@ -111,9 +111,10 @@ source_len (Pem block is_read) = length block.body
 source_len (Text text) = length text
 source_len (Wide note) = 0
 
+-- the memory for what these encode, two bytes more for each
 abbrev pub total_len : List SourceView → ℕ
 total_len [] = 0
-total_len (source ∷ sources) = source_len source + total_len sources
+total_len (source ∷ sources) = source_len source + 2 + total_len sources
 
 -- the blocks in these lines, or else a source that isn't read yet
 abbrev pub sources_left : Option Source → Bool → ℕ → List ℕ → List SourceView

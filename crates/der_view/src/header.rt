@@ -2,6 +2,7 @@
 ghost use Rattle.std.specs.Prelude.{◌≡◌, ◌<◌, ◌≤◌, ◌+◌, ◌*◌, ◌%◌, ◌∷◌, [], length, IfOk};
 ghost use Rattle.sec1_der.specs.Elements.{number_of};
 ghost use Rattle.der_view.specs.Headers.{header_of, is_type, length_at, number_after, tag_at};
+ghost use Rattle.der_view.specs.Headers.{tag_of};
 
 /// Why bytes begin with no header.
 #[derive(Clone, Copy)]
@@ -49,6 +50,22 @@ pub struct Tag {
 }
 
 impl Tag {
+    /// Returns the tag with this first byte and this number.
+    pub(crate) fn of(first: u8, number: u32) -> Tag
+        ensures { result ≡ tag_of first number }
+    {
+        Tag {
+            class: match first / 0x40 {
+                0 => Class::Universal,
+                1 => Class::Application,
+                2 => Class::Context,
+                _ => Class::Private,
+            },
+            constructed: first / 0x20 % 2 == 1,
+            number,
+        }
+    }
+
     /// Returns `true` if this is the tag of a type of X.680 with this number.
     pub fn is_universal(self, number: u32) -> bool
         ensures { result ≡ is_type self number }
@@ -114,29 +131,7 @@ fn tag_at(bytes: &[u8]) -> Result<(Tag, usize), ElementFault>
     } else {
         high_number(rest)?
     };
-    let tag = Tag {
-        class: match first / 0x40 {
-            0 => Class::Universal,
-            1 => Class::Application,
-            2 => Class::Context,
-            _ => Class::Private,
-        },
-        constructed: first / 0x20 % 2 == 1,
-        number,
-    };
-    Ok((tag, len + 1))
-}
-
-/// Returns the class of a tag that begins with this byte.
-pub(crate) fn class_of(first: u8) -> Class
-    ensures { result ≡ class_of first }
-{
-    match first / 0x40 {
-        0 => Class::Universal,
-        1 => Class::Application,
-        2 => Class::Context,
-        _ => Class::Private,
-    }
+    Ok((Tag::of(first, number), len + 1))
 }
 
 /// Returns the number of a tag in the high form (X.690 section 8.1.2.4), which these bytes after

@@ -103,7 +103,7 @@ pub(crate) fn first_line(
         _ if is_key => {
             line.push_str("This is an EC private key (RFC 5915), with no curve named.");
         }
-        Some(form) => line.push_form(form.0.3, known),
+        Some(form) => line.push_named_form(form.0.3, known),
         None => line.push_none(reading, file, known.plan),
     }
     line
@@ -151,7 +151,7 @@ impl Line {
     }
 
     /// Appends what bytes of the form with this name are.
-    fn push_form(&mut self, name: Name, known: &Known)
+    fn push_named_form(&mut self, name: Name, known: &Known)
         ensures { self.new ≡ kept (self.old ++ form_text name known.now) }
     {
         let is_whole = known.plan.is_whole;
@@ -171,8 +171,8 @@ impl Line {
         }
     }
 
-    /// Appends two texts, and why bytes aren't all of their form: for this version, or so many of so
-    /// many bytes are there, or the first row with a mark.
+    /// Appends two texts, and why bytes aren't all of their form: for this version, or so many of
+    /// so many bytes are there, or the first row with a mark.
     fn push_begun(&mut self, front: &str, form: &str, version: Option<u8>, known: &Known)
         ensures { self.new ≡ kept (self.old ++ begun_text front.now form.now version
             known.now.plan.is_cut known.now.plan.len known.now.root_len known.now.marked) }
@@ -269,8 +269,8 @@ fn curve_of(content: &[u8]) -> Option<Curve>
 }
 
 /// Returns the length of a private key, where it isn't that of its curve, and that: of the order,
-/// which has a bit more than the field on four curves (SEC 2 version 1.0 section 2.4 and version 2.0
-/// section 2.3.1).
+/// which has a bit more than the field on four curves (SEC 2 version 1.0 section 2.4 and version
+/// 2.0 section 2.3.1).
 #[tactic(auto, unfolding(crate::specs::Said::key_misfit))]
 pub(crate) fn key_misfit(known: &Known) -> Option<(usize, usize)>
     ensures { result ≡ key_misfit known.now }
@@ -355,8 +355,8 @@ pub(crate) fn advice_of(is_key: bool, reading: Reading, known: &Known) -> Advice
     }
 }
 
-/// Returns `true` if the lengths fit the curve, as far as that is known, and the point has no unused
-/// bits, and a form that OpenSSL reads.
+/// Returns `true` if the lengths fit the curve, as far as that is known, and the point has no
+/// unused bits, and a form that OpenSSL reads.
 fn is_fit(known: &Known) -> bool
     ensures { result ≡ is_fit known.now }
 {
@@ -367,8 +367,8 @@ fn is_fit(known: &Known) -> bool
     key_misfit(known).is_none() && point_misfit(known).is_none() && is_plain
 }
 
-/// Returns the commands that help with bytes that OpenSSL reads as DER, and as PEM. Of a key that is
-/// read, the only one makes DER of PEM.
+/// Returns the commands that help with bytes that OpenSSL reads as DER, and as PEM. Of a key that
+/// is read, the only one makes DER of PEM.
 fn advices_of(is_key: bool, known: &Known) -> (Advice, Advice)
     ensures { result ≡ advices_of is_key known.now }
 {
@@ -409,8 +409,8 @@ fn is_repaired(name: Name, known: &Known) -> bool
             && has_key)
 }
 
-/// Returns `true` if this is the content of an encryption as before 2000 (RFC 8018 appendix A.3, RFC
-/// 7292 appendix C).
+/// Returns `true` if this is the content of an encryption as before 2000 (RFC 8018 appendix A.3,
+/// RFC 7292 appendix C).
 fn is_legacy(content: &[u8]) -> bool
     ensures { result ≡ is_legacy content.now }
 {

@@ -131,8 +131,8 @@ const FORMS: [Name; 24] = [
     Name::TimeStampResp, Name::AsymmetricKeyPackage, Name::SafeContents,
 ];
 
-/// What is said of bytes that are all of a form: the words before what they are, that, and the words
-/// after it, for each of [`FORMS`], in their order, and then for no other.
+/// What is said of bytes that are all of a form: the words before what they are, that, and the
+/// words after it, for each of [`FORMS`], in their order, and then for no other.
 #[rattlefmt::skip]
 const FORM_WORDS: [&str; 75] = [
     "This is ", "PKCS #8 (RFC 5958)", " with an EC key.",

@@ -15,8 +15,8 @@ use crate::json::{Object, write_last, write_said_object};
 use crate::line::Line;
 use crate::output::Output;
 use crate::part::drawn_element;
-use crate::plan::plan_of;
-use crate::printer::{Printer, write_line};
+use crate::plan::{Plan, plan_of};
+use crate::printer::{Printer, write_line, write_rows};
 use crate::said::{Reading, file_note};
 use crate::sentences::Sentence;
 use crate::text::{Encoding, Found, Source, Sources, armour_of};
@@ -179,20 +179,39 @@ fn show_part<W: Output>(
     let plan = plan_of(bytes);
     let is_key = is_read_as_key(bytes);
     let known = known_of(plan, bytes);
-    let mut rows = Printer::new(writer, plan, options.all);
-    rows.style.is_json = options.json;
-    rows.style.levels = options.levels;
-    draw_rows(&mut rows, plan, bytes, options.all);
-    let mark = rows.mark;
-    rows.finish()?;
+    let file = file_note(bytes);
     if options.json {
-        write_said_object(writer, is_key, reading, file_note(bytes), &known, mark)?;
-    } else {
-        write_said(writer, is_key, reading, file_note(bytes), &known)?;
+        let mut rows = Printer::new(writer, plan, options.all);
+        rows.style.is_json = true;
+        rows.style.levels = options.levels;
+        draw_rows(&mut rows, plan, bytes, options.all);
+        let mark = rows.mark;
+        rows.finish()?;
+        write_said_object(writer, is_key, reading, file, &known, mark)?;
+        return Ok(is_key);
     }
     write_levels(writer, plan, bytes, options)?;
     write_said(writer, is_key, reading, file, &known)?;
     Ok(is_key)
+}
+
+/// Writes the rows of bytes of the levels that are asked for.
+fn write_levels<W: Output>(
+    writer: &mut W,
+    plan: Plan,
+    bytes: &[u8],
+    options: &Options,
+) -> Result<(), W::Error>
+    ensures { are_plain options.now ≡ true → OnOk result (W.appends writer.old writer.new
+        (rows_text plan options.now.all (rows_by plan options.now.all bytes.now))) }
+{
+    if options.levels == 0 {
+        return write_rows(writer, plan, bytes, options.all);
+    }
+    let mut rows = Printer::new(writer, plan, options.all);
+    rows.style.levels = options.levels;
+    draw_rows(&mut rows, plan, bytes, options.all);
+    rows.finish()
 }
 
 /// Writes the first object of the picture of a source, in which `found` was found.

@@ -18,7 +18,8 @@ const TYPES: [&str; 31] = [
     "VisibleString", "GeneralString", "UniversalString", "CHARACTER STRING", "BMPString",
 ];
 
-/// What stands before a tag number for its class (X.690 section 8.1.2.2), in the order of [`Class`].
+/// What stands before a tag number for its class (X.690 section 8.1.2.2), in the order of
+/// [`Class`].
 const CLASSES: [&str; 4] = ["UNIVERSAL ", "APPLICATION ", "", "PRIVATE "];
 
 /// Returns the name of the type of X.680 with this tag number; nothing if it has none.

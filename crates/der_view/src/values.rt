@@ -2,7 +2,8 @@
 ghost use Rattle.std.specs.Prelude.{◌≡◌, ◌<◌, ◌≤◌, ◌^◌, length, option_map};
 ghost use Rattle.sec1_der.specs.Elements.{number_of};
 ghost use Rattle.der_view.specs.Characters.{string_codes};
-ghost use Rattle.der_view.specs.Values.{String, bits_value, boolean_value, integer_text, time_value};
+ghost use Rattle.der_view.specs.Values.{String, bits_value, boolean_value, integer_text};
+ghost use Rattle.der_view.specs.Values.{time_value};
 ghost use Rattle.der_view.specs.Values.{universal_value, value_by, value_view};
 
 mod arcs;

@@ -6,7 +6,7 @@ ghost use Rattle.der_view.specs.Marks.{fault_words, is_needed, mark_words, name_
 
 use super::{Fault, Mark};
 use crate::grammar::{Component, Presence};
-use crate::header::{Tag, class_of};
+use crate::header::Tag;
 use crate::line::Line;
 use crate::universal::type_word;
 use itoa::Buffer;
@@ -116,11 +116,7 @@ impl Line {
             0x00 => self.push_str("any element"),
             0x17 => self.push_str("UTCTime (17) or GeneralizedTime (18)"),
             _ => {
-                self.push_type(Tag {
-                    class: class_of(byte),
-                    constructed: byte / 0x20 % 2 == 1,
-                    number: u32::from(byte % 0x20),
-                });
+                self.push_type(Tag::of(byte, u32::from(byte % 0x20)));
                 self.push_str(" (");
                 self.push_hex(byte);
                 self.push_byte(b')');

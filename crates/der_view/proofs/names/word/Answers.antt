@@ -6,4 +6,5 @@ use Rattle.der_view.proofs.names.word.Goals as goal
 pub returns : goal.returns
 returns c =
     nth_from_yields_List _ _ c.args.number c.nth.ensures.ran (YieldsList-from_slice_split _ (λ byte. byte == 0x2C)
-    c.args.words.now c.split.ensures.rest c.split.ensures.done c.split.ensures.closure (λ x r q k. search (rules, tests)))
+    c.args.words.now c.split.ensures.rest c.split.ensures.done c.split.ensures.closure
+    (λ x r q k. search (rules, tests)))

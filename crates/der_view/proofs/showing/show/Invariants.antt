@@ -1,4 +1,4 @@
-use Rattle.std.proofs.Common.{◌≡◌, ◌≤◌, ℕ, List, ◌++◌, ◌||◌, length, true}
+use Rattle.std.proofs.Common.{◌≡◌, ◌+◌, ◌≤◌, ℕ, List, ◌++◌, ◌||◌, length, true}
 use Rattle.der_view.specs.Drawings.{some_key, sources_text}
 use Rattle.der_view.specs.Shows.{are_plain}
 use Rattle.der_view.specs.Sources.{sources_of, text_len, total_len}
@@ -6,7 +6,7 @@ use Rattle.der_view.proofs.showing.show.Given as goal
 
 abbrev pub invariant-loop-source : goal.invariant-loop-source
 invariant-loop-source g l = record {
-  within : total_len l.sources ≤ text_len l.input;
+  within : total_len l.sources ≤ text_len l.input + 2;
   drawn :
       are_plain l.options ≡ true
       → (done : List ℕ) × g.W.Output.appends l.initial.writer l.writer done

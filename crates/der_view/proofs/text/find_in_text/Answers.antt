@@ -5,7 +5,8 @@ use Rattle.der_view.specs.declared.text.Encoding.TheVariants as encodings
 use Rattle.der_view.specs.declared.text.almost.Flaw.TheVariants as flaws
 use Rattle.der_view.proofs.text.find_in_text.Goals as goal
 
-some : (text bytes : List ℕ) → 0 < length bytes → hex_by text (Some bytes) ≡ Bytes encodings.Hexadecimal flaws.Nothing bytes
+some : (text bytes : List ℕ) → 0 < length bytes
+    → hex_by text (Some bytes) ≡ Bytes encodings.Hexadecimal flaws.Nothing bytes
 some text [] more = absurd (omega arith)
 some text (byte ∷ bytes) more = refl
 

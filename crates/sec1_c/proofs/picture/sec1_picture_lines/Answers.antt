@@ -2,9 +2,9 @@ use Rattle.std.proofs.Common.{◌≡◌, ◌≤◌, ◌+◌, ◌-◌, ◌/◌, [
 use Rattle.std.proofs.Common.{append_assoc}
 use Rattle.std.proofs.lemmas.List.{length-take-le}
 use Rattle.std.specs.List.{flat_map}
-use Rattle.der_view.specs.Sources.{SourceView, source_view}
+use Rattle.der_view.specs.Sources.{SourceView, source_view, total_len}
 use Rattle.sec1_c.proofs.PictureLineLemmas.{decoded-snoc, decoded_all, part_written, sources_lines-snoc}
-use Rattle.sec1_c.proofs.SourceLemmas.{sources_total, total_len}
+use Rattle.der_view.proofs.SourceLemmas.{sources_within}
 use Rattle.sec1_c.specs.PictureLines.{IsDecodedAt, decoded_of}
 use Rattle.sec1_c.proofs.picture.sec1_picture_lines.Goals as goal
 use Rattle.sec1_c.proofs.picture.sec1_picture_lines.Goals.{In_default}

@@ -15,5 +15,5 @@ returns-in_default c =
     let a : (c.args.byte == 0x00) ≡ false = grind (arith, nat_tests) in
     let b : (c.args.byte == 0x17) ≡ false = grind (arith, nat_tests) in
     rw (a, b)
-    (kept-four c.args.self.now _ _ _ _ _ _ _ _ (rw (c.class_of.ensures, c.from.ensures) at c.push_type.ensures)
+    (kept-four c.args.self.now _ _ _ _ _ _ _ _ (rw (c.of.ensures, c.from.ensures) at c.push_type.ensures)
     c.push_str-in_default.ensures c.push_hex.ensures c.push_byte.ensures)
