@@ -1,13 +1,13 @@
 //! The picture of an input: what is printed of it.
-ghost use Rattle.std.specs.Prelude.{◌≡◌, ◌++◌, ◌≤◌, ◌+◌, ◌*◌, length, IfOk, OnOk, option_map};
+ghost use Rattle.std.specs.Prelude.{◌≡◌, ◌++◌, length, OnOk, option_map};
 ghost use Rattle.der_view.specs.Drawings.{IsKey, end_text, flaw_words, found_text};
-ghost use Rattle.der_view.specs.Drawings.{has_key, heading_of, is_key_of, known_of, pem_heading};
-ghost use Rattle.der_view.specs.Drawings.{picture_text, reading_of, reading_with};
+ghost use Rattle.der_view.specs.Drawings.{heading_of, is_key_of, known_of, pem_heading};
+ghost use Rattle.der_view.specs.Drawings.{reading_of, reading_with};
 ghost use Rattle.der_view.specs.Drawings.{text_heading};
 ghost use Rattle.der_view.specs.Lines.{kept};
 ghost use Rattle.der_view.specs.Pictures.{plan_of};
 ghost use Rattle.der_view.specs.Said.{line_if, misfit_text, said_lines, said_text};
-ghost use Rattle.der_view.specs.Sources.{source_view, text_len};
+ghost use Rattle.der_view.specs.Sources.{source_view};
 
 use crate::faults::key_fault;
 use crate::form::draw_rows;
@@ -21,37 +21,8 @@ use crate::said::{
     point_misfit,
 };
 use crate::sentences::Sentence;
-use crate::showing::{Options, show};
 use crate::text::{Encoding, Flaw, Found, Source, armour_of};
 use sec1::BorrowedKey;
-
-/// Writes the picture of an input: of DER, or of what its text encodes. Returns whether some part
-/// of it is a key (RFC 5915 section 3). With `all` every content is given.
-///
-/// `room` is memory for what is decoded, of [`room_len`](crate::room_len) bytes.
-///
-/// # Errors
-///
-/// An error of the writer.
-pub fn draw<W: Output>(
-    writer: &mut W,
-    input: &[u8],
-    room: &mut [u8],
-    all: bool,
-) -> Result<bool, W::Error>
-    requires { 2 * text_len input.now + 2 ≤ length room.old }
-    ensures text { OnOk result (W.appends writer.old writer.new (picture_text all input.now)) }
-    ensures key { IfOk result (λ found. found ≡ has_key input.now) }
-{
-    let options = Options {
-        all,
-        json: false,
-        levels: 0,
-        offset: 0,
-        file: &[],
-    };
-    show(writer, input, room, &options)
-}
 
 /// Returns `true` if the bytes are those of a key (RFC 5915 section 3).
 pub fn is_key(bytes: &[u8]) -> bool

@@ -36,7 +36,7 @@ mod walk;
 mod words;
 
 pub use characters::Characters;
-pub use drawing::{draw, is_key, said_lines};
+pub use drawing::{is_key, said_lines};
 pub use facts::{Kind, Point, RowFacts, Shown};
 pub use form::draw_rows;
 pub use grammar::{Component, Content, Family, Form, Name, Presence, Secrecy, Structure};
@@ -49,7 +49,7 @@ pub use plan::{Plan, Way, plan_of};
 pub use printer::{Printer, lines_are_short, write_line, write_rows};
 pub use said::{Reading, SaidLines};
 pub use sentences::{Advice, Sentence};
-pub use showing::{Options, show};
+pub use showing::{Options, draw, show};
 pub use text::{
     Armour, Block, Encoding, Flaw, Found, Source, Sources, armour_of, room_len, text_len,
 };

@@ -36,7 +36,35 @@ pub struct Options<'a> {
     pub file: &'a [u8],
 }
 
-/// Writes the picture of an input as [`draw`](crate::draw) does, or as the options ask. Returns
+/// Writes the picture of an input: of DER, or of what its text encodes. Returns whether some part
+/// of it is a key (RFC 5915 section 3). With `all` every content is given.
+///
+/// `room` is memory for what is decoded, of [`room_len`](crate::room_len) bytes.
+///
+/// # Errors
+///
+/// An error of the writer.
+pub fn draw<W: Output>(
+    writer: &mut W,
+    input: &[u8],
+    room: &mut [u8],
+    all: bool,
+) -> Result<bool, W::Error>
+    requires { 2 * text_len input.now + 2 ≤ length room.old }
+    ensures text { OnOk result (W.appends writer.old writer.new (picture_text all input.now)) }
+    ensures key { IfOk result (λ found. found ≡ has_key input.now) }
+{
+    let options = Options {
+        all,
+        json: false,
+        levels: 0,
+        offset: 0,
+        file: &[],
+    };
+    show(writer, input, room, &options)
+}
+
+/// Writes the picture of an input as [`draw`] does, or as the options ask. Returns
 /// whether some part of what is drawn is a key (RFC 5915 section 3).
 ///
 /// `room` is memory for what is decoded, of [`room_len`](crate::room_len) bytes.

@@ -1,16 +1,30 @@
 -- What a run of the program shows of a file.
 use Rattle.std.specs.Prelude.{◌≡◌, ◌≤◌, ℕ, Bool, true, if◌then◌else◌}
 use Rattle.std.specs.Prelude.{List, [], ◌++◌, chars, codes, length, Option, Some, Result, Ok, Err}
+use Rattle.std.specs.Prelude.{⊤}
 use Rattle.std.specs.Io.KnownBytes.{Appends}
 use Rattle.der_view.specs.Characters.{escaped_all}
 use Rattle.der_view.specs.Drawings.{has_key, picture_text}
 use Rattle.der_view.specs.Shows.{are_plain}
 use Rattle.sec1_dump.specs.declared.failure.Failure.{Failure}
+use Rattle.sec1_dump.specs.declared.failure.Failure.TheVariants.{Input, Memory, Output}
 use Rattle.sec1_dump.specs.declared.output.Style.{Style}
 
 -- the greatest length of an input in bytes
 abbrev pub limit : ℕ
 limit = 16777215
+
+-- whether the failure is one of reading an input
+abbrev pub IsOfReading : Failure → Type 0
+IsOfReading (Input error) = ⊤
+IsOfReading Memory = ⊤
+IsOfReading failure = ⊥
+
+-- whether the failure is one of writing what is shown
+abbrev pub IsOfWriting : Failure → Type 0
+IsOfWriting (Output error) = ⊤
+IsOfWriting Memory = ⊤
+IsOfWriting failure = ⊥
 
 -- the line with the name of a file above its pictures, if it is to be there
 abbrev pub title : Bool → Option (List ℕ) → List ℕ

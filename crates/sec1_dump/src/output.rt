@@ -1,9 +1,10 @@
 //! Reads a file, and shows what is in it.
-ghost use Rattle.std.specs.Prelude.{◌≡◌, ◌<◌, ◌≤◌, IfErr, IfOk, IfSome, OnOk};
-ghost use Rattle.std.specs.Prelude.{length, option_map};
+ghost use Rattle.std.specs.Prelude.{◌≡◌, ◌+◌, ◌<◌, ◌≤◌, IfErr, IfOk, IfSome, OnOk};
+ghost use Rattle.std.specs.Prelude.{length, option_map, take};
 ghost use Rattle.std.specs.Io.KnownBytes.{Appends};
 ghost use Rattle.der_view.specs.Sources.{text_len};
-ghost use Rattle.sec1_dump.specs.Shown.{IsShown, Shows, limit, status_of, title};
+ghost use Rattle.sec1_dump.specs.Shown.{IsOfReading, IsOfWriting, IsShown, Shows, limit, status_of};
+ghost use Rattle.sec1_dump.specs.Shown.{title};
 ghost use Rattle.sec1_dump.specs.declared.failure.Failure.TheVariants.{TooLong};
 
 use crate::failure::Failure;
@@ -38,9 +39,12 @@ pub(crate) fn status_of(shown: &Result<bool, Failure>) -> u8
 }
 
 /// Reads a file, and writes and flushes what is shown of it. Returns whether some part of it is a
-/// key (RFC 5915 section 3). At most 16,777,216 bytes are read. Fails with Input if a read failed,
-/// TooLong for more than 16,777,215 bytes, Output if a write or the flush failed, Memory if an
-/// allocation failed.
+/// key (RFC 5915 section 3). At most 16,777,216 bytes are read.
+///
+/// # Errors
+///
+/// Input if a read failed, TooLong for more than 16,777,215 bytes, Output if a write or the flush
+/// failed, Memory if an allocation failed.
 pub(crate) fn show<R: io::Read + Drop, W: io::Write>(
     alloc: Global,
     style: Style,
@@ -61,8 +65,11 @@ pub(crate) fn show<R: io::Read + Drop, W: io::Write>(
     }
 }
 
-/// Reads an input that isn't longer than the limit. Fails with TooLong if it is, Input if a read
-/// failed, Memory if an allocation failed.
+/// Reads an input that isn't longer than the limit.
+///
+/// # Errors
+///
+/// TooLong if it is, Input if a read failed, Memory if an allocation failed.
 fn read_input<R: io::Read + Drop>(alloc: Global, reader: R) -> Result<Vec<u8>, Failure>
     ensures short { IfOk result (λ input. length input.items ≤ limit) }
     ensures read { IfOk result (λ input.
@@ -70,22 +77,37 @@ fn read_input<R: io::Read + Drop>(alloc: Global, reader: R) -> Result<Vec<u8>, F
     ensures long { IfErr result (λ failure. failure ≡ TooLong
         → IfSome (R.remaining reader) (λ bytes. limit < length bytes)) }
 {
+    let input = read_most(alloc, reader)?;
+    let bytes = input.as_slice();
+    if bytes.len() > LIMIT {
+        return Err(Failure::TooLong);
+    }
+    Ok(input)
+}
+
+/// Reads an input, at most one byte more than the limit.
+///
+/// # Errors
+///
+/// Input if a read failed, Memory if an allocation failed.
+fn read_most<R: io::Read + Drop>(alloc: Global, reader: R) -> Result<Vec<u8>, Failure>
+    ensures read { IfOk result (λ input.
+        IfSome (R.remaining reader) (λ bytes. input.items ≡ take (limit + 1) bytes)) }
+    ensures kinds { IfErr result IsOfReading }
+{
     let mut input = Vec::new(alloc);
     match reader.take(LIMIT as u64 + 1).read_to_end(&mut input) {
-        Ok(_) => {
-            let bytes = input.as_slice();
-            if bytes.len() > LIMIT {
-                return Err(Failure::TooLong);
-            }
-            Ok(input)
-        }
+        Ok(_) => Ok(input),
         Err(error) if error.kind() == io::ErrorKind::OutOfMemory => Err(Failure::Memory),
         Err(error) => Err(Failure::Input(error)),
     }
 }
 
-/// Writes what is shown of an input. Returns whether some part of it is a key. Fails with Output if
-/// a write failed, Memory if an allocation failed.
+/// Writes what is shown of an input. Returns whether some part of it is a key.
+///
+/// # Errors
+///
+/// Output if a write failed, Memory if an allocation failed.
 fn write_shown<W: io::Write>(
     alloc: Global,
     style: Style,
@@ -117,15 +139,20 @@ fn name_bytes(file: Option<&str>) -> &[u8] {
     }
 }
 
-/// Writes the line with the name of a file, if it is to be there. Fails as [`write_shown`] does.
+/// Writes the line with the name of a file, if it is to be there.
+///
+/// # Errors
+///
+/// Output if a write failed, Memory if an allocation failed.
 fn write_title<W: io::Write>(
     alloc: Global,
     writer: &mut W,
     named: bool,
     file: Option<&str>,
 ) -> Result<(), Failure>
-    ensures { OnOk result (Appends (W.contents writer.old) (W.contents writer.new)
+    ensures title { OnOk result (Appends (W.contents writer.old) (W.contents writer.new)
         (title named (option_map (λ name. name.now) file.entry))) }
+    ensures kinds { IfErr result IsOfWriting }
 {
     match file {
         Some(file) if named => {
