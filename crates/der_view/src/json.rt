@@ -12,7 +12,6 @@ use crate::said::{Reading, advice_of, first_line, key_misfit, line_of, misfit_li
 use crate::sentences::Sentence;
 use crate::values::{Arcs, Value};
 use itoa::Buffer;
-use std::fmt::InlineText;
 
 /// An object that is being written.
 #[derive(Drop)]
@@ -292,16 +291,27 @@ fn write_character<W: Output>(writer: &mut W, code: u32) -> Result<(), W::Error>
     } else if code >= 0x20 && code <= 0x7E {
         writer.push(&[code as u8])
     } else if code < 0x1_0000 {
-        write_unit(writer, code)
+        writer.push(&escape(code))
     } else {
         let above = code - 0x1_0000;
-        write_unit(writer, 0xD800 + above / 0x400 % 0x400)?;
-        write_unit(writer, 0xDC00 + above % 0x400)
+        writer.push(&escape(0xD800 + above / 0x400 % 0x400))?;
+        writer.push(&escape(0xDC00 + above % 0x400))
     }
 }
 
-/// Writes the escape of a unit of UTF-16: `\u` and four digits.
-fn write_unit<W: Output>(writer: &mut W, unit: u32) -> Result<(), W::Error> {
-    let escape = InlineText::<6>::of(format_args!("\\u{unit:04x}"));
-    writer.push(escape.as_str().as_bytes())
+/// Returns the escape of a unit of UTF-16: `\u` and four digits.
+fn escape(unit: u32) -> [u8; 6] {
+    [
+        b'\\',
+        b'u',
+        digit(unit / 0x1000),
+        digit(unit / 0x100),
+        digit(unit / 0x10),
+        digit(unit),
+    ]
+}
+
+/// Returns the last hexadecimal digit of a number.
+fn digit(number: u32) -> u8 {
+    b"0123456789abcdef"[(number % 16) as usize]
 }
