@@ -9,16 +9,13 @@ pub mod KeyFormLemmas
 pub mod KeyLemmas
 pub mod KeyMaskLemmas
 pub mod LawLemmas
-pub mod LevelLemmas
 pub mod LineLemmas
 pub mod MaskLemmas
 pub mod NameLemmas
 pub mod PictureLemmas
 pub mod PictureMaskLemmas
 pub mod PrintingLemmas
-pub mod RowLemmas
 pub mod RowLenLemmas
-pub mod RowMaskLemmas
 pub mod SameLemmas
 pub mod SourceLemmas
 pub mod StepLemmas

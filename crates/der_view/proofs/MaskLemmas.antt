@@ -1,26 +1,27 @@
--- The rows of bytes are those of their mask: what is shown of a content, and what is inside it.
+-- The rows of bytes are those of their mask, whatever as many bytes come after it.
 use Rattle.std.proofs.Common.{◌≡◌, ◌&&◌, ◌||◌, not, ℕ, zero, suc, ◌+◌, ◌≤◌, Bool, true, false, List, [], ◌∷◌, ◌++◌}
 use Rattle.std.proofs.Common.{length, take, drop, refl, sym, ap, ◌∙◌, Option, Some, None, arith, ◌⊎◌, inl, inr, ◌==◌}
-use Rattle.std.proofs.lemmas.Bool.{and_parts, and_right, cond_both}
-use Rattle.std.specs.Option.{is_some}
+use Rattle.std.proofs.Common.{append-nil, append_assoc, length-append, length-drop}
+use Rattle.std.proofs.lemmas.Bool.{and_parts, and_right}
+use Rattle.std.proofs.lemmas.List.{drop_at, length-take-le}
 use Rattle.std.specs.Prelude.{if◌then◌else◌, is_none, nat_lt}
-use Rattle.der_view.specs.Contents.{has_type, is_number, is_string, is_minimal, is_primitive, is_shown, is_small}
-use Rattle.der_view.specs.Contents.{is_time, is_valid, is_whole, is_wide_text, shown_in, shown_len}
-use Rattle.der_view.specs.Grammar.{Component, components, identifiers}
-use Rattle.der_view.specs.Masks.{masked, masked_content, undrawn, zeros}
+use Rattle.std.specs.Option.{is_some}
+use Rattle.der_view.specs.Contents.{is_minimal, is_shown, is_small, is_text, is_time, is_valid, is_wide_text, shown_in}
+use Rattle.der_view.specs.Contents.{shown_len, is_primitive}
+use Rattle.der_view.specs.Grammar.{Component, components, identifiers, cases}
+use Rattle.der_view.specs.Masks.{masked, masked_content, undrawn, zeros, step_mask}
 use Rattle.der_view.specs.Rows.{How, Step, admits, are_bits, end_at, front_len, has_bits, is_followed, is_of, may_end}
-use Rattle.der_view.specs.Rows.{opened_in, rest_by, rest_next, rest_of, rows_of, step_at}
+use Rattle.der_view.specs.Rows.{opened_in, rest_of, rows_of, step_at, after_inside, chosen, inside_bytes, inside_loose}
+use Rattle.der_view.specs.Rows.{is_open, opened_of, others_after, rest_after}
 use Rattle.der_view.specs.declared.grammar.Content.{Content}
 use Rattle.der_view.specs.declared.grammar.Content.TheVariants as contents
-use Rattle.der_view.specs.declared.grammar.TheConstants as tables
 use Rattle.der_view.specs.declared.grammar.family.Family.{Family}
 use Rattle.der_view.specs.declared.grammar.family.Family.TheVariants as families
 use Rattle.der_view.specs.declared.grammar.Structure.{Structure}
 use Rattle.der_view.specs.declared.header.Header.{Header}
 use Rattle.der_view.specs.declared.header.Tag.{Tag}
 use Rattle.der_view.specs.declared.walk.Place.{Place}
-use Rattle.der_view.proofs.RowLemmas.{rest_stop}
-use Rattle.der_view.proofs.StepLemmas.{no_bytes, step_like, undrawn_no_step, zeros_len, zeros_no_step}
+use Rattle.der_view.proofs.StepLemmas.{no_bytes, step_like, undrawn_no_step, zeros_len, zeros_no_step, IsTaken, Stays}
 
 -- ---- what is shown of a content
 
@@ -33,10 +34,6 @@ pub no_len : (o : Option ℕ) → is_none o ≡ true → o ≡ None
 no_len None is = refl
 no_len (Some n) is = absurd (cc is)
 
-pub none_shown : (test : Bool) → ◌≡◌ {A = ℕ} (if test then 0 else 0) 0
-none_shown true = refl
-none_shown false = refl
-
 -- a content of zeros isn't shown where another isn't, unless it has no byte
 zeros_minimal : (a : ℕ) (x : List ℕ) → is_minimal (a ∷ x) ≡ false → is_minimal (zeros (a ∷ x)) ≡ false
 unfolding is_minimal
@@ -47,30 +44,20 @@ zeros_text : (a : ℕ) (x : List ℕ) → (is_wide_text (zeros (a ∷ x)) ≡ fa
 zeros_text a [] = (refl, refl)
 zeros_text a (b ∷ x) = (refl, refl)
 
-chosen : (test a b c d : Bool) → (if test then a else b) ≡ false → (a ≡ false → c ≡ false) → (b ≡ false → d ≡ false)
-    → (if test then c else d) ≡ false
-chosen true a b c d is one two = one is
-chosen false a b c d is one two = two is
+valid_like : (tag : Tag) (x y : List ℕ) → (is_minimal x ≡ false → is_minimal y ≡ false) → is_text y ≡ false
+    → is_wide_text y ≡ false → is_time y ≡ false → is_valid tag x ≡ false → is_valid tag y ≡ false
+unfolding is_valid
+valid_like tag x y minimal text wide time is = grind (arith, minimal)
 
 zeros_valid : (tag : Tag) (a : ℕ) (x : List ℕ) → is_valid tag (a ∷ x) ≡ false → is_valid tag (zeros (a ∷ x)) ≡ false
-unfolding is_valid
-zeros_valid tag a x is = chosen (has_type tag 28) _ _ _ _ is (λ e. refl) (λ e.
-    chosen (is_number tag) _ _ _ _ e (zeros_minimal a x) (λ e. chosen (is_string tag) _ _ _ _ e (λ e. refl) (λ e.
-    chosen (has_type tag 30) _ _ _ _ e (λ e. (zeros_text a x).0) (λ e. chosen (has_type tag 23) _ _ _ _ e
-    (λ e. and_right _ _ (zeros_text a x).1) (λ e. chosen (has_type tag 24) _ _ _ _ e
-    (λ e. and_right _ _ (zeros_text a x).1) (λ e. e))))))
+zeros_valid tag a x =
+    valid_like tag (a ∷ x) (zeros (a ∷ x)) (zeros_minimal a x) refl (zeros_text a x).0 (zeros_text a x).1
 
-zeros_small : (tag : Tag) (a : ℕ) (x : List ℕ) → is_small tag (a ∷ x) ≡ false → is_small tag (zeros (a ∷ x)) ≡ false
-unfolding is_small
-zeros_small tag a x is = grind (arith, zeros_minimal a x, zeros_len (a ∷ x))
-
-zeros_shown : (small : Bool) (tag : Tag) (k : Content) (a : ℕ) (x : List ℕ) → is_shown small tag k (a ∷ x) ≡ false
-    → is_shown small tag k (zeros (a ∷ x)) ≡ false
-unfolding is_shown
-zeros_shown small tag (contents.Shown most) a x is = grind (arith, zeros_valid tag a x, zeros_len (a ∷ x))
-zeros_shown small tag (contents.Short most) a x is = zeros_valid tag a x is
-zeros_shown true tag contents.Free a x is = zeros_small tag a x is
-zeros_shown small tag k a x is = is
+zeros_shown : (small : Bool) (tag : Tag) (k : Content) (x : List ℕ) → is_shown small tag k x ≡ false
+    → is_shown small tag k (zeros x) ≡ false
+unfolding is_shown is_small
+zeros_shown small tag k [] is = is
+zeros_shown small tag k (a ∷ x) is = grind (arith, zeros_valid tag a x, zeros_minimal a x, zeros_len (a ∷ x))
 
 -- a content and what is shown of it
 pub record IsMasked (small : Bool) (header : Header) (k : Content) (x m : List ℕ) : Type 0 where
@@ -91,28 +78,10 @@ take_masked zero x = refl
 take_masked (suc n) [] = refl
 take_masked (suc n) (a ∷ x) = ap (λ (y : List ℕ). a ∷ y) (take_masked n x)
 
--- all or nothing of it
-plain_again : (small : Bool) (tag : Tag) (k : Content) (x : List ℕ)
-    → (if is_shown small tag k x then length x else 0) ≡ 0
-    → (if is_shown small tag k (zeros x) then length (zeros x) else 0) ≡ 0
-plain_again small tag k [] is = is
-plain_again small tag k (a ∷ x) is = rw (zeros_shown small tag k a x (grind arith)) refl
-
-shown_again : (small : Bool) (tag : Tag) (k : Content) (x : List ℕ)
-    → shown_in small tag k (masked_content (shown_in small tag k x) x) ≡ shown_in small tag k x
-unfolding shown_in
-shown_again small tag contents.Point x = rw masked_len refl
-shown_again small tag k x =
-    cond_both (is_shown small tag k x) (length x) 0
-    (λ n. (if is_shown small tag k (masked_content n x) then length (masked_content n x) else 0) ≡ n)
-    (λ is. rw (all_masked x, is) refl) (λ is. plain_again small tag k x (rw is refl))
-
 len_again : (small : Bool) (header : Header) (k : Content) (x : List ℕ)
     → shown_len small header k (masked_content (shown_len small header k x) x) ≡ shown_len small header k x
-unfolding shown_len
-len_again small header k x = rw masked_len (cond_both (is_whole header x) (shown_in small header.tag k x) 0
-    (λ n. (if is_whole header x then shown_in small header.tag k (masked_content n x) else 0) ≡ n)
-    (λ is. rw is (shown_again small header.tag k x)) (λ is. rw is refl))
+unfolding shown_len shown_in
+len_again small header k x = grind (arith, masked_len, all_masked x, zeros_shown small header.tag k x)
 
 pub content_shown : (small : Bool) (header : Header) (k : Content) (x : List ℕ)
     → IsMasked small header k x (masked_content (shown_len small header k x) x)
@@ -125,7 +94,7 @@ pub surely_shown : (small : Bool) (header : Header) (k : Content) (x : List ℕ)
     → take (shown_len false header k (masked_content (shown_len small header k x) x))
     (masked_content (shown_len small header k x) x) ≡ take (shown_len false header k x) x
 unfolding shown_len shown_in is_shown
-surely_shown small header contents.Free x = rw (none_shown, none_shown) refl
+surely_shown small header contents.Free x = grind arith
 surely_shown small header k x = (content_shown small header k x).shown
 
 -- ---- what is inside an element
@@ -155,6 +124,12 @@ pub record MasksRest (loose small : Bool) (most depth : ℕ) (marked : Bool) (so
       (masked loose small most depth marked some bytes ++ r)
       ≡ rows_of (hidden loose small) most marked (record place { depth = depth }) some bytes
 
+-- levels of so many elements
+abbrev pub Inner : Bool → ℕ → Type 0
+Inner small most =
+    (loose marked : Bool) (depth : ℕ) (some : List Component) (bytes : List ℕ)
+    → MasksRest loose small most depth marked some bytes
+
 -- an element whose bytes after it are others, as long
 abbrev pub tail_len : Step → Option (List ℕ) → ℕ
 tail_len step None = length step.rest
@@ -165,77 +140,40 @@ abbrev pub step_again : Bool → Step → List ℕ → List ℕ → Step
 step_again true step m t = step_like step (m ++ t) []
 step_again false step m t = step_like step m t
 
--- what is known of an element that comes next
-pub record IsTaken (step : Step) : Type 0 where
-  pub admitted : step.follows ≡ true → admits step.header step.component.2 step.content ≡ true
-  pub free : step.follows ≡ false → step.component ≡ tables.ELEMENT
-  pub last : step.header.content_len ≡ None → step.rest ≡ []
-
-plain_admits : (header : Header) → is_primitive header ≡ false → (k : Content) (x y : List ℕ)
-    → admits header k x ≡ admits header k y
-unfolding admits
-plain_admits header is (contents.Short most) x y = rw is refl
-plain_admits header is contents.Version x y = rw is refl
-plain_admits header is (contents.Of family) x y = rw is refl
-plain_admits header is k x y = refl
-
 -- of a content that is rows nothing is shown, and it is taken for what it is whatever its bytes
 pub record IsRows (header : Header) (k : Content) : Type 0 where
   pub shown : (small : Bool) (x : List ℕ) → shown_len small header k x ≡ 0
   pub alike : (x y : List ℕ) → admits header k x ≡ admits header k y
   pub free : k ≡ contents.Free → (c : Content) (x y : List ℕ) → admits header c x ≡ admits header c y
 
-elements_rows : (header : Header) (k : Content) (test : Bool) (any s : Structure)
-    → (if is_none header.content_len || (header.tag.constructed && test) then Some any else None) ≡ Some s
-    → IsRows header k
-unfolding shown_len
-elements_rows header k test any s is =
-    let elements = (some_if (is_none header.content_len || (header.tag.constructed && test)) _ _ is).0 in
-    let plain : is_primitive header ≡ false = grind arith in
-    record {
-      shown = λ small x. rw plain refl;
-      alike = λ x y. plain_admits header plain k x y;
-      free = λ e c x y. plain_admits header plain c x y;
-    }
-
 module _ (whole : Structure → List ℕ → Bool) (loose : Bool) (header : Header) where
   pub opened_rows : (k : Content) (x : List ℕ) (s : Structure) → opened_in whole loose header k x ≡ Some s
       → IsRows header k
   unfolding opened_in shown_len shown_in admits is_shown
-  opened_rows (contents.Inside t) x s is =
-      record { shown = λ small y. none_shown (is_whole header y); alike = λ y z. refl; free = λ e. absurd (cc e) }
-  opened_rows (contents.Whole t) x s is =
-      record { shown = λ small y. none_shown (is_whole header y); alike = λ y z. refl; free = λ e. absurd (cc e) }
-  opened_rows (contents.Bits t) x s is =
-      record { shown = λ small y. none_shown (is_whole header y); alike = λ y z. refl; free = λ e. absurd (cc e) }
-  opened_rows contents.Free x s is = elements_rows header contents.Free true _ s is
-  opened_rows k x s is = elements_rows header k loose _ s is
+  opened_rows k x s is = record {
+    shown = λ small y. grind arith;
+    alike = λ y z. grind arith;
+    free = λ e c y z. grind arith;
+  }
 
   pub opened_same : (k : Content) (x m : List ℕ)
       → ((s : Structure) → k ≡ contents.Whole s → whole s m ≡ whole s x)
       → ((s : Structure) → k ≡ contents.Bits s → are_bits whole s m ≡ are_bits whole s x)
       → opened_in whole loose header k m ≡ opened_in whole loose header k x
   unfolding opened_in
-  opened_same (contents.Whole t) x m same bits = rw (same t refl) refl
-  opened_same (contents.Bits t) x m same bits = rw (bits t refl) refl
-  opened_same k x m same bits = refl
+  opened_same k x m same bits = grind (arith, same, bits)
 
   -- a content that is no rows has a definite length
   pub closed_content : (k : Content) (x : List ℕ) → opened_in whole loose header k x ≡ None → admits header k x ≡ true
       → is_none header.content_len ≡ false
   unfolding opened_in admits
-  closed_content (contents.Inside t) x is fits = absurd (cc is)
-  closed_content (contents.Whole t) x is fits = grind arith
-  closed_content (contents.Bits t) x is fits = grind arith
   closed_content k x is fits = grind arith
 
   -- the bytes before the elements of a content are there
   pub front_within : (k : Content) (x : List ℕ) (s : Structure) → opened_in whole loose header k x ≡ Some s
       → front_len k ≤ length x
   unfolding opened_in
-  front_within (contents.Bits t) [] s is = absurd (cc is)
-  front_within (contents.Bits t) (a ∷ x) s is = omega arith
-  front_within k x s is = omega arith
+  front_within k x s is = grind arith
 
 -- a content whose mask has zeros is taken for the same component: no identifier begins with 0
 zeros_other : (family : Family) (x : List ℕ) → is_of (identifiers family) (zeros x) ≡ false
@@ -248,30 +186,18 @@ zeros_other family (a ∷ x) = and_right _ false refl
 pub kept_fits : (small : Bool) (header : Header) (k : Content) (x : List ℕ) → admits header k x ≡ true
     → admits header k (masked_content (shown_len small header k x) x) ≡ true
 unfolding admits shown_len shown_in is_shown
-kept_fits small header (contents.Short most) x is = rw masked_len is
-kept_fits small header contents.Version x is = rw masked_len is
-kept_fits small header (contents.Of family) x is =
-    let whole = (and_parts (is_whole header x) (is_of (identifiers family) x) is).0 in
-    rw (whole, all_masked x) is
-kept_fits small header k x is = is
+kept_fits small header k x is = grind (arith, masked_len, all_masked x)
 
 zeros_misfit : (header : Header) (k : Content) (x : List ℕ) → admits header k x ≡ false
     → admits header k (zeros x) ≡ false
 unfolding admits
-zeros_misfit header (contents.Short most) x is = rw zeros_len is
-zeros_misfit header contents.Version x is = rw zeros_len is
-zeros_misfit header (contents.Of family) x is = and_right (is_whole header (zeros x)) _ (zeros_other family x)
-zeros_misfit header k x is = is
+zeros_misfit header k x is = grind (arith, zeros_len x, zeros_other)
 
 -- of an element without a component all or nothing is shown
 pub kept_misfits : (small : Bool) (header : Header) (k : Content) (x : List ℕ) → admits header k x ≡ false
     → admits header k (masked_content (shown_len small header contents.Free x) x) ≡ false
 unfolding shown_len shown_in
-kept_misfits small header k x is =
-    let Misfits = λ (n : ℕ). admits header k (masked_content n x) ≡ false in
-    let none : Misfits 0 = zeros_misfit header k x is in
-    cond_both (is_whole header x) _ 0 Misfits (λ _. cond_both (is_shown small header.tag contents.Free x) (length x) 0
-    Misfits (λ _. rw all_masked is) (λ _. none)) (λ _. none)
+kept_misfits small header k x is = grind (arith, all_masked x, zeros_misfit header k x is)
 
 -- ---- the bytes after a level
 
@@ -290,30 +216,23 @@ end_found loose marked some (a ∷ b ∷ bytes) n is =
     let (test, found) = some_if ((a == 0x00 && b == 0x00) && (marked && (loose || may_end some))) (Some 2) n is in
     inr (cc, omega arith, (and_parts marked _ (and_parts (a == 0x00 && b == 0x00) _ test).1).0)
 
-closed_by : (bytes : List ℕ) (after : Step → Option (List ℕ)) (next : List Component → List ℕ → Option (List ℕ))
-    (o : Option ℕ) (step : Option Step) → ((n : ℕ) → o ≡ Some n → length (drop n bytes) ≡ 0)
-    → ((cs : List Component) (rest : List ℕ) → left (next cs rest) ≡ 0) → left (rest_by bytes after next o step) ≡ 0
-closed_by bytes after next (Some n) step end each = end n refl
-closed_by bytes after next None None end each = refl
-closed_by bytes after next None (Some step) end each =
-    elim (after step) as (λ o. left (rest_next (λ rest. next step.others rest) o) ≡ 0)
-    [ None ↦ refl | Some rest ↦ each step.others rest ]
+end_closed : (loose : Bool) (some : List Component) (bytes : List ℕ) (n : ℕ) → end_at loose false some bytes ≡ Some n
+    → length (drop n bytes) ≡ 0
+unfolding end_at
+end_closed loose some [] zero is = refl
+end_closed loose some [] (suc n) is = refl
+end_closed loose some (a ∷ []) n is = absurd (cc is)
+end_closed loose some (a ∷ b ∷ bytes) n is = grind arith
 
-none_left : (loose : Bool) (most depth : ℕ) (some : List Component) (bytes : List ℕ)
+pub closed_left : (loose : Bool) (most depth : ℕ) (some : List Component) (bytes : List ℕ)
     → left (rest_of loose most depth false some bytes) ≡ 0
-none_left loose zero depth some bytes = refl
-none_left loose (suc most) depth some bytes =
-    closed_by bytes _ _ (end_at loose false some bytes) (step_at loose depth some bytes)
-    (λ n is. nothing n (end_found loose false some bytes n is)) (none_left loose most depth)
-  where
-    nothing : (n : ℕ) → IsEnd false bytes n → length (drop n bytes) ≡ 0
-    nothing n (inl (none, empty)) = rw (none, empty) refl
-    nothing n (inr (two, few, other)) = absurd (cc other)
+closed_left loose zero depth some bytes = refl
+closed_left loose (suc most) depth some bytes = grind (arith, end_closed loose some bytes, closed_left loose most depth)
 
 pub rest_closed : (loose : Bool) (most depth : ℕ) (some : List Component) (bytes r : List ℕ)
     → rest_of loose most depth false some bytes ≡ Some r → r ≡ []
 rest_closed loose most depth some bytes r is =
-    no_bytes r (ap left (sym is) ∙ none_left loose most depth some bytes)
+    no_bytes r (ap left (sym is) ∙ closed_left loose most depth some bytes)
 
 pub no_choice : (test : Bool) (o : Option Step) → o ≡ None → (if test then o else None) ≡ None
 no_choice true o none = none
@@ -328,8 +247,9 @@ undrawn_at loose depth some x = no_choice (nat_lt depth 64) _ (undrawn_no_step l
 zeros_never : (most depth : ℕ) (s : Structure) (x : List ℕ) → end_at false false (components s) (zeros x) ≡ None
     → is_followed most depth s (zeros x) ≡ false
 unfolding step_at
-zeros_never most depth s x end = ap (λ (o : Option (List ℕ)). is_some o) (rest_stop false most depth false
-    (components s) (zeros x) end (no_choice (nat_lt depth 64) _ (zeros_no_step false false (components s) x)))
+zeros_never zero depth s x end = refl
+zeros_never (suc most) depth s x end =
+    rw (end, no_choice (nat_lt depth 64) _ (zeros_no_step false false (components s) x)) refl
 
 pub zeros_followed : (most depth : ℕ) (s : Structure) (x : List ℕ) → is_followed most depth s x ≡ false
     → is_followed most depth s (zeros x) ≡ false
@@ -347,7 +267,185 @@ zeros_bits most depth s x = refl
 
 -- a number of unused bits before others
 pub bits_same : (x r : List ℕ) → length r ≡ length (drop 1 x) → has_bits (take 1 x ++ r) ≡ has_bits x
-bits_same [] [] size = refl
-bits_same (a ∷ []) [] size = refl
-bits_same (a ∷ b ∷ x) (c ∷ r) size = refl
-bits_same x r size = absurd (cc size)
+bits_same x r size = grind arith
+
+-- ---- one element
+
+-- an element whose content is masked, with others for the bytes after it
+pub record MasksStep (loose small : Bool) (most depth : ℕ) (step next : Step) (m t : List ℕ) : Type 0 where
+  pub like : next ≡ step_like step next.content next.rest
+  pub stays : Stays step next.content
+  pub rest_len : length next.rest ≡ length step.rest
+  pub opened : opened_of loose most depth next ≡ opened_of loose most depth step
+  pub after : rest_after loose most depth next ≡ again t (rest_after loose most depth step)
+  pub parts : m ++ t ≡ next.content ++ next.rest
+  pub shown : take (shown_len small step.header step.component.2 next.content) next.content
+      ≡ take (shown_len small step.header step.component.2 step.content) step.content
+
+pub taken_fits : (step : Step) → IsTaken step → admits step.header step.component.2 step.content ≡ true
+unfolding admits
+taken_fits step taken = grind (arith, taken.admitted, taken.free)
+
+-- what is shown of a content decides what comes after it
+pub chosen_same : (header : Header) (c : Component) (x m : List ℕ)
+    → take (shown_len false header c.2 m) m ≡ take (shown_len false header c.2 x) x
+    → (others : List Component) → others_after header c m others ≡ others_after header c x others
+unfolding others_after
+chosen_same header c x m same others = ap (λ (y : List ℕ). chosen (cases c.3) y others) same
+
+free_kind : (step : Step) → IsTaken step → step.follows ≡ false → contents.Free ≡ step.component.2
+free_kind step taken is = ap (λ (c : Component). c.2) (sym (taken.free is))
+
+-- the mask of a content that is no rows is none
+none_kept : (loose small : Bool) (most depth : ℕ) (header : Header) (k : Content) (x : List ℕ)
+    → opened_in (λ s y. is_followed most depth s y) loose header k x ≡ None
+    → opened_in (λ s y. is_followed most depth s y) loose header k (masked_content (shown_len small header k x) x)
+    ≡ None
+unfolding opened_in shown_len shown_in is_shown
+none_kept loose small most depth header k x is = grind (arith, zeros_followed, zeros_bits)
+
+some_again : (u : List ℕ) (o : Option (List ℕ)) → is_some (again u o) ≡ is_some o
+some_again u o = grind arith
+
+-- what follows a structure to its end is kept, if as much is after it
+follows_kept : (rest : Structure → List ℕ → Option (List ℕ)) (a b : Bool) (t s : Structure) (x m u : List ℕ)
+    → (if a && is_some (rest t x) then Some t else None) ≡ Some s → b ≡ a → rest s m ≡ again u (rest s x)
+    → (if b && is_some (rest t m) then Some t else None) ≡ Some s
+follows_kept rest a b t s x m u is same after' =
+    let known = some_if (a && is_some (rest t x)) (Some t) s is in
+    let one : t ≡ s = cc in
+    let all : (a && is_some (rest s x)) ≡ true = rw one at known.0 in
+    rw (one, same, after', some_again u (rest s x), all) refl
+
+definite : (header : Header) → is_primitive header ≡ true → is_none header.content_len ≡ false
+definite header is = grind arith
+
+rows_kept : (loose : Bool) (most depth : ℕ) (header : Header) (k : Content) (s : Structure) (x m u : List ℕ)
+    → opened_in (λ c y. is_followed most depth c y) loose header k x ≡ Some s → admits header k x ≡ true
+    → (front_len k ≡ 1 → has_bits m ≡ has_bits x)
+    → rest_of (inside_loose k loose) most depth (is_none header.content_len) (components s) (drop (front_len k) m)
+    ≡ again u (rest_of (inside_loose k loose) most depth (is_none header.content_len) (components s)
+    (drop (front_len k) x))
+    → opened_in (λ c y. is_followed most depth c y) loose header k m ≡ Some s
+unfolding opened_in admits
+rows_kept loose most depth header (contents.Whole t) s x m u is fits bits same =
+    follows_kept (λ c y. rest_of false most depth false (components c) y) true true t s x m u is refl
+    (rw (definite header fits) at same)
+rows_kept loose most depth header (contents.Bits t) s x m u is fits bits same =
+    follows_kept (λ c y. rest_of false most depth false (components c) y) (has_bits x) (has_bits m) t s (drop 1 x)
+    (drop 1 m) u is (bits refl) (rw (definite header fits) at same)
+rows_kept loose most depth header k s x m u is fits bits same = is
+
+after_same : (marked : Bool) (o : Option (List ℕ)) (r rest t u : List ℕ) → (if marked then u else rest) ≡ t
+    → after_inside marked rest (again u o) ≡ again t (after_inside marked r o)
+after_same marked o r rest t u is = grind arith
+
+module _ (loose small : Bool) (most depth : ℕ) (step : Step) (taken : IsTaken step) where
+  -- what is inside it as a structure: the bytes after that, and its mask
+  abbrev rest_at : Structure → Option (List ℕ)
+  rest_at s = rest_of (inside_loose step.component.2 loose) most depth (is_open step) (components s) (inside_bytes step)
+
+  abbrev mask_at : Structure → List ℕ
+  mask_at s =
+      masked (inside_loose step.component.2 loose) small most depth (is_open step) (components s) (inside_bytes step)
+
+  -- an element whose content is rows: with the mask of these, and u for the bytes after them
+  rows_masks : (s : Structure) (content rest t u : List ℕ) → opened_of loose most depth step ≡ Some s
+      → Inner small most → content ≡ take (front_len step.component.2) step.content ++ (mask_at s ++ u)
+      → step_mask loose small most depth step ++ t ≡ content ++ rest → length rest ≡ length step.rest
+      → length u ≡ left (rest_at s) → (if is_open step then u else rest) ≡ t
+      → MasksStep loose small most depth step (step_like step content rest) (step_mask loose small most depth step) t
+  rows_masks s content rest t u some within is parts size left_len tail =
+      let inner = within (inside_loose step.component.2 loose) (is_open step) depth (components s) (inside_bytes step) in
+      let k : Content = step.component.2 in
+      let n : ℕ = front_len k in
+      let x : List ℕ = step.content in
+      let y : List ℕ = drop n x in
+      let r : List ℕ = mask_at s in
+      let few = front_within (λ c z. is_followed most depth c z) loose step.header k x s some in
+      let front : length (take n x) ≡ n = length-take-le n x few in
+      let back : drop n content ≡ r ++ u = rw is (drop_at (take n x) (r ++ u) n front) in
+      let same : rest_of (inside_loose k loose) most depth (is_open step) (components s) (drop n content)
+      ≡ again u (rest_of (inside_loose k loose) most depth (is_open step) (components s) y) =
+      rw back (inner.same u left_len) in
+      let len : length content ≡ length x =
+      omega (arith, ap length is, length-append (take n x) (r ++ u), length-append r u, inner.len, length-drop n x) in
+      let bits : n ≡ 1 → has_bits content ≡ has_bits x = λ one.
+      ap (λ (z : List ℕ). has_bits z) is ∙ (ap (λ (j : ℕ). has_bits (take j x ++ (r ++ u))) one ∙ bits_same x (r ++ u)
+      (omega (arith, length-append r u, inner.len, left_len, length-drop n x, length-drop 1 x))) in
+      let rows : IsRows step.header k = opened_rows (λ c z. is_followed most depth c z) loose step.header k x s some in
+      let kept : opened_of loose most depth (step_like step content rest) ≡ Some s =
+      rows_kept loose most depth step.header k s x content u some (taken_fits step taken) bits same in
+      record {
+        like = refl;
+        stays = record {
+          len = len;
+          follows = λ e. rows.alike content x ∙ taken.admitted e;
+          misfits = λ e c misfit. rows.free (sym (free_kind step taken e)) c content x ∙ misfit;
+          chosen = chosen_same step.header step.component x content
+              (rw (rows.shown false content, rows.shown false x) refl);
+        };
+        rest_len = size;
+        opened = kept ∙ sym some;
+        after = rw (kept, some, same) (after_same (is_open step) _ step.rest rest t u tail);
+        parts = parts;
+        shown = rw (rows.shown small content, rows.shown small x) refl;
+      }
+
+  pub opened_masks : (t : List ℕ) → Inner small most → length t ≡ tail_len step (rest_after loose most depth step)
+      → MasksStep loose small most depth step (step_again (is_open step) step (step_mask loose small most depth step) t)
+      (step_mask loose small most depth step) t
+  opened_masks t inner size = by_opened (opened_of loose most depth step) (is_open step) refl refl
+    where
+      m : List ℕ
+      m = step_mask loose small most depth step
+
+      tail_is : (marked : Bool) (o : Option (List ℕ)) → (marked ≡ true → step.rest ≡ [])
+          → tail_len step (after_inside marked step.rest o) ≡ (if marked then left o else length step.rest)
+      tail_is marked o none = grind (arith, none)
+
+      by_opened : (o : Option Structure) (b : Bool) → opened_of loose most depth step ≡ o → is_open step ≡ b
+          → MasksStep loose small most depth step (step_again b step m t) m t
+      by_opened None true none opens =
+          absurd (cc (sym opens ∙ closed_content (λ s y. is_followed most depth s y) loose step.header step.component.2
+          step.content none (taken_fits step taken)))
+      by_opened None false none opens =
+          let k : Content = step.component.2 in
+          let x : List ℕ = step.content in
+          let n : ℕ = shown_len small step.header k x in
+          let plain : m ≡ masked_content n x = rw none refl in
+          let seen : IsMasked small step.header k x (masked_content n x) = content_shown small step.header k x in
+          let kept : opened_of loose most depth (step_like step (masked_content n x) t) ≡ None =
+          none_kept loose small most depth step.header k x none in
+          let rest : rest_after loose most depth step ≡ Some step.rest = rw none refl in
+          rw plain (record {
+            like = refl;
+            stays = record {
+              len = seen.len;
+              follows = λ e. kept_fits small step.header k x (taken.admitted e);
+              misfits = λ e c misfit. rw (free_kind step taken e) at (kept_misfits small step.header c x misfit);
+              chosen = chosen_same step.header step.component x (masked_content n x) (surely_shown small step.header k x);
+            };
+            rest_len = size ∙ ap (λ (o : Option (List ℕ)). tail_len step o) rest;
+            opened = kept ∙ sym none;
+            after = rw (kept, none) refl;
+            parts = refl;
+            shown = seen.shown;
+          })
+      by_opened (Some s) false some opens =
+          let plain : m ≡ take (front_len step.component.2) step.content ++ (mask_at s ++ []) =
+          rw (some, append-nil (mask_at s)) refl in
+          let rest : rest_after loose most depth step ≡ after_inside false step.rest (rest_at s) =
+          rw (some, opens) refl in
+          rows_masks s m t t [] some inner plain refl
+          (size ∙ (ap (λ (o : Option (List ℕ)). tail_len step o) rest ∙ tail_is false (rest_at s) (λ e. absurd (cc e))))
+          (rw opens (sym (closed_left _ _ _ _ _))) (rw opens refl)
+      by_opened (Some s) true some opens =
+          let none : step.rest ≡ [] = taken.last (no_len step.header.content_len opens) in
+          let plain : m ++ t ≡ take (front_len step.component.2) step.content ++ (mask_at s ++ t) =
+          rw some (append_assoc (take (front_len step.component.2) step.content) (mask_at s) t) in
+          let rest : rest_after loose most depth step ≡ after_inside true step.rest (rest_at s) = rw (some, opens) refl in
+          rows_masks s (m ++ t) [] t t some inner plain
+          (sym (append-nil (m ++ t))) (ap length (sym none))
+          (size ∙ (ap (λ (o : Option (List ℕ)). tail_len step o) rest ∙ tail_is true (rest_at s) (λ e. none)))
+          (rw opens refl)

@@ -1,25 +1,10 @@
 -- What bytes are, and their picture.
-use Rattle.std.proofs.Common.{◌≡◌, ◌≢◌, ◌+◌, ◌-◌, ◌<◌, ◌^◌, ℕ, List, [], ◌∷◌, ◌++◌, length, refl, Some, None, Bool}
-use Rattle.std.proofs.Common.{false, arith, append-nil}
+use Rattle.std.proofs.Common.{◌≡◌, ◌+◌, ◌-◌, ◌<◌, ◌^◌, ℕ, List, [], ◌∷◌, ◌++◌, length, refl, Some, Bool, arith}
 use Rattle.der_view.specs.Grammar.{Component}
-use Rattle.der_view.specs.Pictures.{capped, ended_by, first_place, is_complete, rest_rows, root_step, rows_as, whole_as}
-use Rattle.der_view.specs.Rows.{How, NotDrawn, Step, given_part, rest_after, step_rows}
+use Rattle.der_view.specs.Pictures.{capped, ended_by, first_place, rest_rows, root_step, rows_as, whole_as}
+use Rattle.der_view.specs.Rows.{How, Step, rest_after, step_rows}
 
 module _ (how : How) (root : Component) (is_public : Bool) (bytes : List ℕ) where
-  -- of bytes that don't begin with a root
-  pub rows_missing : root_step root bytes ≡ None → rows_as how root is_public bytes
-      ≡ NotDrawn (first_place is_public (length bytes)) (root ∷ []) (length bytes)
-      (given_part how.given 0 (length bytes)) ∷ []
-  unfolding rows_as
-  rows_missing is = rw is refl
-
-  -- of bytes that do, and whose rows end in the root or not
-  pub rows_ended : (step : Step) → root_step root bytes ≡ Some step
-      → rest_after how.loose (length bytes) 1 step ≡ None → rows_as how root is_public bytes
-      ≡ step_rows how (length bytes) (first_place is_public (length bytes)) (root ∷ []) step
-  unfolding rows_as
-  rows_ended step is none = rw (is, none) (append-nil _)
-
   pub rows_after : (rest : List ℕ) (step : Step) → root_step root bytes ≡ Some step
       → rest_after how.loose (length bytes) 1 step ≡ Some rest → rows_as how root is_public bytes
       ≡ step_rows how (length bytes) (first_place is_public (length bytes)) (root ∷ []) step
@@ -28,10 +13,6 @@ module _ (how : How) (root : Component) (is_public : Bool) (bytes : List ℕ) wh
   rows_after rest step is some = rw (is, some) refl
 
 module _ (loose : Bool) (root : Component) (bytes : List ℕ) where
-  pub whole_missing : root_step root bytes ≡ None → whole_as loose root bytes ≡ false
-  unfolding whole_as
-  whole_missing is = rw is refl
-
   pub whole_found : (step : Step) → root_step root bytes ≡ Some step
       → whole_as loose root bytes ≡ ended_by step (rest_after loose (length bytes) 1 step)
   unfolding whole_as

@@ -1,23 +1,22 @@
 -- Each byte is in one row, and the rows are in order.
 use Rattle.std.proofs.Common.{◌≡◌, ℕ, zero, suc, ◌+◌, ◌-◌, ◌≤◌, Bool, true, false, List, [], ◌∷◌, ◌++◌, length, refl}
-use Rattle.std.proofs.Common.{sym, ap, ◌∙◌, Option, Some, None, arith, length-drop, append-nil, inl, inr}
+use Rattle.std.proofs.Common.{sym, ap, ◌∙◌, Option, Some, None, arith, length-drop, append-nil}
+use Rattle.std.proofs.lemmas.Bool.Decides.{nat_tests}
 use Rattle.std.specs.Prelude.{if◌then◌else◌, nat_lt}
 use Rattle.der_view.specs.Grammar.{Component, components}
 use Rattle.der_view.specs.Pictures.{first_place, is_public, picture, plan_of, rest_rows, root_of, root_step, rows_as}
 use Rattle.der_view.specs.Pictures.{rows_by, rows_by_way, rows_from, rules_by}
 use Rattle.der_view.specs.RowLaws.{AreAt, offset_of, row_len, rows_len}
-use Rattle.der_view.specs.Rows.{EndOfContents, How, NotDrawn, Row, Step, after, after_inside, around, end_at, end_rows}
-use Rattle.der_view.specs.Rows.{front_len, inside, inside_bytes, inside_loose, inside_rules, is_followed, is_open}
-use Rattle.der_view.specs.Rows.{may_end, next_rows, opened_of, rest_after, rest_next, rest_of, rows_of, step_at}
-use Rattle.der_view.specs.Rows.{step_rows}
+use Rattle.der_view.specs.Rows.{How, Row, Step, after, after_inside, end_at, end_rows, front_len, inside, inside_bytes}
+use Rattle.der_view.specs.Rows.{inside_loose, inside_rules, is_followed, is_open, next_rows, opened_of, rest_after}
+use Rattle.der_view.specs.Rows.{rest_next, rest_of, rows_of, step_at, step_rows}
 use Rattle.der_view.specs.declared.grammar.Structure.{Structure}
 use Rattle.der_view.specs.declared.plan.Plan.{Plan}
 use Rattle.der_view.specs.declared.plan.Way.{Way}
 use Rattle.der_view.specs.declared.plan.Way.TheVariants as ways
 use Rattle.der_view.specs.declared.walk.Place.{Place}
-use Rattle.der_view.proofs.LevelLemmas.{taken_fits}
-use Rattle.der_view.proofs.MaskLemmas.{IsEnd, closed_content, end_found, front_within, no_len, rest_closed, some_if}
-use Rattle.der_view.proofs.RowMaskLemmas.{taken}
+use Rattle.der_view.proofs.MaskLemmas.{taken_fits, IsEnd, closed_content, end_found, front_within, no_len, rest_closed}
+use Rattle.der_view.proofs.MaskLemmas.{some_if}
 use Rattle.der_view.proofs.StepLemmas.{BeginsWith, step_found}
 
 -- rows from one offset on, each where those before it end, up to another
@@ -52,15 +51,7 @@ Inner most =
 
 end_span : (marked : Bool) (place : Place) (some : List Component) (bytes : List ℕ) (n : ℕ) → IsEnd marked bytes n
     → (n ≤ length bytes) × Span place.offset (end_rows place some n) (place.offset + n)
-end_span marked place some bytes n is = by_end (may_end some) is
-  where
-    by_end : (test : Bool) → IsEnd marked bytes n → (n ≤ length bytes)
-        × Span place.offset ((if test then [] else NotDrawn place some 0 [] ∷ [])
-        ++ (if nat_lt 0 n then EndOfContents (around place) ∷ [] else [])) (place.offset + n)
-    by_end true (inl (none, _)) = rw none (omega arith)
-    by_end false (inl (none, _)) = rw none (omega arith)
-    by_end true (inr (two, few, _)) = rw two (omega (arith, few))
-    by_end false (inr (two, few, _)) = rw two (omega (arith, few))
+end_span marked place some bytes n is = grind (arith, nat_tests)
 
 module _ (how : How) (most : ℕ) (place : Place) (limit : ℕ) (fits : limit ≤ place.end) (inner : Inner most) where
   -- an element: where what is inside it ends, it does, unless other bytes come after it
@@ -89,7 +80,7 @@ module _ (how : How) (most : ℕ) (place : Place) (limit : ℕ) (fits : limit �
         → AreRows place limit (rest_after how.loose most (place.depth + 1) step) (step_rows how most place some step)
     element_rows None true none e =
         absurd (cc (sym e ∙ closed_content (λ s y. is_followed most (place.depth + 1) s y) how.loose step.header
-        step.component.2 step.content none (taken_fits step (taken cut misfit others bytes step b))))
+        step.component.2 step.content none (taken_fits step b.taken)))
     element_rows None false none e =
         rw (none, e) (_, (refl, refl), omega (arith, b.element.len, at))
     element_rows (Some s) marked is e =

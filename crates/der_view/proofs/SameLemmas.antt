@@ -1,22 +1,20 @@
 -- Masks of elements with contents that differ.
-use Rattle.std.proofs.Common.{◌≡◌, ◌&&◌, ◌||◌, ℕ, suc, ◌+◌, Bool, true, false, List, [], ◌++◌, length, take, refl, sym}
-use Rattle.std.proofs.Common.{◌∙◌, Option, Some, None, append-nil, arith, ap₂}
-use Rattle.std.proofs.lemmas.Bool.{and_parts}
+use Rattle.std.proofs.Common.{◌≡◌, ℕ, Bool, true, false, List, [], length, refl, sym, ◌∙◌, Option, Some, None}
+use Rattle.std.proofs.Common.{append-nil, arith}
 use Rattle.std.specs.Option.{is_some}
-use Rattle.std.specs.Prelude.{if◌then◌else◌, is_none, nat_lt}
-use Rattle.der_view.specs.Contents.{is_small, is_shown, is_whole, shown_in, shown_len}
+use Rattle.std.specs.Prelude.{if◌then◌else◌, is_none}
+use Rattle.der_view.specs.Contents.{is_small, is_shown, shown_in, shown_len}
 use Rattle.der_view.specs.Grammar.{Component, components}
-use Rattle.der_view.specs.Masks.{masked, next_mask, step_mask, undrawn}
-use Rattle.der_view.specs.Rows.{Step, admits, after_inside, end_at, front_len, inside_loose, is_followed, opened_in}
-use Rattle.der_view.specs.Rows.{opened_of, others_after, rest_after, rest_of, rest_with, step_at, step_by, step_with}
+use Rattle.der_view.specs.Masks.{masked, step_mask}
+use Rattle.der_view.specs.Rows.{Step, admits, after_inside, front_len, inside_loose, is_followed, opened_in, opened_of}
+use Rattle.der_view.specs.Rows.{others_after, rest_after, rest_of}
 use Rattle.der_view.specs.declared.grammar.Content.{Content}
 use Rattle.der_view.specs.declared.grammar.Content.TheVariants as contents
 use Rattle.der_view.specs.declared.grammar.Structure.{Structure}
 use Rattle.der_view.specs.declared.grammar.Structure.TheVariants as structures
 use Rattle.der_view.specs.declared.header.Header.{Header}
-use Rattle.der_view.proofs.LevelLemmas.{chosen_same, closed_left}
-use Rattle.der_view.proofs.MaskLemmas.{again, no_choice, none_shown, opened_same, some_if}
-use Rattle.der_view.proofs.RowMaskLemmas.{masks_rest}
+use Rattle.der_view.proofs.MaskLemmas.{chosen_same, again, closed_left, opened_same}
+use Rattle.der_view.proofs.PictureMaskLemmas.{masks_rest}
 
 -- any elements
 abbrev pub any : List Component
@@ -65,11 +63,7 @@ unseen_len small header x none = grind arith
 inside_len : (small : Bool) (holds : Structure → Bool) (header : Header) (k : Content) (x : List ℕ)
     → inside_content holds k ≡ true → (k ≡ contents.Free → small ≡ false) → shown_len small header k x ≡ 0
 unfolding shown_len shown_in is_shown
-inside_len small holds header contents.Hidden x is free = none_shown (is_whole header x)
-inside_len small holds header (contents.Inside u) x is free = none_shown (is_whole header x)
-inside_len small holds header (contents.Whole u) x is free = none_shown (is_whole header x)
-inside_len small holds header contents.Free x is free = rw (free refl) (none_shown (is_whole header x))
-inside_len small holds header k x is free = absurd (cc is)
+inside_len small holds header k x is free = grind arith
 
 pub whole_len : (small : Bool) (header : Header) (u : Structure) (x : List ℕ)
     → shown_len small header (contents.Whole u) x ≡ 0
@@ -102,37 +96,18 @@ module _ (loose small : Bool) (most depth : ℕ) where
   goes_alike some a b same = sym (mask_goes some a) ∙ rw same (mask_goes some b)
 
 after_some : (rest : List ℕ) (o : Option (List ℕ)) → is_some (after_inside false rest o) ≡ is_some o
-after_some rest None = refl
-after_some rest (Some r) = refl
+after_some rest o = grind arith
 
 -- contents inside an element
 module _ (loose small : Bool) (most depth : ℕ) (header : Header) (holds : Structure → Bool) (a b : List ℕ)
     (are : AreInside small most depth holds header a b) where
-  any_alike : (free : Bool) (u : Structure)
-      → (if is_none header.content_len || (header.tag.constructed && free) then Some structures.Any else None) ≡ Some u
-      → (l : Bool) → masked l small most depth false (components u) a ≡ masked l small most depth false (components u) b
-  any_alike free u at l =
-      let (made, same) = some_if (header.tag.constructed && free) (Some structures.Any) u (rw are.definite at at) in
-      let any_is : structures.Any ≡ u = cc in
-      rw (← any_is) (are.anything l (and_parts header.tag.constructed free made).0)
-
-  inner_alike : (s u : Structure) → holds s ≡ true → s ≡ u
-      → (l : Bool) → masked l small most depth false (components u) a ≡ masked l small most depth false (components u) b
-  inner_alike s u is same l = rw (← same) (are.inner s l is)
-
   -- those that are rows, and those that aren't
   opened_alike : (k : Content) (u : Structure) → inside_content holds k ≡ true
       → opened_in (λ v x. is_followed most depth v x) loose header k b ≡ Some u
       → ((l : Bool) → masked l small most depth false (components u) a
       ≡ masked l small most depth false (components u) b) × (front_len k ≡ 0)
   unfolding opened_in
-  opened_alike contents.Hidden u is at = (any_alike loose u at, refl)
-  opened_alike contents.Free u is at = (any_alike true u at, refl)
-  opened_alike (contents.Inside s) u is at = (inner_alike s u is (cc), refl)
-  opened_alike (contents.Whole s) u is at =
-      let (_, same) = some_if (is_followed most depth s b) (Some s) u at in
-      (inner_alike s u is (cc), refl)
-  opened_alike k u is at = absurd (cc is)
+  opened_alike k u is at = (λ l. grind (arith, are.inner, are.anything, are.definite), grind arith)
 
   shut_alike : (k : Content) (x : List ℕ) → inside_content holds k ≡ true
       → opened_in (λ v y. is_followed most depth v y) loose header k b ≡ None
@@ -191,10 +166,7 @@ module _ (loose small : Bool) (most depth : ℕ) (header : Header) where
   }
     where
       admitted : (k : Content) → inside_content holds k ≡ true → admits header k a ≡ admits header k b
-      admitted (contents.Short most') is' = absurd (cc is')
-      admitted contents.Version is' = absurd (cc is')
-      admitted (contents.Of family) is' = absurd (cc is')
-      admitted k is' = refl
+      admitted k is' = grind arith
 
       same : opened c a ≡ opened c b
       same = opened_same (λ v x. is_followed most depth v x) loose header c.2 b a
@@ -211,10 +183,8 @@ module _ (loose small : Bool) (most depth : ℕ) (header : Header) where
 
   -- one content alone
   pub same_content : (c : Component) (a : List ℕ) → is_none header.content_len ≡ false → SameContent c a a
-  same_content c a definite =
-      record { admitted = refl; others = λ cs. refl; alike = by_opened (opened c a) refl }
-    where
-      by_opened : (o : Option Structure) → opened c a ≡ o → AlikeAs c a a
-      by_opened None is = λ head others follows s t. record { mask = rw is refl; goes = rw is refl }
-      by_opened (Some u) is = λ head others follows s t.
-          record { mask = rw is refl; goes = rw (is, definite, after_some s, after_some t) refl }
+  same_content c a definite = record {
+    admitted = refl;
+    others = λ cs. refl;
+    alike = λ head others follows s t. record { mask = grind arith; goes = grind (arith, definite) };
+  }

@@ -89,12 +89,17 @@ pub record Stays (step : Step) (m : List ℕ) : Type 0 where
   pub chosen : (others : List Component) → others_after step.header step.component m others
       ≡ others_after step.header step.component step.content others
 
+-- what is known of an element that comes next
+pub record IsTaken (step : Step) : Type 0 where
+  pub admitted : step.follows ≡ true → admits step.header step.component.2 step.content ≡ true
+  pub free : step.follows ≡ false → step.component ≡ tables.ELEMENT
+  pub last : step.header.content_len ≡ None → step.rest ≡ []
+
 -- what is known of bytes that begin with an element
 pub record BeginsWith (cut misfit : Bool) (some : List Component) (bytes : List ℕ) (step : Step) : Type 0 where
   pub element : HasElement cut bytes step.header step.content step.rest
   pub head : step.head ≡ take step.header.len bytes
-  pub admitted : step.follows ≡ true → admits step.header step.component.2 step.content ≡ true
-  pub free : step.follows ≡ false → step.component ≡ tables.ELEMENT
+  pub taken : IsTaken step
   pub again :
       (m r : List ℕ) → Stays step m → length r ≡ length step.rest
       → step_by cut misfit some (step.head ++ (m ++ r)) ≡ Some (step_like step m r)
@@ -156,8 +161,7 @@ step_found cut misfit some (tag ∷ tail) step is = by_element (element_at cut (
         record {
           element = h;
           head = s.head;
-          admitted = component_admits (fitting tag some) step c;
-          free = s.free;
+          taken = record { admitted = component_admits (fitting tag some) step c; free = s.free; last = h.last };
           again = λ m r stays size.
               let same = component_again m (fitting tag some) step c stays ∙ sym s.component in
               let front = take_at (take n (tag ∷ tail)) (m ++ r) n (take-len n (tag ∷ tail) h.within) in
