@@ -37,8 +37,7 @@ no_len (Some n) is = absurd (cc is)
 -- a content of zeros isn't shown where another isn't, unless it has no byte
 zeros_minimal : (a : ℕ) (x : List ℕ) → is_minimal (a ∷ x) ≡ false → is_minimal (zeros (a ∷ x)) ≡ false
 unfolding is_minimal
-zeros_minimal a [] is = absurd (cc is)
-zeros_minimal a (b ∷ x) is = refl
+zeros_minimal a x is = grind arith
 
 zeros_text : (a : ℕ) (x : List ℕ) → (is_wide_text (zeros (a ∷ x)) ≡ false) × (is_time (zeros (a ∷ x)) ≡ false)
 zeros_text a [] = (refl, refl)
@@ -49,20 +48,13 @@ valid_like : (tag : Tag) (x y : List ℕ) → (is_minimal x ≡ false → is_min
 unfolding is_valid
 valid_like tag x y minimal text wide time is = grind (arith, minimal)
 
-zeros_valid : (tag : Tag) (a : ℕ) (x : List ℕ) → is_valid tag (a ∷ x) ≡ false → is_valid tag (zeros (a ∷ x)) ≡ false
-zeros_valid tag a x =
-    valid_like tag (a ∷ x) (zeros (a ∷ x)) (zeros_minimal a x) refl (zeros_text a x).0 (zeros_text a x).1
-
 zeros_shown : (small : Bool) (tag : Tag) (k : Content) (x : List ℕ) → is_shown small tag k x ≡ false
     → is_shown small tag k (zeros x) ≡ false
 unfolding is_shown is_small
 zeros_shown small tag k [] is = is
-zeros_shown small tag k (a ∷ x) is = grind (arith, zeros_valid tag a x, zeros_minimal a x, zeros_len (a ∷ x))
-
--- a content and what is shown of it
-pub record IsMasked (small : Bool) (header : Header) (k : Content) (x m : List ℕ) : Type 0 where
-  pub len : length m ≡ length x
-  pub shown : take (shown_len small header k m) m ≡ take (shown_len small header k x) x
+zeros_shown small tag k (a ∷ x) is =
+    let valid = valid_like tag (a ∷ x) (zeros (a ∷ x)) (zeros_minimal a x) refl (zeros_text a x).0 (zeros_text a x).1 in
+    grind (arith, valid, zeros_minimal a x, zeros_len (a ∷ x))
 
 masked_len : (n : ℕ) (x : List ℕ) → length (masked_content n x) ≡ length x
 masked_len zero x = zeros_len x
@@ -83,11 +75,10 @@ len_again : (small : Bool) (header : Header) (k : Content) (x : List ℕ)
 unfolding shown_len shown_in
 len_again small header k x = grind (arith, masked_len, all_masked x, zeros_shown small header.tag k x)
 
-pub content_shown : (small : Bool) (header : Header) (k : Content) (x : List ℕ)
-    → IsMasked small header k x (masked_content (shown_len small header k x) x)
-content_shown small header k x =
-    let m : List ℕ = masked_content (shown_len small header k x) x in
-    record { len = masked_len _ x; shown = ap (λ (n : ℕ). take n m) (len_again small header k x) ∙ take_masked _ x }
+content_shown : (small : Bool) (header : Header) (k : Content) (x : List ℕ)
+    → take (shown_len small header k (masked_content (shown_len small header k x) x))
+    (masked_content (shown_len small header k x) x) ≡ take (shown_len small header k x) x
+content_shown small header k x = rw (len_again small header k x) (take_masked _ x)
 
 -- of an element with a component the same is shown anywhere
 pub surely_shown : (small : Bool) (header : Header) (k : Content) (x : List ℕ)
@@ -95,7 +86,7 @@ pub surely_shown : (small : Bool) (header : Header) (k : Content) (x : List ℕ)
     (masked_content (shown_len small header k x) x) ≡ take (shown_len false header k x) x
 unfolding shown_len shown_in is_shown
 surely_shown small header contents.Free x = grind arith
-surely_shown small header k x = (content_shown small header k x).shown
+surely_shown small header k x = content_shown small header k x
 
 -- ---- what is inside an element
 
@@ -208,48 +199,31 @@ IsEnd marked bytes n = ((n ≡ 0) × (bytes ≡ [])) ⊎ ((n ≡ 2) × (2 ≤ le
 pub end_found : (loose marked : Bool) (some : List Component) (bytes : List ℕ) (n : ℕ)
     → end_at loose marked some bytes ≡ Some n → IsEnd marked bytes n
 unfolding end_at
-end_found loose marked some [] n is =
-    let found = (some_if (loose || (not marked && may_end some)) (Some 0) n is).1 in
-    inl (cc, refl)
+end_found loose marked some [] n is = inl (grind arith, refl)
 end_found loose marked some (a ∷ []) n is = absurd (cc is)
-end_found loose marked some (a ∷ b ∷ bytes) n is =
-    let (test, found) = some_if ((a == 0x00 && b == 0x00) && (marked && (loose || may_end some))) (Some 2) n is in
-    inr (cc, omega arith, (and_parts marked _ (and_parts (a == 0x00 && b == 0x00) _ test).1).0)
+end_found loose marked some (a ∷ b ∷ bytes) n is = inr (grind arith, omega arith, grind arith)
 
 end_closed : (loose : Bool) (some : List Component) (bytes : List ℕ) (n : ℕ) → end_at loose false some bytes ≡ Some n
     → length (drop n bytes) ≡ 0
 unfolding end_at
-end_closed loose some [] zero is = refl
-end_closed loose some [] (suc n) is = refl
-end_closed loose some (a ∷ []) n is = absurd (cc is)
-end_closed loose some (a ∷ b ∷ bytes) n is = grind arith
+end_closed loose some bytes n is = grind arith
 
 pub closed_left : (loose : Bool) (most depth : ℕ) (some : List Component) (bytes : List ℕ)
     → left (rest_of loose most depth false some bytes) ≡ 0
 closed_left loose zero depth some bytes = refl
 closed_left loose (suc most) depth some bytes = grind (arith, end_closed loose some bytes, closed_left loose most depth)
 
-pub rest_closed : (loose : Bool) (most depth : ℕ) (some : List Component) (bytes r : List ℕ)
-    → rest_of loose most depth false some bytes ≡ Some r → r ≡ []
-rest_closed loose most depth some bytes r is =
-    no_bytes r (ap left (sym is) ∙ closed_left loose most depth some bytes)
-
-pub no_choice : (test : Bool) (o : Option Step) → o ≡ None → (if test then o else None) ≡ None
-no_choice true o none = none
-no_choice false o none = refl
-
 pub undrawn_at : (loose : Bool) (depth : ℕ) (some : List Component) (x : List ℕ)
     → step_at loose depth some (undrawn x) ≡ None
 unfolding step_at
-undrawn_at loose depth some x = no_choice (nat_lt depth 64) _ (undrawn_no_step loose loose some x)
+undrawn_at loose depth some x = grind (arith, undrawn_no_step loose loose some x)
 
 -- zeros don't follow where other bytes don't
 zeros_never : (most depth : ℕ) (s : Structure) (x : List ℕ) → end_at false false (components s) (zeros x) ≡ None
     → is_followed most depth s (zeros x) ≡ false
 unfolding step_at
 zeros_never zero depth s x end = refl
-zeros_never (suc most) depth s x end =
-    rw (end, no_choice (nat_lt depth 64) _ (zeros_no_step false false (components s) x)) refl
+zeros_never (suc most) depth s x end = grind (arith, zeros_no_step false false (components s) x)
 
 pub zeros_followed : (most depth : ℕ) (s : Structure) (x : List ℕ) → is_followed most depth s x ≡ false
     → is_followed most depth s (zeros x) ≡ false
@@ -400,10 +374,6 @@ module _ (loose small : Bool) (most depth : ℕ) (step : Step) (taken : IsTaken 
       m : List ℕ
       m = step_mask loose small most depth step
 
-      tail_is : (marked : Bool) (o : Option (List ℕ)) → (marked ≡ true → step.rest ≡ [])
-          → tail_len step (after_inside marked step.rest o) ≡ (if marked then left o else length step.rest)
-      tail_is marked o none = grind (arith, none)
-
       by_opened : (o : Option Structure) (b : Bool) → opened_of loose most depth step ≡ o → is_open step ≡ b
           → MasksStep loose small most depth step (step_again b step m t) m t
       by_opened None true none opens =
@@ -414,14 +384,13 @@ module _ (loose small : Bool) (most depth : ℕ) (step : Step) (taken : IsTaken 
           let x : List ℕ = step.content in
           let n : ℕ = shown_len small step.header k x in
           let plain : m ≡ masked_content n x = rw none refl in
-          let seen : IsMasked small step.header k x (masked_content n x) = content_shown small step.header k x in
           let kept : opened_of loose most depth (step_like step (masked_content n x) t) ≡ None =
           none_kept loose small most depth step.header k x none in
           let rest : rest_after loose most depth step ≡ Some step.rest = rw none refl in
           rw plain (record {
             like = refl;
             stays = record {
-              len = seen.len;
+              len = masked_len n x;
               follows = λ e. kept_fits small step.header k x (taken.admitted e);
               misfits = λ e c misfit. rw (free_kind step taken e) at (kept_misfits small step.header c x misfit);
               chosen = chosen_same step.header step.component x (masked_content n x) (surely_shown small step.header k x);
@@ -430,22 +399,18 @@ module _ (loose small : Bool) (most depth : ℕ) (step : Step) (taken : IsTaken 
             opened = kept ∙ sym none;
             after = rw (kept, none) refl;
             parts = refl;
-            shown = seen.shown;
+            shown = content_shown small step.header k x;
           })
       by_opened (Some s) false some opens =
           let plain : m ≡ take (front_len step.component.2) step.content ++ (mask_at s ++ []) =
           rw (some, append-nil (mask_at s)) refl in
-          let rest : rest_after loose most depth step ≡ after_inside false step.rest (rest_at s) =
-          rw (some, opens) refl in
-          rows_masks s m t t [] some inner plain refl
-          (size ∙ (ap (λ (o : Option (List ℕ)). tail_len step o) rest ∙ tail_is false (rest_at s) (λ e. absurd (cc e))))
-          (rw opens (sym (closed_left _ _ _ _ _))) (rw opens refl)
+          let known = rw (some, opens) at size in
+          rows_masks s m t t [] some inner plain refl (grind (arith, known)) (rw opens (sym (closed_left _ _ _ _ _)))
+          (rw opens refl)
       by_opened (Some s) true some opens =
           let none : step.rest ≡ [] = taken.last (no_len step.header.content_len opens) in
           let plain : m ++ t ≡ take (front_len step.component.2) step.content ++ (mask_at s ++ t) =
           rw some (append_assoc (take (front_len step.component.2) step.content) (mask_at s) t) in
-          let rest : rest_after loose most depth step ≡ after_inside true step.rest (rest_at s) = rw (some, opens) refl in
-          rows_masks s (m ++ t) [] t t some inner plain
-          (sym (append-nil (m ++ t))) (ap length (sym none))
-          (size ∙ (ap (λ (o : Option (List ℕ)). tail_len step o) rest ∙ tail_is true (rest_at s) (λ e. none)))
-          (rw opens refl)
+          let known = rw (some, opens, none) at size in
+          rows_masks s (m ++ t) [] t t some inner plain (sym (append-nil (m ++ t))) (ap length (sym none))
+          (rw opens (grind (arith, known))) (rw opens refl)

@@ -15,7 +15,7 @@ use Rattle.der_view.specs.declared.plan.Plan.{Plan}
 use Rattle.der_view.specs.declared.plan.Way.{Way}
 use Rattle.der_view.specs.declared.plan.Way.TheVariants as ways
 use Rattle.der_view.specs.declared.walk.Place.{Place}
-use Rattle.der_view.proofs.MaskLemmas.{taken_fits, IsEnd, closed_content, end_found, front_within, no_len, rest_closed}
+use Rattle.der_view.proofs.MaskLemmas.{taken_fits, IsEnd, closed_content, end_found, front_within, no_len, closed_left}
 use Rattle.der_view.proofs.MaskLemmas.{some_if}
 use Rattle.der_view.proofs.StepLemmas.{BeginsWith, step_found}
 
@@ -71,7 +71,8 @@ module _ (how : How) (most : ℕ) (place : Place) (limit : ℕ) (fits : limit �
         let span = joined _ _ _ _ (row ∷ []) rows (here, refl) (omega (arith, len)) known in
         (to, span, omega (arith, up, none, b.element.len, at))
     around_it false s (Some r) row rows here len e is (to, known, up) =
-        let none = ap length (rest_closed _ most (place.depth + 1) (components s) (inside_bytes step) r is) in
+        let none = rw is at (closed_left (inside_loose step.component.2 how.loose) most (place.depth + 1) (components s)
+        (inside_bytes step)) in
         let span = joined _ _ _ _ (row ∷ []) rows (here, refl) (omega (arith, len)) known in
         (to, span, omega (arith, up, none, b.element.len, at))
 

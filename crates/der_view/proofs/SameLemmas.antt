@@ -159,15 +159,12 @@ module _ (loose small : Bool) (most depth : ℕ) (header : Header) where
       → AreInside small most depth holds header a b → inside_content holds c.2 ≡ true → SameContent c a b
   unfolding admits
   content_alike c a b holds are is = record {
-    admitted = admitted c.2 is;
+    admitted = grind (arith, is);
     others = unseen_same header c a b (inside_len false holds header c.2 a is (λ e. refl))
         (inside_len false holds header c.2 b is (λ e. refl));
     alike = by_opened (opened c b) refl;
   }
     where
-      admitted : (k : Content) → inside_content holds k ≡ true → admits header k a ≡ admits header k b
-      admitted k is' = grind arith
-
       same : opened c a ≡ opened c b
       same = opened_same (λ v x. is_followed most depth v x) loose header c.2 b a
           (λ s e. goes_alike false small most depth (components s) a b
