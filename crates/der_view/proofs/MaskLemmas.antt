@@ -1,18 +1,18 @@
 -- The rows of bytes are those of their mask, whatever as many bytes come after it.
-use Rattle.std.proofs.Common.{◌≡◌, ◌&&◌, ◌||◌, not, ℕ, zero, suc, ◌+◌, ◌≤◌, Bool, true, false, List, [], ◌∷◌, ◌++◌}
-use Rattle.std.proofs.Common.{length, take, drop, refl, sym, ap, ◌∙◌, Option, Some, None, arith, ◌⊎◌, inl, inr, ◌==◌}
-use Rattle.std.proofs.Common.{append-nil, append_assoc, length-append, length-drop}
-use Rattle.std.proofs.lemmas.Bool.{and_parts, and_right}
+use Rattle.std.proofs.Common.{◌≡◌, ◌&&◌, ℕ, zero, suc, ◌+◌, ◌≤◌, Bool, true, false, List, [], ◌∷◌, ◌++◌, length, take}
+use Rattle.std.proofs.Common.{drop, refl, sym, ap, ◌∙◌, Option, Some, None, arith, ◌⊎◌, inl, inr, append-nil}
+use Rattle.std.proofs.Common.{append_assoc, length-append, length-drop}
+use Rattle.std.proofs.lemmas.Bool.{and_right}
 use Rattle.std.proofs.lemmas.List.{drop_at, length-take-le}
-use Rattle.std.specs.Prelude.{if◌then◌else◌, is_none, nat_lt}
+use Rattle.std.specs.Prelude.{if◌then◌else◌, is_none}
 use Rattle.std.specs.Option.{is_some}
 use Rattle.der_view.specs.Contents.{is_minimal, is_shown, is_small, is_text, is_time, is_valid, is_wide_text, shown_in}
 use Rattle.der_view.specs.Contents.{shown_len, is_primitive}
 use Rattle.der_view.specs.Grammar.{Component, components, identifiers, cases}
 use Rattle.der_view.specs.Masks.{masked, masked_content, undrawn, zeros, step_mask}
-use Rattle.der_view.specs.Rows.{How, Step, admits, are_bits, end_at, front_len, has_bits, is_followed, is_of, may_end}
-use Rattle.der_view.specs.Rows.{opened_in, rest_of, rows_of, step_at, after_inside, chosen, inside_bytes, inside_loose}
-use Rattle.der_view.specs.Rows.{is_open, opened_of, others_after, rest_after}
+use Rattle.der_view.specs.Rows.{How, Step, admits, are_bits, end_at, front_len, has_bits, is_followed, is_of, opened_in}
+use Rattle.der_view.specs.Rows.{rest_of, rows_of, step_at, after_inside, chosen, inside_bytes, inside_loose, is_open}
+use Rattle.der_view.specs.Rows.{opened_of, others_after, rest_after}
 use Rattle.der_view.specs.declared.grammar.Content.{Content}
 use Rattle.der_view.specs.declared.grammar.Content.TheVariants as contents
 use Rattle.der_view.specs.declared.grammar.family.Family.{Family}
@@ -21,7 +21,7 @@ use Rattle.der_view.specs.declared.grammar.Structure.{Structure}
 use Rattle.der_view.specs.declared.header.Header.{Header}
 use Rattle.der_view.specs.declared.header.Tag.{Tag}
 use Rattle.der_view.specs.declared.walk.Place.{Place}
-use Rattle.der_view.proofs.StepLemmas.{no_bytes, step_like, undrawn_no_step, zeros_len, zeros_no_step, IsTaken, Stays}
+use Rattle.der_view.proofs.StepLemmas.{step_like, undrawn_no_step, zeros_len, zeros_no_step, IsTaken, Stays}
 
 -- ---- what is shown of a content
 
@@ -147,13 +147,6 @@ module _ (whole : Structure → List ℕ → Bool) (loose : Bool) (header : Head
     free = λ e c y z. grind arith;
   }
 
-  pub opened_same : (k : Content) (x m : List ℕ)
-      → ((s : Structure) → k ≡ contents.Whole s → whole s m ≡ whole s x)
-      → ((s : Structure) → k ≡ contents.Bits s → are_bits whole s m ≡ are_bits whole s x)
-      → opened_in whole loose header k m ≡ opened_in whole loose header k x
-  unfolding opened_in
-  opened_same k x m same bits = grind (arith, same, bits)
-
   -- a content that is no rows has a definite length
   pub closed_content : (k : Content) (x : List ℕ) → opened_in whole loose header k x ≡ None → admits header k x ≡ true
       → is_none header.content_len ≡ false
@@ -278,7 +271,7 @@ none_kept : (loose small : Bool) (most depth : ℕ) (header : Header) (k : Conte
 unfolding opened_in shown_len shown_in is_shown
 none_kept loose small most depth header k x is = grind (arith, zeros_followed, zeros_bits)
 
-some_again : (u : List ℕ) (o : Option (List ℕ)) → is_some (again u o) ≡ is_some o
+pub some_again : (u : List ℕ) (o : Option (List ℕ)) → is_some (again u o) ≡ is_some o
 some_again u o = grind arith
 
 -- what follows a structure to its end is kept, if as much is after it

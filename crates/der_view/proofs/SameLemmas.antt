@@ -13,7 +13,7 @@ use Rattle.der_view.specs.declared.grammar.Content.TheVariants as contents
 use Rattle.der_view.specs.declared.grammar.Structure.{Structure}
 use Rattle.der_view.specs.declared.grammar.Structure.TheVariants as structures
 use Rattle.der_view.specs.declared.header.Header.{Header}
-use Rattle.der_view.proofs.MaskLemmas.{chosen_same, again, closed_left, opened_same}
+use Rattle.der_view.proofs.MaskLemmas.{chosen_same, closed_left, some_again}
 use Rattle.der_view.proofs.PictureMaskLemmas.{masks_rest}
 
 -- any elements
@@ -87,8 +87,7 @@ module _ (loose small : Bool) (most depth : ℕ) where
   mask_goes some x =
       let none = sym (closed_left loose most depth some x) in
       let known = (masks_rest small most loose false depth some x).same [] none in
-      rw (rw append-nil at known) (elim (rest_of loose most depth false some x) as
-      (λ o. is_some (again [] o) ≡ is_some o) [ None ↦ refl | Some r ↦ refl ])
+      rw (rw append-nil at known) (some_again [] (rest_of loose most depth false some x))
 
   goes_alike : (some : List Component) (a b : List ℕ)
       → masked loose small most depth false some a ≡ masked loose small most depth false some b
@@ -113,10 +112,15 @@ module _ (loose small : Bool) (most depth : ℕ) (header : Header) (holds : Stru
       → opened_in (λ v y. is_followed most depth v y) loose header k b ≡ None
       → length x ≡ length a → shown_len small header k x ≡ 0
   unfolding opened_in
-  shut_alike contents.Free x is at size =
-      let plain : header.tag.constructed ≡ false = grind arith in
-      are.unseen x size plain
-  shut_alike k x is at size = inside_len small holds header k x is (λ e. absurd (cc e))
+  shut_alike k x is at size = grind (arith, are.unseen x size, inside_len small holds header k x is)
+
+  both_alike : (k : Content) → inside_content holds k ≡ true → opened_in (λ v x. is_followed most depth v x) loose header k a
+      ≡ opened_in (λ v x. is_followed most depth v x) loose header k b
+  unfolding opened_in
+  both_alike k is =
+      let goes = λ (s : Structure) (e : holds s ≡ true).
+      goes_alike false small most depth (components s) a b (are.inner s false e) in
+      grind (arith, goes)
 
 module _ (loose small : Bool) (most depth : ℕ) (header : Header) where
   -- elements with these contents, as this component
@@ -166,9 +170,7 @@ module _ (loose small : Bool) (most depth : ℕ) (header : Header) where
   }
     where
       same : opened c a ≡ opened c b
-      same = opened_same (λ v x. is_followed most depth v x) loose header c.2 b a
-          (λ s e. goes_alike false small most depth (components s) a b
-          (are.inner s false (rw e at is))) (λ s e. absurd (cc (rw e at is)))
+      same = both_alike loose small most depth header holds a b are c.2 is
 
       by_opened : (o : Option Structure) → opened c b ≡ o → AlikeAs c a b
       by_opened None at = λ head others follows s t. closed_alike head c others follows a b s t (same ∙ at) at

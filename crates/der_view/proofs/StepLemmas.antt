@@ -34,15 +34,11 @@ pub record HasElement (cut : Bool) (bytes : List ℕ) (header : Header) (content
       (m r : List ℕ) → length m ≡ length content → length r ≡ length rest
       → element_at cut (take header.len bytes ++ (m ++ r)) ≡ Some (header, m, r)
 
-element_is : (cut : Bool) (bytes : List ℕ) (o : Result Header ElementFault) (header : Header) (content rest : List ℕ)
-    → element_by cut bytes o ≡ Some (header, content, rest)
-    → (o ≡ Ok header) × (parts_by cut bytes header header.content_len ≡ Some (header, content, rest))
-element_is cut bytes o header content rest is = grind (arith, nat_tests)
-
-parts_len : (cut : Bool) (bytes : List ℕ) (header : Header) (o : Option ℕ) (content rest : List ℕ)
-    → parts_by cut bytes header o ≡ Some (header, content, rest)
-    → (length (drop header.len bytes) ≡ length content + length rest) × (o ≡ None → rest ≡ [])
-parts_len cut bytes header o content rest is =
+element_parts : (cut : Bool) (bytes : List ℕ) (o : Result Header ElementFault) (header : Header) (content rest : List ℕ)
+    → element_by cut bytes o ≡ Some (header, content, rest) → (o ≡ Ok header)
+    × (parts_by cut bytes header header.content_len ≡ Some (header, content, rest))
+    × (length (drop header.len bytes) ≡ length content + length rest) × (header.content_len ≡ None → rest ≡ [])
+element_parts cut bytes o header content rest is =
     grind (arith, nat_tests, take-len {A = ℕ}, length-drop {A = ℕ})
 
 parts_again : (cut : Bool) (bytes others : List ℕ) (header : Header) (o : Option ℕ) (content rest m r : List ℕ)
@@ -55,16 +51,15 @@ pub found : (cut : Bool) (bytes : List ℕ) (header : Header) (content rest : Li
     → element_at cut bytes ≡ Some (header, content, rest) → HasElement cut bytes header content rest
 found cut bytes header content rest is =
     let n : ℕ = header.len in
-    let known = element_is cut bytes (header_of bytes) header content rest is in
-    let parts = parts_len cut bytes header header.content_len content rest known.1 in
+    let known = element_parts cut bytes (header_of bytes) header content rest is in
     let within = header_front [] bytes [] header known.0 in
     let size : length (take n bytes) ≡ n = take-len n bytes within.1 in
     record {
       is_header = known.0;
       some = within.0;
       within = within.1;
-      len = omega (arith, within.1, parts.0, length-drop n bytes);
-      last = parts.1;
+      len = omega (arith, within.1, known.2, length-drop n bytes);
+      last = known.3;
       again = λ m r one two.
           let old : header_of (take n bytes ++ drop n bytes) ≡ Ok header =
           ap header_of (take-append-drop n bytes) ∙ known.0 in
@@ -186,9 +181,7 @@ pub undrawn_no_step : (cut misfit : Bool) (some : List Component) (bytes : List 
     → step_by cut misfit some (undrawn bytes) ≡ None
 unfolding step_by
 undrawn_no_step cut misfit some [] = refl
-undrawn_no_step cut misfit some (byte ∷ bytes) =
-    ap (λ (x : Option Parts). step_with misfit 0xFF some (undrawn (byte ∷ bytes)) x)
-    (undrawn_no_header cut (byte ∷ bytes))
+undrawn_no_step cut misfit some (byte ∷ bytes) = grind (arith, undrawn_no_header cut (byte ∷ bytes))
 
 pub zeros_no_step : (cut misfit : Bool) (some : List Component) (bytes : List ℕ)
     → step_by cut misfit some (zeros bytes) ≡ None

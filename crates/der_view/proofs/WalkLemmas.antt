@@ -1,6 +1,6 @@
 -- The rows of a level, one element at a time.
-use Rattle.std.proofs.Common.{◌≡◌, ◌<◌, ◌+◌, ℕ, zero, suc, List, [], ◌∷◌, ◌++◌, refl, arith, Bool, true, false, Some}
-use Rattle.std.proofs.Common.{None, append-nil, drop, take, length, length-drop, ◌-◌}
+use Rattle.std.proofs.Common.{◌≡◌, ◌<◌, ◌+◌, ℕ, zero, suc, List, [], ◌∷◌, ◌++◌, refl, arith, Bool, true, Some, Option, None}
+use Rattle.std.proofs.Common.{append-nil, drop, take, length, length-drop, ◌-◌}
 use Rattle.std.proofs.lemmas.List.{take_all}
 use Rattle.der_view.specs.Grammar.{Component, components}
 use Rattle.der_view.specs.Pictures.{level_rest, level_rows, told}
@@ -12,8 +12,7 @@ use Rattle.der_view.specs.declared.walk.Place.{Place}
 
 told-append : (trial : Bool) (first second : List Row) → told trial (first ++ second)
     ≡ told trial first ++ told trial second
-told-append true first second = refl
-told-append false first second = refl
+told-append trial first second = grind arith
 
 -- of an element whose content is rows: its own, and those inside it
 pub opened_step : {D : Type 0} (T : D → D → List Row → Type 0)
@@ -51,29 +50,28 @@ level_stop how zero place level stop = (refl, refl)
 level_stop how (suc most) place level stop =
     let is = stop (omega arith) in (rw (is.0, is.1) refl, rw (is.0, is.1) refl)
 
--- one element more
-pub record IsNext (how : How) (most few : ℕ) (place : Place) (level : Level) (step : Step) : Type 0 where
+-- one element more, with these bytes after it or none
+pub record IsNext (how : How) (most few : ℕ) (place : Place) (level : Level) (step : Step) (o : Option (List ℕ))
+    : Type 0 where
   pub fewer : most ≡ suc few
   pub goes : end_at how.loose level.is_open level.components.now level.bytes.now ≡ None
   pub is : step_at how.loose place.depth level.components.now level.bytes.now ≡ Some step
+  pub after : rest_after how.loose few (place.depth + 1) step ≡ o
 
-pub level_last : (how : How) (most few : ℕ) (place : Place) (level : Level) (step : Step)
-    → IsNext how most few place level step → rest_after how.loose few (place.depth + 1) step ≡ None
-    → (level_rows how most place level ≡ told level.is_trial (step_rows how few place level.components.now step))
-    × (level_rest how.loose most place.depth level ≡ None)
-level_last how most few place level step next none = (
-  rw (next.fewer, next.goes, next.is, none, append-nil (step_rows how few place level.components.now step)) refl,
-  rw (next.fewer, next.goes, next.is, none) refl,
-)
+module _ {how : How} {most few : ℕ} {place : Place} {level : Level} {step : Step} where
+  pub level_last : IsNext how most few place level step None
+      → (level_rows how most place level ≡ told level.is_trial (step_rows how few place level.components.now step))
+      × (level_rest how.loose most place.depth level ≡ None)
+  level_last next =
+      (rw (next.fewer, next.goes, next.is, next.after, append-nil (step_rows how few place level.components.now step))
+      refl, rw (next.fewer, next.goes, next.is, next.after) refl)
 
--- and those after it
-pub level_more : (how : How) (most few : ℕ) (place : Place) (level : Level) (step : Step) (rest : List ℕ)
-    → IsNext how most few place level step → rest_after how.loose few (place.depth + 1) step ≡ Some rest
-    → (level_rows how most place level ≡ told level.is_trial (step_rows how few place level.components.now step)
-    ++ told level.is_trial (rows_of how few level.is_open (after place level.bytes.now rest) step.others rest))
-    × (level_rest how.loose most place.depth level ≡ rest_of how.loose few place.depth level.is_open step.others rest)
-level_more how most few place level step rest next some = (
-  rw (next.fewer, next.goes, next.is, some)
+  -- and those after it
+  pub level_more : (rest : List ℕ) → IsNext how most few place level step (Some rest)
+      → (level_rows how most place level ≡ told level.is_trial (step_rows how few place level.components.now step)
+      ++ told level.is_trial (rows_of how few level.is_open (after place level.bytes.now rest) step.others rest))
+      × (level_rest how.loose most place.depth level ≡ rest_of how.loose few place.depth level.is_open step.others rest)
+  level_more rest next =
+      (rw (next.fewer, next.goes, next.is, next.after)
       (told-append level.is_trial (step_rows how few place level.components.now step) _),
-  rw (next.fewer, next.goes, next.is, some) refl,
-)
+      rw (next.fewer, next.goes, next.is, next.after) refl)

@@ -1,7 +1,6 @@
-use Rattle.std.proofs.Common.{rules, ◌≡◌, ◌+◌, ◌-◌, ◌≤◌, ◌<◌, ◌∙◌, [], List, ℕ, length, false, Some, None, sym, arith}
-use Rattle.der_view.specs.Rows.{How, Step, end_at, opened_of, rest_after, rules_of, step_at, step_of}
+use Rattle.std.proofs.Common.{rules, ◌≡◌, ◌+◌, ◌-◌, ◌≤◌, ◌<◌, ◌∙◌, [], length, false, Bool, Some, None, sym, arith}
+use Rattle.der_view.specs.Rows.{end_at, opened_of, rules_of, step_at, step_of}
 use Rattle.der_view.specs.declared.walk.Level.{Level}
-use Rattle.der_view.specs.declared.walk.Place.{Place}
 use Rattle.der_view.proofs.WalkLemmas.{IsNext, level_end, level_last, level_more, level_stop, opened_step}
 use Rattle.der_view.proofs.walk.+walks.Goals.{walk-else-loop-most-test}
 use Rattle.der_view.proofs.walk.+walks.Goals.{walk-then-loop-most-test+in_default+in_default-step_at}
@@ -35,25 +34,20 @@ draw_step-returns-clause-rows g t c =
 
 pub walk-returns-in-Some-clause-rows : goal.walk-returns-in-Some-clause-rows
 walk-returns-in-Some-clause-rows g t c =
-    let how : How = rules_of c.args.rules.now in
-    let place : Place = c.loop-most.place in
     let level : Level = c.loop-most.level in
     let positive : 0 < c.loop-most.most = search rules in
-    let is : end_at how.loose level.is_open level.components.now level.bytes.now ≡ Some c.in-Some.len = search rules in
+    let is : end_at c.args.rules.now.is_loose level.is_open level.components.now level.bytes.now ≡ Some c.in-Some.len =
+    search rules in
     c.loop-most.invariant.0 c.draw_end.new.rows
-    (rw (level_end how c.loop-most.most place level c.in-Some.len positive is) c.draw_end.ensures)
+    (rw (level_end (rules_of c.args.rules.now) c.loop-most.most c.loop-most.place level c.in-Some.len positive is)
+    c.draw_end.ensures)
 
 pub walk-returns-in_err-rest : goal.walk-returns-in_err-rest
 walk-returns-in_err-rest g t c =
-    let how : How = rules_of c.args.rules.now in
-    let place : Place = c.loop-most.place in
-    let level : Level = c.loop-most.level in
-    let few : ℕ = c.loop-most.most - 1 in
-    let step : Step = step_of c.in-Some-step_at.step in
-    let next : IsNext how c.loop-most.most few place level step =
-    record { fewer = omega arith; goes = search rules; is = search rules } in
-    let none : rest_after how.loose few (place.depth + 1) step ≡ None = search rules in
-    let last = level_last how c.loop-most.most few place level step next none in
+    let next : IsNext (rules_of c.args.rules.now) c.loop-most.most (c.loop-most.most - 1) c.loop-most.place
+    c.loop-most.level (step_of c.in-Some-step_at.step) None =
+    record { fewer = omega arith; goes = search rules; is = search rules; after = search rules } in
+    let last = level_last next in
     let residual : c.from_residual.result ≡ None = search rules in
     record {
       rows = c.loop-most.invariant.0 c.draw_step.new.rows (rw last.0 c.draw_step.ensures.rows);
@@ -63,18 +57,12 @@ walk-returns-in_err-rest g t c =
 
 pub walk-loop-most-preserved : goal.walk-loop-most-preserved
 walk-loop-most-preserved g t c =
-    let how : How = rules_of c.args.rules.now in
-    let place : Place = c.loop-most.place in
-    let level : Level = c.loop-most.level in
-    let few : ℕ = c.loop-most.most - 1 in
-    let step : Step = step_of c.in-Some-step_at.step in
-    let rest : List ℕ = c.in_ok-rest.rest.now in
-    let next : IsNext how c.loop-most.most few place level step =
-    record { fewer = omega arith; goes = search rules; is = search rules } in
-    let some : rest_after how.loose few (place.depth + 1) step ≡ Some rest = search rules in
-    let more = level_more how c.loop-most.most few place level step rest next some in
+    let next : IsNext (rules_of c.args.rules.now) c.loop-most.most (c.loop-most.most - 1) c.loop-most.place
+    c.loop-most.level (step_of c.in-Some-step_at.step) (Some c.in_ok-rest.rest.now) =
+    record { fewer = omega arith; goes = search rules; is = search rules; after = search rules } in
+    let more = level_more c.in_ok-rest.rest.now next in
     let old = c.loop-most.invariant in
-    let within : length rest ≤ length level.bytes.now = search rules in (
+    let within : length c.in_ok-rest.rest.now ≤ length c.loop-most.level.bytes.now = search rules in (
       λ final told'. old.0 final (rw more.0 (g.met.R.Rows.joined c.loop-most.rows c.draw_step.new.rows final _ _
           c.draw_step.ensures.rows told')),
       old.1 ∙ more.1,
@@ -85,16 +73,15 @@ walk-loop-most-preserved g t c =
 
 pub walk-returns : goal.walk-returns
 walk-returns g t c =
-    let how : How = rules_of c.args.rules.now in
-    let place : Place = c.loop-most.place in
+    let loose : Bool = c.args.rules.now.is_loose in
     let level : Level = c.loop-most.level in
-    let stops : 0 < c.loop-most.most → (end_at how.loose level.is_open level.components.now level.bytes.now ≡ None)
-    × (step_at how.loose place.depth level.components.now level.bytes.now ≡ None) =
+    let stops : 0 < c.loop-most.most → (end_at loose level.is_open level.components.now level.bytes.now ≡ None)
+    × (step_at loose c.loop-most.place.depth level.components.now level.bytes.now ≡ None) =
     elim c.loop-most-test.branch [
       | walk-else-loop-most-test w ↦ λ positive. absurd (omega arith)
       | walk-then-loop-most-test+in_default+in_default-step_at w ↦ λ positive. (search rules, search rules)
     ] in
-    let stop = level_stop how c.loop-most.most place level stops in
+    let stop = level_stop (rules_of c.args.rules.now) c.loop-most.most c.loop-most.place level stops in
     record {
       rows = c.loop-most.invariant.0 c.draw_left.new.rows (rw stop.0 c.draw_left.ensures);
       rest = sym (c.loop-most.invariant.1 ∙ stop.1);
