@@ -1,7 +1,7 @@
 -- The rows of bytes are those of their mask, whatever as many bytes come after it.
 use Rattle.std.proofs.Common.{◌≡◌, ◌&&◌, ℕ, zero, suc, ◌+◌, ◌≤◌, Bool, true, false, List, [], ◌∷◌, ◌++◌, length, take}
 use Rattle.std.proofs.Common.{drop, refl, sym, ap, ◌∙◌, Option, Some, None, arith, ◌⊎◌, inl, inr, append-nil}
-use Rattle.std.proofs.Common.{append_assoc, length-append, length-drop}
+use Rattle.std.proofs.Common.{append_assoc, length-append, length-drop, take-append-drop}
 use Rattle.std.proofs.lemmas.Bool.{and_right}
 use Rattle.std.proofs.lemmas.List.{drop_at, length-take-le}
 use Rattle.std.specs.Prelude.{if◌then◌else◌, is_none}
@@ -27,12 +27,10 @@ use Rattle.der_view.proofs.StepLemmas.{step_like, undrawn_no_step, zeros_len, ze
 
 pub some_if : {A : Type 0} (test : Bool) (o : Option A) (x : A) → (if test then o else None) ≡ Some x
     → (test ≡ true) × (o ≡ Some x)
-some_if true o x is = (refl, is)
-some_if false o x is = absurd (cc is)
+some_if test o x is = grind arith
 
 pub no_len : (o : Option ℕ) → is_none o ≡ true → o ≡ None
-no_len None is = refl
-no_len (Some n) is = absurd (cc is)
+no_len o is = grind arith
 
 -- a content of zeros isn't shown where another isn't, unless it has no byte
 zeros_minimal : (a : ℕ) (x : List ℕ) → is_minimal (a ∷ x) ≡ false → is_minimal (zeros (a ∷ x)) ≡ false
@@ -40,8 +38,7 @@ unfolding is_minimal
 zeros_minimal a x is = grind arith
 
 zeros_text : (a : ℕ) (x : List ℕ) → (is_wide_text (zeros (a ∷ x)) ≡ false) × (is_time (zeros (a ∷ x)) ≡ false)
-zeros_text a [] = (refl, refl)
-zeros_text a (b ∷ x) = (refl, refl)
+zeros_text a x = grind arith
 
 valid_like : (tag : Tag) (x y : List ℕ) → (is_minimal x ≡ false → is_minimal y ≡ false) → is_text y ≡ false
     → is_wide_text y ≡ false → is_time y ≡ false → is_valid tag x ≡ false → is_valid tag y ≡ false
@@ -57,9 +54,7 @@ zeros_shown small tag k (a ∷ x) is =
     grind (arith, valid, zeros_minimal a x, zeros_len (a ∷ x))
 
 masked_len : (n : ℕ) (x : List ℕ) → length (masked_content n x) ≡ length x
-masked_len zero x = zeros_len x
-masked_len (suc n) [] = refl
-masked_len (suc n) (a ∷ x) = ap (λ (j : ℕ). suc j) (masked_len n x)
+masked_len n x = grind (arith, length-append {A = ℕ}, take-append-drop {A = ℕ}, zeros_len)
 
 all_masked : (x : List ℕ) → masked_content (length x) x ≡ x
 all_masked [] = refl

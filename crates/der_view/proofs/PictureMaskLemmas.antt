@@ -380,9 +380,7 @@ by_way_alike plan ways.Strict a b is len same =
     rw is (rows_alike false false (is_public plan) (root_of plan.form) a b same)
 by_way_alike plan ways.Loose a b is len same =
     rw is (rows_alike true plan.is_tree (is_public plan) (root_of plan.form) a b same)
-by_way_alike plan ways.Nothing [] [] is len same = refl
-by_way_alike plan ways.Nothing (c ∷ a) (d ∷ b) is len same = rw len refl
-by_way_alike plan ways.Nothing a b is len same = absurd (cc len)
+by_way_alike plan ways.Nothing a b is len same = grind arith
 
 pub picture_alike : (a b : List ℕ) → AreAlike a b → picture false a ≡ picture false b
 unfolding picture rows_by

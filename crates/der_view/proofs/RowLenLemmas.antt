@@ -134,8 +134,7 @@ rows_of_len (suc most) how marked place some bytes limit at fits =
 
 rest_span : (how : How) (place : Place) (rest : List ℕ) (to : ℕ) → place.offset + length rest ≡ to
     → Span place.offset (rest_rows how place rest) to
-rest_span how place [] to is = omega (arith, is)
-rest_span how place (byte ∷ rest) to is = (refl, is)
+rest_span how place rest to is = grind arith
 
 from_span : (how : How) (root : Component) (public : Bool) (bytes : List ℕ) (o : Option Step) → root_step root bytes ≡ o
     → Span 0 (rows_from how root (first_place public (length bytes)) (length bytes) o) (length bytes)

@@ -140,16 +140,6 @@ module _ (loose small : Bool) (most depth : ℕ) (header : Header) where
   opened c x = opened_in (λ u y. is_followed most depth u y) loose header c.2 x
 
   -- both are rows, or neither is
-  rows_alike : (c : Component) (a b : List ℕ) (u : Structure) → is_none header.content_len ≡ false
-      → front_len c.2 ≡ 0 → opened c a ≡ Some u → opened c b ≡ Some u
-      → masked (inside_loose c.2 loose) small most depth false (components u) a
-      ≡ masked (inside_loose c.2 loose) small most depth false (components u) b → AlikeAs c a b
-  rows_alike c a b u definite front one two same = λ head others follows s t. record {
-    mask = rw (one, two, definite, front) same;
-    goes = rw (one, two, definite, front, after_some s, after_some t)
-        (goes_alike (inside_loose c.2 loose) small most depth (components u) a b same);
-  }
-
   pub closed_alike : (head : List ℕ) (c : Component) (others : List Component) (follows : Bool) (a b s t : List ℕ)
       → opened_of loose most depth (step_as header head c others follows a s) ≡ None
       → opened_of loose most depth (step_as header head c others follows b t) ≡ None
@@ -176,9 +166,12 @@ module _ (loose small : Bool) (most depth : ℕ) (header : Header) where
       by_opened None at = λ head others follows s t. closed_alike head c others follows a b s t (same ∙ at) at
           (shut_alike loose small most depth header holds a b are c.2 a is at refl)
           (shut_alike loose small most depth header holds a b are c.2 b is at (sym are.len)) are.len
-      by_opened (Some u) at =
-          let both = opened_alike loose small most depth header holds a b are c.2 u is at in
-          rows_alike c a b u are.definite both.1 (same ∙ at) at (both.0 (inside_loose c.2 loose))
+      by_opened (Some u) at = λ head others follows s t.
+          let (alike, front) = opened_alike loose small most depth header holds a b are c.2 u is at in
+          let goes = goes_alike (inside_loose c.2 loose) small most depth (components u) a b (alike _) in record {
+            mask = rw (same ∙ at, at, are.definite, front) (alike (inside_loose c.2 loose));
+            goes = rw (same ∙ at, at, are.definite, front, after_some s, after_some t) goes;
+          }
 
   -- one content alone
   pub same_content : (c : Component) (a : List ℕ) → is_none header.content_len ≡ false → SameContent c a a

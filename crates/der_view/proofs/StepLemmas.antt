@@ -25,7 +25,6 @@ no_bytes (byte ∷ bytes) none = absurd (omega (arith, none))
 
 -- the bytes of an element, and what follows them
 pub record HasElement (cut : Bool) (bytes : List ℕ) (header : Header) (content rest : List ℕ) : Type 0 where
-  pub is_header : header_of bytes ≡ Ok header
   pub some : 1 < header.len
   pub within : header.len ≤ length bytes
   pub len : length bytes ≡ header.len + (length content + length rest)
@@ -55,7 +54,6 @@ found cut bytes header content rest is =
     let within = header_front [] bytes [] header known.0 in
     let size : length (take n bytes) ≡ n = take-len n bytes within.1 in
     record {
-      is_header = known.0;
       some = within.0;
       within = within.1;
       len = omega (arith, within.1, known.2, length-drop n bytes);
