@@ -132,27 +132,29 @@ pub record IsRows (header : Header) (k : Content) : Type 0 where
   pub alike : (x y : List ℕ) → admits header k x ≡ admits header k y
   pub free : k ≡ contents.Free → (c : Content) (x y : List ℕ) → admits header c x ≡ admits header c y
 
-module _ (whole : Structure → List ℕ → Bool) (loose : Bool) (header : Header) where
-  pub opened_rows : (k : Content) (x : List ℕ) (s : Structure) → opened_in whole loose header k x ≡ Some s
-      → IsRows header k
+pub taken_fits : (step : Step) → IsTaken step → admits step.header step.component.2 step.content ≡ true
+unfolding admits
+taken_fits step taken = grind (arith, taken.admitted, taken.free)
+
+module _ (loose : Bool) (most depth : ℕ) (step : Step) where
+  pub opened_rows : (s : Structure) → opened_of loose most depth step ≡ Some s → IsRows step.header step.component.2
   unfolding opened_in shown_len shown_in admits is_shown
-  opened_rows k x s is = record {
+  opened_rows s is = record {
     shown = λ small y. grind arith;
     alike = λ y z. grind arith;
     free = λ e c y z. grind arith;
   }
 
   -- a content that is no rows has a definite length
-  pub closed_content : (k : Content) (x : List ℕ) → opened_in whole loose header k x ≡ None → admits header k x ≡ true
-      → is_none header.content_len ≡ false
+  pub closed_content : IsTaken step → opened_of loose most depth step ≡ None → is_open step ≡ false
   unfolding opened_in admits
-  closed_content k x is fits = grind arith
+  closed_content taken is = grind (arith, taken_fits step taken)
 
   -- the bytes before the elements of a content are there
-  pub front_within : (k : Content) (x : List ℕ) (s : Structure) → opened_in whole loose header k x ≡ Some s
-      → front_len k ≤ length x
+  pub front_within : (s : Structure) → opened_of loose most depth step ≡ Some s
+      → front_len step.component.2 ≤ length step.content
   unfolding opened_in
-  front_within k x s is = grind arith
+  front_within s is = grind arith
 
 -- a content whose mask has zeros is taken for the same component: no identifier begins with 0
 zeros_other : (family : Family) (x : List ℕ) → is_of (identifiers family) (zeros x) ≡ false
@@ -244,10 +246,6 @@ pub record MasksStep (loose small : Bool) (most depth : ℕ) (step next : Step) 
   pub shown : take (shown_len small step.header step.component.2 next.content) next.content
       ≡ take (shown_len small step.header step.component.2 step.content) step.content
 
-pub taken_fits : (step : Step) → IsTaken step → admits step.header step.component.2 step.content ≡ true
-unfolding admits
-taken_fits step taken = grind (arith, taken.admitted, taken.free)
-
 -- what is shown of a content decides what comes after it
 pub chosen_same : (header : Header) (c : Component) (x m : List ℕ)
     → take (shown_len false header c.2 m) m ≡ take (shown_len false header c.2 x) x
@@ -324,7 +322,7 @@ module _ (loose small : Bool) (most depth : ℕ) (step : Step) (taken : IsTaken 
       let x : List ℕ = step.content in
       let y : List ℕ = drop n x in
       let r : List ℕ = mask_at s in
-      let few = front_within (λ c z. is_followed most depth c z) loose step.header k x s some in
+      let few = front_within loose most depth step s some in
       let front : length (take n x) ≡ n = length-take-le n x few in
       let back : drop n content ≡ r ++ u = rw is (drop_at (take n x) (r ++ u) n front) in
       let same : rest_of (inside_loose k loose) most depth (is_open step) (components s) (drop n content)
@@ -335,7 +333,7 @@ module _ (loose small : Bool) (most depth : ℕ) (step : Step) (taken : IsTaken 
       let bits : n ≡ 1 → has_bits content ≡ has_bits x = λ one.
       ap (λ (z : List ℕ). has_bits z) is ∙ (ap (λ (j : ℕ). has_bits (take j x ++ (r ++ u))) one ∙ bits_same x (r ++ u)
       (omega (arith, length-append r u, inner.len, left_len, length-drop n x, length-drop 1 x))) in
-      let rows : IsRows step.header k = opened_rows (λ c z. is_followed most depth c z) loose step.header k x s some in
+      let rows : IsRows step.header k = opened_rows loose most depth step s some in
       let kept : opened_of loose most depth (step_like step content rest) ≡ Some s =
       rows_kept loose most depth step.header k s x content u some (taken_fits step taken) bits same in
       record {
@@ -365,8 +363,7 @@ module _ (loose small : Bool) (most depth : ℕ) (step : Step) (taken : IsTaken 
       by_opened : (o : Option Structure) (b : Bool) → opened_of loose most depth step ≡ o → is_open step ≡ b
           → MasksStep loose small most depth step (step_again b step m t) m t
       by_opened None true none opens =
-          absurd (cc (sym opens ∙ closed_content (λ s y. is_followed most depth s y) loose step.header step.component.2
-          step.content none (taken_fits step taken)))
+          absurd (cc (sym opens ∙ closed_content loose most depth step taken none))
       by_opened None false none opens =
           let k : Content = step.component.2 in
           let x : List ℕ = step.content in

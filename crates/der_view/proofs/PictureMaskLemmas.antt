@@ -9,8 +9,8 @@ use Rattle.der_view.specs.Grammar.{Component, components, Form}
 use Rattle.der_view.specs.Masks.{content_mask, masked, next_mask, step_mask, undrawn, AreAlike, AreAlikeAs, mask_as}
 use Rattle.der_view.specs.Masks.{mask_by_way, mask_with}
 use Rattle.der_view.specs.Rows.{Row, Step, after, after_inside, end_at, end_rows, front_len, inside, inside_bytes}
-use Rattle.der_view.specs.Rows.{inside_loose, is_followed, is_open, next_rows, opened_of, rest_after, rest_next}
-use Rattle.der_view.specs.Rows.{rest_of, rows_of, step_at, step_by, step_rows}
+use Rattle.der_view.specs.Rows.{inside_loose, is_open, next_rows, opened_of, rest_after, rest_next, rest_of, rows_of}
+use Rattle.der_view.specs.Rows.{step_at, step_by, step_rows}
 use Rattle.der_view.specs.Pictures.{best, better, complete_by, cut_by, ended_by, first_place, is_complete, is_cut}
 use Rattle.der_view.specs.Pictures.{is_public, is_retagged, is_tree, known_as, left_as, nearest, parts_as, picture}
 use Rattle.der_view.specs.Pictures.{plan_as, plan_of, rest_rows, root_of, root_step, rows_as, rows_by, rows_by_way}
@@ -97,8 +97,7 @@ element_same loose small most place some step t inner last size masks =
     back : (s : Structure) (x : List ℕ) → opened_of loose most (place.depth + 1) step ≡ Some s
         → drop (front_len step.component.2) (take (front_len step.component.2) step.content ++ x) ≡ x
     back s x is = drop_at _ x _ (length-take-le (front_len step.component.2) step.content
-        (front_within (λ u y. is_followed most (place.depth + 1) u y) loose step.header step.component.2 step.content s
-        is))
+        (front_within loose most (place.depth + 1) step s is))
 
     by_opened : (o : Option Structure) (b : Bool) → opened_of loose most (place.depth + 1) step ≡ o → is_open step ≡ b
         → MasksStep loose small most (place.depth + 1) step (step_again b step (mask b o) t) (mask b o) t

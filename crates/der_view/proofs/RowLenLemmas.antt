@@ -8,15 +8,14 @@ use Rattle.der_view.specs.Pictures.{first_place, is_public, picture, plan_of, re
 use Rattle.der_view.specs.Pictures.{rows_by, rows_by_way, rows_from, rules_by}
 use Rattle.der_view.specs.RowLaws.{AreAt, offset_of, row_len, rows_len}
 use Rattle.der_view.specs.Rows.{How, Row, Step, after, after_inside, end_at, end_rows, front_len, inside, inside_bytes}
-use Rattle.der_view.specs.Rows.{inside_loose, inside_rules, is_followed, is_open, next_rows, opened_of, rest_after}
-use Rattle.der_view.specs.Rows.{rest_next, rest_of, rows_of, step_at, step_rows}
+use Rattle.der_view.specs.Rows.{inside_loose, inside_rules, is_open, next_rows, opened_of, rest_after, rest_next}
+use Rattle.der_view.specs.Rows.{rest_of, rows_of, step_at, step_rows}
 use Rattle.der_view.specs.declared.grammar.Structure.{Structure}
 use Rattle.der_view.specs.declared.plan.Plan.{Plan}
 use Rattle.der_view.specs.declared.plan.Way.{Way}
 use Rattle.der_view.specs.declared.plan.Way.TheVariants as ways
 use Rattle.der_view.specs.declared.walk.Place.{Place}
-use Rattle.der_view.proofs.MaskLemmas.{taken_fits, IsEnd, closed_content, end_found, front_within, no_len, closed_left}
-use Rattle.der_view.proofs.MaskLemmas.{some_if}
+use Rattle.der_view.proofs.MaskLemmas.{IsEnd, closed_content, end_found, front_within, no_len, closed_left, some_if}
 use Rattle.der_view.proofs.StepLemmas.{BeginsWith, step_found}
 
 -- rows from one offset on, each where those before it end, up to another
@@ -80,13 +79,11 @@ module _ (how : How) (most : ℕ) (place : Place) (limit : ℕ) (fits : limit �
         → is_open step ≡ marked
         → AreRows place limit (rest_after how.loose most (place.depth + 1) step) (step_rows how most place some step)
     element_rows None true none e =
-        absurd (cc (sym e ∙ closed_content (λ s y. is_followed most (place.depth + 1) s y) how.loose step.header
-        step.component.2 step.content none (taken_fits step b.taken)))
+        absurd (cc (sym e ∙ closed_content how.loose most (place.depth + 1) step b.taken none))
     element_rows None false none e =
         rw (none, e) (_, (refl, refl), omega (arith, b.element.len, at))
     element_rows (Some s) marked is e =
-        let front = front_within (λ u y. is_followed most (place.depth + 1) u y) how.loose step.header step.component.2
-        step.content s is in
+        let front = front_within how.loose most (place.depth + 1) step s is in
         let len = length-drop (front_len step.component.2) step.content in
         rw (is, e) (around_it marked s _ _ _ refl refl e refl (inner (inside_rules how step.component.2) marked
         (inside place step) (components s) (inside_bytes step) (place.offset + step.header.len + length step.content)
