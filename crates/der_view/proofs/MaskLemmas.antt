@@ -315,8 +315,8 @@ module _ (loose small : Bool) (most depth : ℕ) (step : Step) (taken : IsTaken 
       → step_mask loose small most depth step ++ t ≡ content ++ rest → length rest ≡ length step.rest
       → length u ≡ left (rest_at s) → (if is_open step then u else rest) ≡ t
       → MasksStep loose small most depth step (step_like step content rest) (step_mask loose small most depth step) t
-  rows_masks s content rest t u some within is parts size left_len tail =
-      let inner = within (inside_loose step.component.2 loose) (is_open step) depth (components s) (inside_bytes step) in
+  rows_masks s content rest t u some each is parts size left_len tail =
+      let inner = each (inside_loose step.component.2 loose) (is_open step) depth (components s) (inside_bytes step) in
       let k : Content = step.component.2 in
       let n : ℕ = front_len k in
       let x : List ℕ = step.content in
@@ -378,7 +378,8 @@ module _ (loose small : Bool) (most depth : ℕ) (step : Step) (taken : IsTaken 
               len = masked_len n x;
               follows = λ e. kept_fits small step.header k x (taken.admitted e);
               misfits = λ e c misfit. rw (free_kind step taken e) at (kept_misfits small step.header c x misfit);
-              chosen = chosen_same step.header step.component x (masked_content n x) (surely_shown small step.header k x);
+              chosen = chosen_same step.header step.component x (masked_content n x)
+                  (surely_shown small step.header k x);
             };
             rest_len = size ∙ ap (λ (o : Option (List ℕ)). tail_len step o) rest;
             opened = kept ∙ sym none;

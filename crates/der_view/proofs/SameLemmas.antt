@@ -114,7 +114,9 @@ module _ (loose small : Bool) (most depth : ℕ) (header : Header) (holds : Stru
   unfolding opened_in
   shut_alike k x is at size = grind (arith, are.unseen x size, inside_len small holds header k x is)
 
-  both_alike : (k : Content) → inside_content holds k ≡ true → opened_in (λ v x. is_followed most depth v x) loose header k a
+  -- both are rows, or neither is
+  both_alike : (k : Content) → inside_content holds k ≡ true
+      → opened_in (λ v x. is_followed most depth v x) loose header k a
       ≡ opened_in (λ v x. is_followed most depth v x) loose header k b
   unfolding opened_in
   both_alike k is =
@@ -139,7 +141,6 @@ module _ (loose small : Bool) (most depth : ℕ) (header : Header) where
   abbrev opened : Component → List ℕ → Option Structure
   opened c x = opened_in (λ u y. is_followed most depth u y) loose header c.2 x
 
-  -- both are rows, or neither is
   pub closed_alike : (head : List ℕ) (c : Component) (others : List Component) (follows : Bool) (a b s t : List ℕ)
       → opened_of loose most depth (step_as header head c others follows a s) ≡ None
       → opened_of loose most depth (step_as header head c others follows b t) ≡ None

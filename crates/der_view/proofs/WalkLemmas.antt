@@ -1,6 +1,6 @@
 -- The rows of a level, one element at a time.
-use Rattle.std.proofs.Common.{◌≡◌, ◌<◌, ◌+◌, ℕ, zero, suc, List, [], ◌∷◌, ◌++◌, refl, arith, Bool, true, Some, Option, None}
-use Rattle.std.proofs.Common.{append-nil, drop, take, length, length-drop, ◌-◌}
+use Rattle.std.proofs.Common.{◌≡◌, ◌<◌, ◌+◌, ℕ, zero, suc, List, [], ◌∷◌, ◌++◌, refl, arith, Bool, true, Some, Option}
+use Rattle.std.proofs.Common.{None, append-nil, drop, take, length, length-drop, ◌-◌}
 use Rattle.std.proofs.lemmas.List.{take_all}
 use Rattle.der_view.specs.Grammar.{Component, components}
 use Rattle.der_view.specs.Pictures.{level_rest, level_rows, told}
@@ -62,16 +62,19 @@ module _ {how : How} {most few : ℕ} {place : Place} {level : Level} {step : St
   pub level_last : IsNext how most few place level step None
       → (level_rows how most place level ≡ told level.is_trial (step_rows how few place level.components.now step))
       × (level_rest how.loose most place.depth level ≡ None)
-  level_last next =
-      (rw (next.fewer, next.goes, next.is, next.after, append-nil (step_rows how few place level.components.now step))
-      refl, rw (next.fewer, next.goes, next.is, next.after) refl)
+  level_last next = (
+    rw (next.fewer, next.goes, next.is, next.after, append-nil (step_rows how few place level.components.now step))
+        refl,
+    rw (next.fewer, next.goes, next.is, next.after) refl,
+  )
 
   -- and those after it
   pub level_more : (rest : List ℕ) → IsNext how most few place level step (Some rest)
       → (level_rows how most place level ≡ told level.is_trial (step_rows how few place level.components.now step)
       ++ told level.is_trial (rows_of how few level.is_open (after place level.bytes.now rest) step.others rest))
       × (level_rest how.loose most place.depth level ≡ rest_of how.loose few place.depth level.is_open step.others rest)
-  level_more rest next =
-      (rw (next.fewer, next.goes, next.is, next.after)
-      (told-append level.is_trial (step_rows how few place level.components.now step) _),
-      rw (next.fewer, next.goes, next.is, next.after) refl)
+  level_more rest next = (
+    rw (next.fewer, next.goes, next.is, next.after)
+        (told-append level.is_trial (step_rows how few place level.components.now step) _),
+    rw (next.fewer, next.goes, next.is, next.after) refl,
+  )
