@@ -6,12 +6,5 @@ pub returns : goal.returns
 unfolding plan_of nearest known_as is_tree
 returns c =
     let best = c.best.ensures in
-    rw (
-      c.way_of.ensures,
-      c.form_of-form.ensures,
-      c.is_cut.ensures,
-      c.shape_as-is_tree.ensures.whole,
-      best.whole,
-      best.parts,
-      best.form,
-    ) refl
+    rw (c.way_of.ensures, c.form_of-form.ensures, c.is_cut.ensures, c.shape_as-is_tree.ensures.whole)
+    (rw (best.whole, best.parts, best.form) refl)
