@@ -1,12 +1,10 @@
 -- The numbers of an identifier that are below 2^128.
-use Rattle.std.proofs.Common.{◌≡◌, ℕ, ◌+◌, ◌*◌, ◌%◌, ◌^◌, ◌<◌, ◌≤◌, List, [], ◌∷◌, length, Bool, true, false}
-use Rattle.std.proofs.Common.{refl, sym, ◌∙◌, ap, arith, inl, inr, ◌⊎◌}
-use Rattle.std.specs.Prelude.{cond, nat_lt, not, ◌==◌, ◌&&◌, take_while}
+use Rattle.std.proofs.Common.{◌≡◌, ℕ, ◌+◌, ◌*◌, ◌%◌, ◌^◌, ◌<◌, ◌≤◌, List, [], ◌∷◌, length, Bool, true, false, refl, sym}
+use Rattle.std.proofs.Common.{◌∙◌, ap, arith, inl, inr, ◌⊎◌, nat_lt, not, ◌==◌, ◌&&◌, take_while, None, Some}
 use Rattle.std.specs.List.{list_all}
 use Rattle.std.proofs.lemmas.Bool.{and_parts, cases_lt}
 use Rattle.std.proofs.lemmas.Bool.Decides.{nat_tests}
 use Rattle.std.proofs.lemmas.List.Sums.{take_while-cons}
-use Rattle.std.specs.Prelude.{None, Some}
 use Rattle.sec1_der.specs.Identifiers.{arcs_of_numbers, numbers_after}
 use Rattle.der_types.specs.ObjectIdentifiers.{are_subidentifiers, is_object_identifier}
 use Rattle.der_view.specs.Values.{arcs_by, is_u128, numbers_below}

@@ -1,11 +1,9 @@
 -- The lines of a text, and the blocks of PEM in them.
-use Rattle.std.proofs.Common.{◌≡◌, ℕ, ◌+◌, ◌<◌, true, false, List, [], ◌∷◌, ◌++◌, length, take, drop, refl}
-use Rattle.std.proofs.Common.{ap, ◌∙◌, arith, append_assoc, append-nil, length-drop, Option, Some, None, inl, inr}
-use Rattle.std.proofs.Math.Seq.{take-add}
+use Rattle.std.proofs.Common.{◌≡◌, ℕ, ◌+◌, ◌<◌, true, false, List, [], ◌∷◌, ◌++◌, length, take, drop, refl, ap, ◌∙◌}
+use Rattle.std.proofs.Common.{arith, append_assoc, append-nil, length-drop, Option, Some, None, inl, inr, take-add}
+use Rattle.std.proofs.Common.{drop-drop, option_map}
 use Rattle.std.proofs.lemmas.Bool.{cases_Bool}
-use Rattle.std.proofs.lemmas.List.{drop-drop}
 use Rattle.std.specs.List.{concat, onto_first}
-use Rattle.std.specs.Option.{option_map}
 use Rattle.der_view.specs.Blocks.{BlockView, CutView, blocks_in, cut_at, ends_line, is_of, label_of, line_len, lines_of}
 use Rattle.der_view.specs.Blocks.{past, with_block}
 use Rattle.der_view.specs.declared.text.pem.LineKind.{LineKind}

@@ -1,6 +1,6 @@
 -- The first character in UTF-16.
-use Rattle.std.proofs.Common.{◌≡◌, ℕ, ◌%◌, ◌<◌, ◌≤◌, List, [], ◌∷◌, length, true, false, refl, arith}
-use Rattle.std.specs.Prelude.{Bool, nat_lt, nat_le, ◌==◌, ◌&&◌, Option, Some, None}
+use Rattle.std.proofs.Common.{◌≡◌, ℕ, ◌%◌, ◌<◌, ◌≤◌, List, [], ◌∷◌, length, true, false, refl, arith, Bool, nat_lt}
+use Rattle.std.proofs.Common.{nat_le, ◌==◌, ◌&&◌, Option, Some, None}
 use Rattle.std.specs.Char.Utf16.{is_high_surrogate, utf16_chars}
 use Rattle.std.proofs.lemmas.Bool.Decides.{nat_tests}
 use Rattle.der_view.specs.Characters.{is_utf16, units_of, utf16_codes}

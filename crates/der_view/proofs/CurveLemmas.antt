@@ -1,7 +1,6 @@
 -- The curve of an identifier.
-use Rattle.std.proofs.Common.{◌≡◌, ℕ, List, [], ◌∷◌, Bool, false, true, refl, sym}
-use Rattle.std.specs.Prelude.{IfSome, find, Option, Some, None}
-use Rattle.std.specs.Str.{bytes_eq}
+use Rattle.std.proofs.Common.{◌≡◌, ℕ, List, [], ◌∷◌, Bool, false, true, refl, sym, IfSome, find, Option, Some, None}
+use Rattle.std.proofs.Common.{bytes_eq}
 use Rattle.std.proofs.lemmas.Slice.Eq.{bytes_eq-Decides}
 use Rattle.curves.proofs.CurveLemmas.{find-has_content, has_content}
 use Rattle.curves.specs.Curves.{curve_content}

@@ -1,10 +1,8 @@
 -- What is written of sources, in pieces.
-use Rattle.std.proofs.Common.{◌≡◌, ℕ, Bool, true, false, List, [], ◌∷◌, ◌++◌, Option, Some, None}
-use Rattle.std.proofs.Common.{Result, Ok, Err, OnOk, refl, sym, ap, ◌∙◌}
+use Rattle.std.proofs.Common.{◌≡◌, ℕ, Bool, true, false, List, [], ◌∷◌, ◌++◌, Option, Some, None, Result, Ok, Err, OnOk}
+use Rattle.std.proofs.Common.{refl, sym, ap, ◌∙◌, length-take-le, option_map}
 use Rattle.std.proofs.Math.Bool.{or-false}
-use Rattle.std.proofs.lemmas.List.{length-take-le}
 use Rattle.std.proofs.lemmas.Option.{same_Some}
-use Rattle.std.specs.Option.{option_map}
 use Rattle.der_view.specs.Drawings.{bytes_text, content_key, content_text, found_of, has_key, heading_line, heading_of}
 use Rattle.der_view.specs.Drawings.{is_key_of, known_of, picture_text, some_key, source_key, source_text}
 use Rattle.der_view.specs.Lines.{kept, shown}

@@ -1,10 +1,9 @@
 -- The kinds at the places: each is that by which the reader refuses the bytes. And a step of the walk.
 use Rattle.std.proofs.Common.{◌≡◌, ◌≢◌, ◌==◌, ◌||◌, ◌∷◌, [], ◌++◌, ℕ, zero, suc, ◌+◌, ◌-◌, ◌≤◌, List, Bool, true, false}
-use Rattle.std.proofs.Common.{length, refl, subst, if◌then◌else◌, Option, Some, None, Result, Ok, Err, arith}
-use Rattle.std.proofs.lemmas.Bool.{eqb-true}
+use Rattle.std.proofs.Common.{length, refl, subst, if◌then◌else◌, Option, Some, None, Result, Ok, Err, arith, eqb-true}
+use Rattle.std.proofs.Common.{length-drop, option_and_then}
 use Rattle.std.proofs.lemmas.Bool.Decides.{nat_tests}
-use Rattle.std.proofs.lemmas.List.{length-drop}
-use Rattle.std.specs.Option.{option_and_then, option_or}
+use Rattle.std.specs.Option.{option_or}
 use Rattle.der_types.proofs.KindLaws.{other_says, set_says}
 use Rattle.der_types.specs.AnyElements.{all_tags, among_all, any_element_fault}
 use Rattle.der_types.specs.Choices.{optional_part_fault}

@@ -1,12 +1,10 @@
 -- A key is an ECPrivateKey, whole, and each of its elements follows.
 use Rattle.std.proofs.Common.{le-ltb, take, ◌≡◌, ℕ, zero, suc, ◌+◌, ◌<◌, ◌≤◌, Bool, true, false, List, [], ◌∷◌, ◌++◌}
 use Rattle.std.proofs.Common.{length, refl, ap, ◌∙◌, Option, Some, None, arith, eq-eqb, append_assoc, drop, ◌==◌}
+use Rattle.std.proofs.Common.{drop_at, length-append, take_at, option_map, is_none, nat_lt}
 use Rattle.std.proofs.Math.Bool.{and-false}
 use Rattle.std.proofs.lemmas.Bool.Decides.{nat_tests}
-use Rattle.std.proofs.lemmas.List.{drop_at, length-append, take_at}
 use Rattle.std.proofs.Math.Seq.{drop-length, take-length}
-use Rattle.std.specs.Option.{option_map}
-use Rattle.std.specs.Prelude.{is_none, nat_lt}
 use Rattle.sec1.specs.Keys.{IsKeyOf, Key, field}
 use Rattle.sec1_der.specs.Elements.{element, header, length_octets}
 use Rattle.sec1_der.specs.Identifiers.{content_of}

@@ -3,15 +3,14 @@ use Rattle.std.proofs.lemmas.Bool.{not-true, cases_Bool, and_parts, cases_lt}
 use Rattle.std.proofs.Common.{eqb-true, le-ltb, subst, ap₂, ◌||◌, ◌≡◌, ◌==◌, ◌&&◌, ℕ, zero, suc, ◌+◌, ◌<◌, ◌≤◌, Bool}
 use Rattle.std.proofs.Common.{true, false, List, [], ◌∷◌, ◌++◌, length, take, drop, refl, sym, ap, ◌∙◌, Option, Some}
 use Rattle.std.proofs.Common.{None, arith, length-append, append_assoc, ⊎_elim, append-nil, inl, ◌-◌, ◌/◌, ◌%◌}
-use Rattle.std.proofs.Common.{if◌then◌else◌, Result, Ok, not, lt-ltb, ne_eqb}
-use Rattle.std.proofs.lemmas.List.{nil_from_length, drop_all, drop_at, length-take, take_all, take_at}
+use Rattle.std.proofs.Common.{if◌then◌else◌, Result, Ok, not, lt-ltb, ne_eqb, drop_at, length-take, take_all, take_at}
+use Rattle.std.proofs.Common.{is_some, is_none, nat_lt}
+use Rattle.std.proofs.lemmas.List.{nil_from_length, drop_all}
 use Rattle.der_view.specs.Rows.{after_inside, inside_bytes, inside_loose, is_open, opened_of, rest_after, rest_of}
 use Rattle.der_view.specs.Rows.{rest_with, Step, admits, component_by, end_at, fitting, has_tag, is_followed, opened_in}
 use Rattle.der_view.specs.Rows.{others_after, step_at, step_by, step_made, step_with, element_at, element_by}
 use Rattle.std.proofs.Math.Bool.{and-false, or-true}
 use Rattle.std.proofs.lemmas.Bool.Decides.{nat_tests}
-use Rattle.std.specs.Option.{is_some}
-use Rattle.std.specs.Prelude.{is_none, nat_lt}
 use Rattle.sec1_der.specs.Elements.{element, header, length_octets, number_of}
 use Rattle.der_view.specs.Contents.{is_small, is_whole, shown_len}
 use Rattle.der_view.specs.Grammar.{Component, cases, components}

@@ -1,15 +1,14 @@
 -- Masks of inputs with private keys.
 use Rattle.std.proofs.Common.{◌∙◌, ◌≡◌, ◌&&◌, ◌||◌, ◌-◌, ◌+◌, ℕ, zero, suc, ◌<◌, ◌≤◌, Bool, true, false, List, [], ◌∷◌}
 use Rattle.std.proofs.Common.{◌++◌, length, take, refl, sym, ap, Option, Some, None, arith, nat_le, ⊎_elim, subst, inl}
-use Rattle.std.proofs.Common.{append-nil}
+use Rattle.std.proofs.Common.{append-nil, length-append, length-take, append_assoc, drop_at, if◌then◌else◌, replicate}
+use Rattle.std.proofs.Common.{option_map}
 use Rattle.der_view.proofs.KeyLemmas.{inside, inside_alike, Alike, AreShut, Contents, IsShut, SameNext, Unfollowed}
 use Rattle.der_view.proofs.KeyLemmas.{blind, cut_unfollowed, everything, goes, key_alike, lens, masks_alike, next_alike}
 use Rattle.der_view.proofs.KeyLemmas.{passed, cut_alike, is_shut, tags_of, undrawn_same}
 use Rattle.std.proofs.lemmas.Bool.{and_parts, cases_lt}
 use Rattle.std.proofs.lemmas.Bool.Decides.{nat_tests}
-use Rattle.std.proofs.lemmas.List.{length-append, length-take, append_assoc, drop_at}
 use Rattle.std.proofs.Math.Seq.{take-append-add}
-use Rattle.std.specs.Prelude.{if◌then◌else◌, replicate}
 use Rattle.sec1_der.specs.Elements.{header, element}
 use Rattle.der_view.specs.Contents.{has_type, is_number, is_small}
 use Rattle.der_view.specs.Grammar.{Component, Form, cases, components}
@@ -25,7 +24,6 @@ use Rattle.der_view.specs.declared.grammar.forms.TheConstants as tables
 use Rattle.der_view.specs.declared.plan.Plan.{Plan}
 use Rattle.der_view.specs.declared.plan.Way.{Way}
 use Rattle.der_view.specs.declared.plan.Way.TheVariants as ways
-use Rattle.std.specs.Option.{option_map}
 use Rattle.sec1.specs.Keys.{IsKeyOf, Key, field}
 use Rattle.sec1_der.specs.Identifiers.{content_of}
 use Rattle.sec1_der.specs.Trees.{forest, joined, leaf}

@@ -1,13 +1,12 @@
 -- What a line keeps of a text that is appended in pieces, and how it is shown.
 use Rattle.std.proofs.Common.{◌≡◌, ℕ, ◌+◌, ◌≤◌, ◌<◌, List, [], ◌∷◌, ◌++◌, length, take, inl, inr, true, false}
 use Rattle.std.proofs.Common.{append-nil, refl, sym, ◌∙◌, ap, arith, append_assoc, length-append, if◌then◌else◌}
+use Rattle.std.proofs.Common.{take_all, take-take, length-take-le, length-take, codes, map, nat_le, replicate}
 use Rattle.std.proofs.Math.Seq.{take-append-add}
 use Rattle.std.proofs.lemmas.Bool.{cases_lt}
 use Rattle.std.proofs.lemmas.Bool.Decides.{nat_tests}
 use Rattle.std.proofs.lemmas.Grind.{flat_map-append, take_at_read}
-use Rattle.std.proofs.lemmas.List.{same_lists, places, take_all, take-append-le, take-take, length-take-le}
-use Rattle.std.proofs.lemmas.List.{length-map, length-take, map-append}
-use Rattle.std.specs.Prelude.{codes, map, nat_le, replicate}
+use Rattle.std.proofs.lemmas.List.{same_lists, places, take-append-le, length-map, map-append}
 use Rattle.std.specs.List.{list_all}
 use Rattle.der_view.specs.Lines.{IsLine, is_printable, kept, printed, shown}
 

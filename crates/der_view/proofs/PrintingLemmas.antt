@@ -4,8 +4,8 @@ use Rattle.std.proofs.lemmas.Grind.{flat_map-append}
 use Rattle.der_view.proofs.LineLemmas.{shown-line}
 use Rattle.der_view.specs.Facts.{RowView, row_of}
 use Rattle.der_view.specs.Lines.{kept, shown}
-use Rattle.der_view.specs.Printing.{AreLines, HasWritten, content_lines, line_text, lines_text}
-use Rattle.der_view.specs.Printing.{rows_lines, rows_text, told_lines}
+use Rattle.der_view.specs.Printing.{AreLines, HasWritten, content_lines, line_text, lines_text, rows_lines, rows_text}
+use Rattle.der_view.specs.Printing.{told_lines}
 use Rattle.der_view.specs.RowLines.{hex_words, spaces}
 use Rattle.der_view.specs.Rows.{Row}
 use Rattle.der_view.specs.declared.plan.Plan.{Plan}

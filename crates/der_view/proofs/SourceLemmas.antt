@@ -1,17 +1,14 @@
 -- The texts of an input's sources are together no longer than what may be text in it.
 use Rattle.std.proofs.Common.{◌≡◌, ℕ, ◌+◌, ◌-◌, ◌≤◌, ◌==◌, ◌&&◌, ◌||◌, not, Bool, true, false, cond, List, [], ◌∷◌}
 use Rattle.std.proofs.Common.{length, take, drop, Option, Some, None, refl, sym, ap, ◌∙◌, arith, codes, inl, inr, min}
+use Rattle.std.proofs.Common.{length-append, length-drop, length-take, take-take, option_map, bytes_eq}
 use Rattle.std.proofs.lemmas.Bool.{cases_Bool}
-use Rattle.std.proofs.lemmas.List.{length-append, length-drop, length-take, take-take}
 use Rattle.std.proofs.lemmas.Slice.Eq.{bytes_eq-Decides}
 use Rattle.std.specs.Char.{is_ascii_whitespace}
 use Rattle.std.specs.List.{concat, list_any, suffix_len}
-use Rattle.std.specs.Option.{option_map}
-use Rattle.std.specs.Str.{bytes_eq}
 use Rattle.der_view.proofs.BlockLemmas.{concat-lines_of}
-use Rattle.der_view.specs.Blocks.{BlockView, CutView, block_by, blocks_in, cut_at, is_of}
-use Rattle.der_view.specs.Blocks.{is_of_private_key, label_of, lines_of, past, split_by, split_headers, trimmed}
-use Rattle.der_view.specs.Blocks.{with_block}
+use Rattle.der_view.specs.Blocks.{BlockView, CutView, block_by, blocks_in, cut_at, is_of, is_of_private_key, label_of}
+use Rattle.der_view.specs.Blocks.{lines_of, past, split_by, split_headers, trimmed, with_block}
 use Rattle.der_view.specs.Sources.{Der, SourceView, Text, blocks_or, has_begin, is_der, is_text, or_source, pem_sources}
 use Rattle.der_view.specs.Sources.{source_len, sources_by, sources_of, text_len, total_len, wide_note, without_mark}
 use Rattle.der_view.specs.declared.sentences.Sentence.{Sentence}

@@ -1,17 +1,13 @@
 -- A number in two's complement, and the number in its bits.
-use Rattle.std.specs.Prelude.{◌≡◌, ℕ, ◌+◌, ◌-◌, ◌*◌, ◌/◌, ◌%◌, ◌^◌, ◌<◌, ◌≤◌, List, [], ◌∷◌, length}
-use Rattle.std.specs.Prelude.{pos, negsuc, slice_index, nat_lt, false, Some}
 use Rattle.std.proofs.lemmas.Bool.Decides.{nat_tests}
 use Rattle.der_view.specs.Values.{integer_text}
-use Rattle.std.proofs.Common.{arith, ap, refl}
-use Rattle.std.specs.Fmt.{decimal}
-use Rattle.std.proofs.Math.Nat.{pow-suc}
+use Rattle.std.proofs.Common.{arith, ap, refl, ◌≡◌, ℕ, ◌+◌, ◌-◌, ◌*◌, ◌/◌, ◌%◌, ◌^◌, ◌<◌, ◌≤◌, List, [], ◌∷◌, length}
+use Rattle.std.proofs.Common.{pos, negsuc, slice_index, nat_lt, false, Some, decimal, pow-suc, length-take}
 use Rattle.std.proofs.lemmas.Int.{ints}
 use Rattle.std.specs.Int.Digits.{number_from_digits_after}
 use Rattle.sec1_der.specs.Elements.{number_of}
 use Rattle.der_types.specs.Integers.{signed_number}
 use Rattle.der_types.proofs.TimeLaws.{utc_digits}
-use Rattle.std.proofs.lemmas.List.{length-take}
 
 number_after-push : (m n : ℕ) (bytes : List ℕ)
     → number_from_digits_after 256 (m + n) bytes

@@ -1,5 +1,4 @@
-use Rattle.std.proofs.Common.{◌≡◌, ℕ, false, List, Some, refl, sym}
-use Rattle.std.specs.Option.{is_none}
+use Rattle.std.proofs.Common.{◌≡◌, ℕ, false, List, Some, refl, sym, is_none}
 use Rattle.sec1.specs.Errors.{IsAsn1Where}
 use Rattle.sec1.specs.KeyFaults.{key_fault}
 use Rattle.sec1.specs.declared.error.Error.{Error}

@@ -1,5 +1,4 @@
-use Rattle.std.proofs.Common.{◌≡◌, ◌<◌, ◌∷◌, [], ℕ, List, Some, arith, length, refl, sym}
-use Rattle.std.proofs.lemmas.List.{length-take-le}
+use Rattle.std.proofs.Common.{◌≡◌, ◌<◌, ◌∷◌, [], ℕ, List, Some, arith, length, refl, sym, length-take-le}
 use Rattle.der_view.specs.Parts.{Bytes, hex_by, text_content}
 use Rattle.der_view.specs.declared.text.Encoding.TheVariants as encodings
 use Rattle.der_view.specs.declared.text.almost.Flaw.TheVariants as flaws

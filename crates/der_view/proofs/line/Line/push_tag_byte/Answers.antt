@@ -1,5 +1,4 @@
-use Rattle.std.proofs.Common.{◌≡◌, arith, false}
-use Rattle.std.specs.Prelude.{◌==◌}
+use Rattle.std.proofs.Common.{◌≡◌, arith, false, ◌==◌}
 use Rattle.std.proofs.lemmas.Bool.Decides.{nat_tests}
 use Rattle.der_view.proofs.LineLemmas.{kept-four}
 use Rattle.der_view.proofs.line.Line.push_tag_byte.Goals as goal

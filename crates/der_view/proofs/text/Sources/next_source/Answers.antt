@@ -1,5 +1,5 @@
-use Rattle.std.proofs.Common.{◌≡◌, [], ◌∷◌, List, Option, Some, None, refl, sym, ◌∙◌}
-use Rattle.std.specs.Option.{MatchOption, option_map}
+use Rattle.std.proofs.Common.{◌≡◌, [], ◌∷◌, List, Option, Some, None, refl, sym, ◌∙◌, option_map}
+use Rattle.std.specs.Option.{MatchOption}
 use Rattle.der_view.specs.Sources.{SourceView, or_source, source_view}
 use Rattle.der_view.specs.declared.text.Source.{Source}
 use Rattle.der_view.proofs.text.Sources.next_source.Goals as goal

@@ -1,5 +1,4 @@
-use Rattle.std.proofs.Common.{◌≡◌, ◌≤◌, ◌-◌, drop, length, take}
-use Rattle.std.specs.Option.{option_map}
+use Rattle.std.proofs.Common.{◌≡◌, ◌≤◌, ◌-◌, drop, length, take, option_map}
 use Rattle.der_view.specs.Blocks.{cut_at, lines_of, past}
 use Rattle.der_view.proofs.text.pem.cut.Given as goal
 

@@ -1,6 +1,5 @@
-use Rattle.std.proofs.Common.{arith, sym, ◌∙◌, ap}
+use Rattle.std.proofs.Common.{arith, sym, ◌∙◌, ap, Some}
 use Rattle.std.proofs.lemmas.Grind.{common_steps}
-use Rattle.std.specs.Prelude.{Some}
 use Rattle.der_view.proofs.ArcLemmas.{arcs_by-fit, arcs_by-none}
 use Rattle.der_view.specs.Values.{numbers_below}
 use Rattle.der_view.proofs.values.arcs.Arcs.new.Goals as goal
