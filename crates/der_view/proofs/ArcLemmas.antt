@@ -10,9 +10,9 @@ use Rattle.der_types.specs.ObjectIdentifiers.{are_subidentifiers, is_object_iden
 use Rattle.der_view.specs.Values.{arcs_by, is_u128, numbers_below}
 
 -- no number that is greater already fits
-pub numbers_below-high : (high : ℕ) (bytes : List ℕ) → 2 ^ 121 ≤ high → numbers_below high bytes ≡ []
-numbers_below-high high [] large = refl
-numbers_below-high high (b ∷ bytes) large =
+pub below_high : (high : ℕ) (bytes : List ℕ) → 2 ^ 121 ≤ high → numbers_below high bytes ≡ []
+below_high high [] large = refl
+below_high high (b ∷ bytes) large =
     let n : ℕ = high * 128 + b % 128 in
     elim (cases_lt b 128) [
       | inl low ↦
@@ -21,7 +21,7 @@ numbers_below-high high (b ∷ bytes) large =
           rw last (take_while-cons is_u128 n (numbers_after 0 bytes) ∙ rw over refl)
       | inr more ↦
           let last : nat_lt b 128 ≡ false = grind (arith, nat_tests) in
-          rw last (numbers_below-high n bytes (omega arith))
+          rw last (below_high n bytes (omega arith))
     ]
 
 first-over : (n : ℕ) (numbers : List ℕ) → take_while is_u128 (n ∷ numbers) ≡ [] → is_u128 n ≡ false
@@ -55,27 +55,27 @@ all-fit (n ∷ numbers) all =
     take_while-cons is_u128 n numbers ∙ rw (parts.0, all-fit numbers parts.1) refl
 
 -- valid bytes that have no number that fits: there are none, or not all of their numbers fit
-pub fit-end : (bytes : List ℕ) → are_subidentifiers true bytes ≡ true → numbers_below 0 bytes ≡ []
+pub fit_end : (bytes : List ℕ) → are_subidentifiers true bytes ≡ true → numbers_below 0 bytes ≡ []
     → (length bytes == 0) ≡ list_all is_u128 (numbers_after 0 bytes)
-fit-end [] valid none = refl
-fit-end (b ∷ bytes) valid none =
+fit_end [] valid none = refl
+fit_end (b ∷ bytes) valid none =
     let full : (length (b ∷ bytes) == 0) ≡ false = grind (arith, nat_tests) in
     full ∙ sym (not-fit true 0 (b ∷ bytes) valid (inr (omega arith)) none)
 
 -- none of an identifier
-pub arcs_by-none : (content : List ℕ) → is_object_identifier content ≡ true → numbers_below 0 content ≡ []
+pub arcs_none : (content : List ℕ) → is_object_identifier content ≡ true → numbers_below 0 content ≡ []
     → arcs_by content ≡ None
-arcs_by-none content valid none =
+arcs_none content valid none =
     let parts = and_parts (nat_lt 0 (length content)) (are_subidentifiers true content) valid in
     let full : (length content == 0) ≡ false = grind (arith, nat_tests) in
-    rw (valid, ← fit-end content parts.1 none, full) refl
+    rw (valid, ← fit_end content parts.1 none, full) refl
 
 -- the arcs of an identifier
-pub arcs_by-fit : (content further : List ℕ) (number : ℕ) → is_object_identifier content ≡ true
+pub arcs_fit : (content further : List ℕ) (number : ℕ) → is_object_identifier content ≡ true
     → list_all is_u128 (numbers_after 0 content) ≡ true
     → numbers_below 0 content ≡ number ∷ numbers_below 0 further
     → arcs_by content ≡ Some (arcs_of_numbers (number ∷ numbers_below 0 further))
-arcs_by-fit content further number valid all first =
+arcs_fit content further number valid all first =
     let numbers : numbers_after 0 content ≡ number ∷ numbers_below 0 further =
     sym (all-fit (numbers_after 0 content) all) ∙ first in
     rw (valid, all) (ap (λ n. Some (arcs_of_numbers n)) numbers)

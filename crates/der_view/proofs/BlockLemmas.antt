@@ -23,10 +23,10 @@ concat-onto_first byte [] = refl
 concat-onto_first byte (line ∷ lines) = refl
 
 -- the lines are the text
-pub concat-lines_of : (text : List ℕ) → concat (lines_of text) ≡ text
-concat-lines_of [] = refl
-concat-lines_of (byte ∷ text) =
-    let rest = ap (λ (t : List ℕ). byte ∷ t) (concat-lines_of text) in
+pub concat_lines : (text : List ℕ) → concat (lines_of text) ≡ text
+concat_lines [] = refl
+concat_lines (byte ∷ text) =
+    let rest = ap (λ (t : List ℕ). byte ∷ t) (concat_lines text) in
     elim (cases_Bool (ends_line byte text)) [
       | inl ends ↦ rw ends rest
       | inr goes ↦ rw goes (concat-onto_first byte (lines_of text) ∙ rest)

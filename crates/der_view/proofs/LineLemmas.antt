@@ -57,9 +57,9 @@ take-spaces : (m n : ℕ) (old : List ℕ) (y : ℕ)
 take-spaces m n old y = same_lists _ _ (grind (arith, places)) (λ k d h. grind (arith, places))
 
 -- no more than 101 equal characters count
-pub kept-spaces : (old : List ℕ) (n y : ℕ) → kept (old ++ take n (replicate 101 y)) ≡ kept (old ++ replicate n y)
+pub kept_spaces : (old : List ℕ) (n y : ℕ) → kept (old ++ take n (replicate 101 y)) ≡ kept (old ++ replicate n y)
 unfolding kept
-kept-spaces old n y = take-spaces 101 n old y
+kept_spaces old n y = take-spaces 101 n old y
 
 all_print : (text : List ℕ) → list_all is_printable (map printed text) ≡ true
 all_print [] = refl
@@ -102,19 +102,8 @@ shown-long text many =
 -- how a line is shown
 pub ruleset shows = (kept_pieces, map-append, take_at_read, shown-short, shown-long, shown-line)
 
--- two to seven pieces
-pub kept-next : (old a b x y : List ℕ) → x ≡ kept (old ++ a) → y ≡ kept (x ++ b) → y ≡ kept (old ++ (a ++ b))
-kept-next old a b x y ex ey = grind (arith, kept_pieces)
-
-pub kept-three : (old a b c x y z : List ℕ) → x ≡ kept (old ++ a) → y ≡ kept (x ++ b) → z ≡ kept (y ++ c)
-    → z ≡ kept (old ++ (a ++ (b ++ c)))
-kept-three old a b c x y z ex ey ez = grind (arith, kept_pieces)
-
-pub kept-four : (old a b c d x y z w : List ℕ) → x ≡ kept (old ++ a) → y ≡ kept (x ++ b) → z ≡ kept (y ++ c)
-    → w ≡ kept (z ++ d) → w ≡ kept (old ++ (a ++ (b ++ (c ++ d))))
-kept-four old a b c d x y z w ex ey ez ew = grind (arith, kept_pieces)
-
-pub kept-seven : (old a b c d e f g t u v w x y z : List ℕ) → old ≡ [] → t ≡ kept (old ++ a) → u ≡ kept (t ++ b)
+-- seven pieces of a new line
+pub kept_seven : (old a b c d e f g t u v w x y z : List ℕ) → old ≡ [] → t ≡ kept (old ++ a) → u ≡ kept (t ++ b)
     → v ≡ kept (u ++ c) → w ≡ kept (v ++ d) → x ≡ kept (w ++ e) → y ≡ kept (x ++ f) → z ≡ kept (y ++ g)
     → z ≡ kept (a ++ (b ++ (c ++ (d ++ (e ++ (f ++ g))))))
-kept-seven old a b c d e f g t u v w x y z none et eu ev ew ex ey ez = grind (arith, kept_pieces)
+kept_seven old a b c d e f g t u v w x y z none et eu ev ew ex ey ez = grind (arith, kept_pieces)

@@ -6,7 +6,7 @@ use Rattle.std.proofs.lemmas.Bool.{cases_Bool}
 use Rattle.std.proofs.lemmas.Slice.Eq.{bytes_eq-Decides}
 use Rattle.std.specs.Char.{is_ascii_whitespace}
 use Rattle.std.specs.List.{concat, list_any, suffix_len}
-use Rattle.der_view.proofs.BlockLemmas.{concat-lines_of}
+use Rattle.der_view.proofs.BlockLemmas.{concat_lines}
 use Rattle.der_view.specs.Blocks.{BlockView, CutView, block_by, blocks_in, cut_at, is_of, is_of_private_key, label_of}
 use Rattle.der_view.specs.Blocks.{lines_of, past, split_by, split_headers, trimmed, with_block}
 use Rattle.der_view.specs.Sources.{Der, SourceView, Text, blocks_or, has_begin, is_der, is_text, or_source, pem_sources}
@@ -44,7 +44,7 @@ cut_len kind (line ∷ lines) = elim (cases_Bool (is_of kind line)) [
 body_within : (inside : List ℕ) → length (split_headers inside).1 ≤ length inside
 body_within inside =
     by (cut_at kinds.Empty (lines_of inside))
-    (omega (arith, cut_len kinds.Empty (lines_of inside), ap length (concat-lines_of inside)))
+    (omega (arith, cut_len kinds.Empty (lines_of inside), ap length (concat_lines inside)))
   where
     by : (cut : Option CutView) → rest_len cut ≤ length inside → length (split_by inside cut).1 ≤ length inside
     by None fits = omega arith
@@ -119,7 +119,7 @@ blocks_or_within most other text fits one =
       of_blocks reads blocks,
       bodies_within 0 (lines_of text),
       cut_len kinds.Boundary (lines_of text),
-      ap length (concat-lines_of text),
+      ap length (concat_lines text),
     ))
   where
     by : (sources : List SourceView) → total_len sources ≤ most → total_len (or_source (Some other) sources) ≤ most + 2

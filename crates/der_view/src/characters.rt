@@ -100,6 +100,7 @@ pub(crate) fn are_characters(number: u32, bytes: &[u8]) -> bool
 }
 
 /// Returns `true` if the bytes are characters in UTF-16.
+#[tactic(auto, using(crate::proofs::CharacterLemmas::utf16_valid))]
 fn are_utf16(bytes: &[u8]) -> bool
     ensures { result ≡ is_utf16 bytes.now }
 {
@@ -111,6 +112,7 @@ fn are_utf16(bytes: &[u8]) -> bool
 }
 
 /// Returns the first character of a text and the text after it.
+#[tactic(auto, using(std::proofs::StrCases::chars_of_empty, std::proofs::lemmas::Str::chars_past_char))]
 fn split_utf8(text: &str) -> Option<(u32, &str)>
     ensures { MatchOption result (chars text.now ≡ [])
         (λ split. chars text.now ≡ split.0 ∷ chars split.1.now) }

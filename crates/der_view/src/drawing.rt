@@ -113,6 +113,7 @@ fn write_misfit<W: Output>(
 }
 
 /// Writes a line with this text, if it isn't empty.
+#[tactic(auto, using(crate::proofs::LineLemmas::kept_pieces))]
 pub(crate) fn write_text<W: Output>(writer: &mut W, front: &str, text: &str) -> Result<(), W::Error>
     ensures { OnOk result (W.appends writer.old writer.new (line_if front.now text.now)) }
 {
@@ -207,6 +208,7 @@ fn text_line(text: &[u8], found: &Found) -> Option<Line>
 }
 
 /// Returns the line above the picture of a text in the encoding with this name.
+#[tactic(auto, using(crate::proofs::LineLemmas::kept_pieces))]
 fn plain_line(encoding: &str, found: &Found) -> Line
     ensures { result ≡ kept (encoding.now ++ found_text found.now) }
 {
@@ -217,6 +219,7 @@ fn plain_line(encoding: &str, found: &Found) -> Line
 
 impl Line {
     /// Appends what the heading of a source says is in it.
+    #[tactic(auto, using(crate::proofs::LineLemmas::kept_pieces))]
     fn push_found(&mut self, found: &Found)
         ensures { self.new ≡ kept (self.old ++ found_text found.now) }
     {

@@ -97,6 +97,7 @@ impl Line {
     }
 
     /// Appends as many spaces.
+    #[tactic(auto, using(crate::proofs::LineLemmas::kept_spaces))]
     pub fn push_spaces(&mut self, count: usize)
         ensures { self.new ≡ kept (self.old ++ replicate count 0x20) }
     {

@@ -50,6 +50,7 @@ pub fn write_rows<W: Output>(
 }
 
 /// Each line of rows is printable ASCII of at most 100 characters, whatever the rows are.
+#[tactic(auto, using(crate::proofs::PrintingLemmas::rows_are))]
 pub fn lines_are_short(plan: Plan, all: bool)
     ensures { (rows : List Row) → AreLines (rows_lines plan all rows) }
 {
@@ -167,14 +168,17 @@ impl<W: Output> Rows for Printer<'_, W> {
         × (IsPlain a.style → HasWritten W.appends a.error a.writer.now b.error b.writer.now
         (rows_text a.style.plan a.style.all rows)) };
 
+    #[tactic(auto, using(crate::proofs::LineLemmas::kept_pieces))]
     fn element(&mut self, place: Place, element: &Element) {
         self.tell(&RowFacts::of_element(self.style.plan, self.style.all, place, element));
     }
 
+    #[tactic(auto, using(crate::proofs::LineLemmas::kept_pieces))]
     fn end_of_contents(&mut self, place: Place) {
         self.tell(&RowFacts::of_end(place));
     }
 
+    #[tactic(auto, using(crate::proofs::LineLemmas::kept_pieces))]
     fn not_drawn(&mut self, place: Place, expected: &[Component], len: usize, content: &[u8]) {
         self.tell(&RowFacts::of_not_drawn(self.style.plan, place, expected, len, content));
     }

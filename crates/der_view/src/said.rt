@@ -121,6 +121,7 @@ pub(crate) fn line_of(text: &str) -> Line
 impl Line {
     /// Appends the name of an identifier, its dotted text or neither between two texts; each has a
     /// text of its own before it.
+    #[tactic(auto, using(crate::proofs::LineLemmas::kept_pieces))]
     fn push_identified(
         &mut self,
         front: &str,
@@ -315,6 +316,7 @@ fn is_plain_form(form: u8) -> bool
 }
 
 /// Returns the line on a length that isn't that of a curve.
+#[tactic(auto, using(crate::proofs::LineLemmas::kept_pieces))]
 pub(crate) fn misfit_line(front: &str, content: &[u8], misfit: (usize, usize)) -> Line
     ensures { result ≡ kept (misfit_words front.now (unwrap_or (name_by content.now) []) misfit) }
 {

@@ -141,6 +141,7 @@ fn show_note<W: Output>(writer: &mut W, note: Sentence, options: &Options) -> Re
 }
 
 /// Writes what stands above the picture of a source, in which `found` was found.
+#[tactic(auto, using(crate::proofs::DrawingLemmas::heading_is, crate::proofs::DrawingLemmas::no_heading))]
 fn write_head<W: Output>(
     writer: &mut W,
     source: &Source,

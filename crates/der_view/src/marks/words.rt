@@ -1,4 +1,6 @@
 //! The words of marks.
+#![tactic(auto, using(crate::proofs::LineLemmas::kept_pieces))]
+
 ghost use Rattle.std.specs.Prelude.{◌≡◌, ◌++◌};
 ghost use Rattle.der_view.specs.Lines.{kept};
 ghost use Rattle.der_view.specs.Marks.{byte_word, bytes_text, component_text, expected_text};

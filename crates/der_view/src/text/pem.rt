@@ -51,6 +51,7 @@ struct CutLine<'a> {
 }
 
 /// Returns the first line of this kind in a text; `None` if there is none.
+#[tactic(auto, using(crate::proofs::BlockLemmas::cut_here, crate::proofs::BlockLemmas::cut_later))]
 fn cut(text: &[u8], kind: LineKind) -> Option<CutLine<'_>>
     ensures value { option_map cut_view result ≡ cut_at kind (lines_of text.now) }
     ensures takes { IfSome result (λ cut. is_of kind cut.line.now ≡ true) }
@@ -113,6 +114,7 @@ pub struct Block<'a> {
 
 /// Returns the first block of a text before which are so many lines, and the lines after the
 /// block's first one; `None` if there is none.
+#[tactic(auto, using(crate::proofs::BlockLemmas::blocks_cut, crate::proofs::BlockLemmas::concat_lines))]
 pub(super) fn next_block(text: &[u8], number: usize) -> Option<(Block<'_>, &[u8])>
     requires { number + length text.now < 2 ^ 64 }
     ensures value { MatchOption result (blocks_in number (lines_of text.now) ≡ [])
@@ -183,6 +185,7 @@ fn is_end(line: &[u8], label: &[u8]) -> bool
 
 /// Returns the headers of a block with these lines (RFC 1421 section 4.4), and the lines after
 /// them. The headers are the lines up to an empty one, if one of them has a colon.
+#[tactic(auto, using(crate::proofs::BlockLemmas::concat_lines))]
 fn split_headers(inside: &[u8]) -> (&[u8], &[u8])
     ensures headers { result.0.now ≡ (split_headers inside.now).0 }
     ensures body { result.1.now ≡ (split_headers inside.now).1 }

@@ -23,6 +23,7 @@ pub struct Arcs<'a> {
 impl<'a> Arcs<'a> {
     /// Returns the arcs of the identifier with this content; `None` if it is no identifier's, or a
     /// subidentifier isn't below 2^128.
+    #[tactic(auto, using(crate::proofs::ArcLemmas::arcs_none))]
     pub fn new(content: &'a [u8]) -> Option<Arcs<'a>>
         ensures { option_map arcs_view result ≡ arcs_by content.now }
     {
@@ -69,6 +70,7 @@ fn first_arcs(number: u128) -> (u128, u128)
 }
 
 /// Returns `true` if each subidentifier in these bytes is below 2^128.
+#[tactic(auto, using(crate::proofs::ArcLemmas::fit_end))]
 fn fit(bytes: &[u8]) -> bool
     requires { are_subidentifiers true bytes.now ≡ true }
     ensures { result ≡ list_all is_u128 (numbers_after 0 bytes.now) }
@@ -82,6 +84,7 @@ fn fit(bytes: &[u8]) -> bool
 
 /// Returns the first subidentifier (X.690 section 8.19.2) and the bytes after it; `high` is the
 /// number in its digits before these. `None` if none ends in these bytes, or it isn't below 2^128.
+#[tactic(auto, using(crate::proofs::ArcLemmas::below_high))]
 fn split_subidentifier(high: u128, bytes: &[u8]) -> Option<(u128, &[u8])>
     ensures next { MatchOption result (numbers_below high bytes.now ≡ [])
         (λ split. numbers_below high bytes.now ≡ split.0 ∷ numbers_below 0 split.1.now) }

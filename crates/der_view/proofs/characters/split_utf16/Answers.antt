@@ -1,16 +1,16 @@
 use Rattle.std.proofs.Common.{[], ◌∷◌, arith, refl, sym}
 use Rattle.std.specs.Char.Utf16.{utf16_chars}
 use Rattle.der_view.specs.Characters.{units_of}
-use Rattle.der_view.proofs.CharacterLemmas.{utf16-few, utf16-none, utf16-unit}
+use Rattle.der_view.proofs.CharacterLemmas.{utf16_few, utf16_none, utf16_unit}
 use Rattle.der_view.proofs.characters.split_utf16.Goals as goal
 
 pub returns-in_err-high : goal.returns-in_err-high
-returns-in_err-high c = rw c.from_residual.ensures (utf16-few c.args.bytes.now c.in_err-high.ensures.count)
+returns-in_err-high c = rw c.from_residual.ensures (utf16_few c.args.bytes.now c.in_err-high.ensures.count)
 
 pub returns-then-not-is_surrogate : goal.returns-then-not-is_surrogate
 returns-then-not-is_surrogate c = (
   rw c.in_ok-high.ensures.units
-      (utf16-unit c.in_ok-high.high (units_of c.in_ok-high.after.now) (sym c.if-not-is_surrogate.ensures)),
+      (utf16_unit c.in_ok-high.high (units_of c.in_ok-high.after.now) (sym c.if-not-is_surrogate.ensures)),
   omega (arith, c.in_ok-high.ensures.count),
   omega (arith, c.in_ok-high.ensures.count),
 )
@@ -20,7 +20,7 @@ pub returns-in_err-low : goal.returns-in_err-low
 unfolding utf16_chars
 returns-in_err-low c =
     rw c.from_residual-in_err-low.ensures
-    (utf16-none c.args.bytes.now []
+    (utf16_none c.args.bytes.now []
     (rw (c.in_ok-high.ensures.units, c.in_err-low.ensures.units, sym c.if-not-is_surrogate.ensures) refl)
     (omega (arith, c.in_ok-high.ensures.count)))
 
@@ -37,7 +37,7 @@ returns-then-are_pair c = (
 pub returns-else-are_pair : goal.returns-else-are_pair
 unfolding utf16_chars
 returns-else-are_pair c =
-    utf16-none c.args.bytes.now (utf16_chars (c.in_ok-low.low ∷ units_of c.in_ok-low.rest.now))
+    utf16_none c.args.bytes.now (utf16_chars (c.in_ok-low.low ∷ units_of c.in_ok-low.rest.now))
     (rw (
       c.in_ok-high.ensures.units,
       c.in_ok-low.ensures.units,
