@@ -72,8 +72,7 @@ arcs_none content valid none =
 
 -- the arcs of an identifier
 pub arcs_fit : (content further : List ℕ) (number : ℕ) → is_object_identifier content ≡ true
-    → list_all is_u128 (numbers_after 0 content) ≡ true
-    → numbers_below 0 content ≡ number ∷ numbers_below 0 further
+    → list_all is_u128 (numbers_after 0 content) ≡ true → numbers_below 0 content ≡ number ∷ numbers_below 0 further
     → arcs_by content ≡ Some (arcs_of_numbers (number ∷ numbers_below 0 further))
 arcs_fit content further number valid all first =
     let numbers : numbers_after 0 content ≡ number ∷ numbers_below 0 further =

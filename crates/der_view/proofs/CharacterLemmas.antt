@@ -2,12 +2,9 @@
 use Rattle.std.proofs.Common.{◌≡◌, ℕ, ◌%◌, ◌<◌, ◌≤◌, List, [], ◌∷◌, length, true, false, refl, arith, Bool, nat_lt}
 use Rattle.std.proofs.Common.{nat_le, ◌==◌, ◌&&◌, Option, Some, None}
 use Rattle.std.specs.Char.Utf16.{is_high_surrogate, utf16_chars}
+use Rattle.std.proofs.Math.Bool.{and-false}
 use Rattle.std.proofs.lemmas.Bool.Decides.{nat_tests}
 use Rattle.der_view.specs.Characters.{is_utf16, units_of, utf16_codes}
-
-and-false : (b : Bool) → b && false ≡ false
-and-false true = refl
-and-false false = refl
 
 -- a unit that is no surrogate
 pub utf16_unit : (u : ℕ) (us : List ℕ) → nat_le 0xD800 u && nat_lt u 0xE000 ≡ false
@@ -29,8 +26,7 @@ utf16_none bytes tail e some =
     let full : (length bytes == 0) ≡ false = grind (arith, nat_tests) in
     (rw e refl, rw (e, full) (and-false (length bytes % 2 == 0)))
 
-pub utf16_few : (bytes : List ℕ) → length bytes < 2
-    → (utf16_codes bytes ≡ []) × (is_utf16 bytes ≡ (length bytes == 0))
+pub utf16_few : (bytes : List ℕ) → length bytes < 2 → (utf16_codes bytes ≡ []) × (is_utf16 bytes ≡ (length bytes == 0))
 unfolding utf16_chars
 utf16_few [] few = (refl, refl)
 utf16_few (b ∷ []) few = (refl, refl)

@@ -17,8 +17,7 @@ use Rattle.der_view.specs.declared.text.Found.{Found}
 use Rattle.der_view.specs.declared.text.Found.TheVariants as founds
 
 -- what is found is that of its content
-found_is : (found : Found) (memory : List ℕ) (content : Content) → IsIn memory found content
-    → found_of content ≡ found
+found_is : (found : Found) (memory : List ℕ) (content : Content) → IsIn memory found content → found_of content ≡ found
 found_is founds.Itself memory content (is, fits) = ap (λ c. found_of c) (sym is)
 found_is (founds.Decoded encoding flaw len) memory content (is, fits) =
     ap (λ c. found_of c) (sym is)
@@ -27,8 +26,7 @@ found_is (founds.Said note) memory content (is, fits) = ap (λ c. found_of c) (s
 
 -- the picture of a source in which this is found
 pub drawn_is : (all : Bool) (source : SourceView) (found : Found) (memory : List ℕ)
-    → IsIn memory found (content_of source)
-    → (source_text all source
+    → IsIn memory found (content_of source) → (source_text all source
     ≡ heading_line (heading_of source found) ++ content_text all source (found_with found memory))
     × (source_key source ≡ content_key source (found_with found memory))
 drawn_is all source found memory is = (
@@ -49,8 +47,7 @@ no_heading None is = refl
 no_heading (Some heading) is = cc
 
 -- a key is drawn as DER
-key_drawn : (a : List ℕ) → (plan_of a).is_whole ≡ true
-    → picture_text false a ≡ bytes_text false readings.Der a ++ []
+key_drawn : (a : List ℕ) → (plan_of a).is_whole ≡ true → picture_text false a ≡ bytes_text false readings.Der a ++ []
 unfolding picture_text sources_of is_der
 key_drawn a whole = rw whole refl
 
@@ -90,8 +87,7 @@ der_whole a whole = rw whole refl
 pub bytes_found : (a : List ℕ) → (is_key_of a ≡ true → (plan_of a).is_whole ≡ true)
     → is_text a ≡ false → has_begin a ≡ false → has_key a ≡ is_key_of a
 unfolding has_key sources_of
-bytes_found a known text begin =
-    rw (text, begin) (found_by (is_der a) (wide_note a) a (λ is. der_whole a (known is)))
+bytes_found a known text begin = rw (text, begin) (found_by (is_der a) (wide_note a) a (λ is. der_whole a (known is)))
 
 -- what is written in pieces, the last of which may fail
 module _ {W : Type 0} (Writes : W → W → List ℕ → Type 0)

@@ -101,10 +101,8 @@ first_says f says end bytes = by (f bytes) (says.kind bytes)
 
 -- an element, if its tag fits, and fewer bytes after it
 element_says : (p : ℕ → Place) (q : Place) (f : ℕ → Fault) (g : Fault) (end tag : ℕ) (bytes : List ℕ) (has : Bool)
-    → Places (p tag) (f tag)
-    → ((rest : List ℕ) → length rest ≤ length bytes → IsPlaceOf (g rest) end (q end rest))
-    → IsPlaceOf (if has then parts_fault (f tag) g (content_at bytes) else Some (Some Tag)) end
-    (parts_place p q end
+    → Places (p tag) (f tag) → ((rest : List ℕ) → length rest ≤ length bytes → IsPlaceOf (g rest) end (q end rest))
+    → IsPlaceOf (if has then parts_fault (f tag) g (content_at bytes) else Some (Some Tag)) end (parts_place p q end
     (if has then parts_at tag end bytes (content_at bytes) else Err (before end (tag ∷ bytes) Tag)))
 element_says p q f g end tag bytes false one two = here end (tag ∷ bytes) Tag
 element_says p q f g end tag bytes true one two = by (content_at bytes) shorter
@@ -148,10 +146,9 @@ ends levels = record { says = λ most end bytes few. by end bytes }
     by end (byte ∷ bytes) = here end (byte ∷ bytes) TrailingData
 
 -- it is known by no bytes and by some
-row : {levels : ℕ} {c : Component} {others : List Component} {f : Fault}
-    → ((most end : ℕ) → length others ≤ most
-    → IsPlaceOf (f []) end (rest_place levels (suc most) (c ∷ others) end []))
-    → ((most end tag : ℕ) (bytes : List ℕ) → length others + suc (length bytes) ≤ most
+row : {levels : ℕ} {c : Component} {others : List Component} {f : Fault} → ((most end : ℕ) → length others ≤ most
+    → IsPlaceOf (f []) end (rest_place levels (suc most) (c ∷ others) end [])) → ((most end tag : ℕ) (bytes : List ℕ)
+    → length others + suc (length bytes) ≤ most
     → IsPlaceOf (f (tag ∷ bytes)) end (rest_place levels (suc most) (c ∷ others) end (tag ∷ bytes)))
     → RowSays levels (c ∷ others) f
 row {levels} {c} {others} {f} none some = record { says = by }
@@ -283,8 +280,7 @@ identifier = leaf (test_says _)
 
 algorithm : (l : ℕ) → RuleSays (suc l) rules.Algorithm (λ _. records.algorithm_fault)
 unfolding any_element_fault
-algorithm l tag =
-    only l table.ALGORITHM _ (needed (λ _. refl) identifier (optional_any (λ _. anything 0) (ends l)))
+algorithm l tag = only l table.ALGORITHM _ (needed (λ _. refl) identifier (optional_any (λ _. anything 0) (ends l)))
 
 public_key : (l : ℕ) → RuleSays (suc (suc l)) rules.PublicKeyInfo (λ _. records.public_key_fault)
 public_key l tag =

@@ -133,12 +133,10 @@ leaf_follows depth some tag content rest c others deep low is shut next =
 
 -- a field in which is one element
 field_follows : (some : List Component) (tag inner : ℕ) (content rest : List ℕ) (g : ℕ) (p : Presence) (s : Structure)
-    (name : Name) (c : Component) (others : List Component) → is_low tag ≡ true → is_low inner ≡ true
-    → ((x : List ℕ)
+    (name : Name) (c : Component) (others : List Component) → is_low tag ≡ true → is_low inner ≡ true → ((x : List ℕ)
     → component_at tag (der_header tag (length x)) x some ≡ Some ((g, p, contents.Inside s, name), others))
-    → component_at inner (der_header inner (length content)) content (components s) ≡ Some (c, [])
-    → ((whole : Structure → List ℕ → Bool)
-    → opened_in whole false (der_header inner (length content)) c.2 content ≡ None)
+    → component_at inner (der_header inner (length content)) content (components s) ≡ Some (c, []) → ((whole : Structure
+    → List ℕ → Bool) → opened_in whole false (der_header inner (length content)) c.2 content ≡ None)
     → Follows 1 others rest → Follows 1 some (element tag (element inner content ++ []) ++ rest)
 field_follows some tag inner content rest g p s name c others low deep is known shut next =
     let x : List ℕ = element inner content ++ [] in
@@ -185,12 +183,8 @@ unfolding best better
 best_none bytes first [] none whole = refl
 best_none bytes first (second ∷ others) none whole =
     let fewer : nat_lt (left_as second.0 bytes) (left_as first.0 bytes) ≡ false = grind (arith, nat_tests) in
-    rw (
-      fewer,
-      whole,
-      and-false (whole_as false second.0 bytes),
-      and-false (left_as second.0 bytes == left_as first.0 bytes),
-    ) (best_none bytes first others none whole)
+    rw (fewer, whole, and-false (whole_as false second.0 bytes),
+    and-false (left_as second.0 bytes == left_as first.0 bytes)) (best_none bytes first others none whole)
 
 -- ---- a key's bytes
 

@@ -85,8 +85,7 @@ element_in_der cut tag n x low few =
     ap (λ (r : Result Header ElementFault). element_by cut (header tag n ++ x) r) (head_in_der tag n x low few)
     ∙ rw tail (by_len (nat_lt (length x) n) cut refl)
   where
-    by_len : (test c : Bool) → nat_lt (length x) n ≡ test
-        → ◌≡◌ {A = Option (Header × List ℕ × List ℕ)}
+    by_len : (test c : Bool) → nat_lt (length x) n ≡ test → ◌≡◌ {A = Option (Header × List ℕ × List ℕ)}
         (if test then (if c then Some (der_header tag n, x, []) else None)
         else Some (der_header tag n, take n x, drop n x))
         (if test && not c then None else Some (der_header tag n, take n x, drop n x))
@@ -100,9 +99,7 @@ element_in_der cut tag n x low few =
 
 -- of bytes that begin with a header
 pub next_is : (cut misfit : Bool) (some : List Component) (tag n : ℕ) (x : List ℕ) → is_low tag ≡ true
-    → n ≤ max_content_len
-    → step_by cut misfit some (header tag n ++ x)
-    ≡ step_with misfit tag some (header tag n ++ x)
+    → n ≤ max_content_len → step_by cut misfit some (header tag n ++ x) ≡ step_with misfit tag some (header tag n ++ x)
     (if nat_lt (length x) n && not cut then None else Some (der_header tag n, take n x, drop n x))
 unfolding step_by
 next_is cut misfit some tag n x low few =
@@ -184,8 +181,7 @@ masks_alike loose small most depth p q f g are same =
     (rw (rest_is loose most depth p are.definite, rest_is loose most depth q are.also, ← alike.goes)
     (by_test (is_some (rest_after loose most depth p)))))
   where
-    by_test : (test : Bool)
-        → next_mask p.rest f (if test then Some p.rest else None)
+    by_test : (test : Bool) → next_mask p.rest f (if test then Some p.rest else None)
         ≡ next_mask q.rest g (if test then Some q.rest else None)
     by_test true = same
     by_test false = undrawn_same p.rest q.rest are.len
@@ -233,8 +229,7 @@ next_alike cut misfit some fine holds tag n x y e is =
     of z test o = step_made test (header tag n ++ z) (h, take n z, drop n z) o
 
     steps : (c : Component) (others : List Component) (follows : Bool) → fine c.2 ≡ true
-        → Same others (drop n x) others (drop n y)
-        → AreSteps (step_as h hx c others follows (take n x) (drop n x))
+        → Same others (drop n x) others (drop n y) → AreSteps (step_as h hx c others follows (take n x) (drop n x))
         (step_as h (take h.len (header tag n ++ y)) c others follows (take n y) (drop n y))
     steps c others follows known rest = record {
       head = heads;
@@ -293,8 +288,7 @@ element_alike fine holds tag n x y e = record {
     size = lens (header tag n) x y e.len
 
     level : (loose small : Bool) (most depth : ℕ) (cs : List Component) (o k : Option Step)
-        → step_at loose depth cs (header tag n ++ x) ≡ o → step_at loose depth cs (header tag n ++ y) ≡ k
-        → SameNext o k
+        → step_at loose depth cs (header tag n ++ x) ≡ o → step_at loose depth cs (header tag n ++ y) ≡ k → SameNext o k
         → masked loose small (suc most) depth false cs (header tag n ++ x)
         ≡ masked loose small (suc most) depth false cs (header tag n ++ y)
     level loose small most depth cs None (Some q) one two are = absurd are
@@ -307,14 +301,12 @@ element_alike fine holds tag n x y e = record {
         (masks_alike loose small most (depth + 1) p q (λ rest. masked loose small most depth false p.others rest)
         (λ rest. masked loose small most depth false q.others rest) are (are.rest loose small most depth))
 
-    by_most : (cs : List Component) → goes tag fine holds cs ≡ true
-        → Same cs (header tag n ++ x) cs (header tag n ++ y)
+    by_most : (cs : List Component) → goes tag fine holds cs ≡ true → Same cs (header tag n ++ x) cs (header tag n ++ y)
     by_most cs is loose small zero depth = undrawn_same (header tag n ++ x) (header tag n ++ y) size
     by_most cs is loose small (suc most) depth =
         level loose small most depth cs _ _ refl refl (by_depth (nat_lt depth 64))
       where
-        by_depth : (test : Bool)
-            → SameNext (if test then step_by loose loose cs (header tag n ++ x) else None)
+        by_depth : (test : Bool) → SameNext (if test then step_by loose loose cs (header tag n ++ x) else None)
             (if test then step_by loose loose cs (header tag n ++ y) else None)
         by_depth true = next_alike loose loose cs fine holds tag n x y e is
         by_depth false = tt
@@ -475,11 +467,8 @@ key_alike (level ∷ levels) before tag n x y (are, low, few, inner) (shut, more
     let alike = key_alike levels before tag n x y inner more differ in
     parts_alike level.before (goes level.tag (inside holds) everything) (element level.tag a ++ level.after)
     (element level.tag b ++ level.after) are
-    (rw (
-      append_assoc (header level.tag k) a level.after,
-      append_assoc (header level.tag (length b)) b level.after,
-      ← alike.len,
-    )
+    (rw (append_assoc (header level.tag k) a level.after, append_assoc (header level.tag (length b)) b level.after,
+    ← alike.len)
     (element_alike (inside holds) everything level.tag k (a ++ level.after) (b ++ level.after)
     (inside_alike holds level.tag k a b level.after low (record { few = few; there = inl refl }) (shut k) alike)))
 
@@ -499,8 +488,7 @@ cut_unfollowed tag k x low few short (suc most) depth s =
     goes_on false (components s) tag (length_octets k ++ x) in
     let none : step_by false false (components s) (header tag k ++ x) ≡ None =
     next_is false false (components s) tag k x low few ∙ rw long refl in
-    let stop : step_at false depth (components s) (header tag k ++ x) ≡ None =
-    rw none (same (nat_lt depth 64)) in
+    let stop : step_at false depth (components s) (header tag k ++ x) ≡ None = rw none (same (nat_lt depth 64)) in
     rw (end, stop) refl
   where
     same : (test : Bool) → ◌≡◌ {A = Option Step} (if test then None else None) None

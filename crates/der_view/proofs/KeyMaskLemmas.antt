@@ -157,8 +157,7 @@ cut_in n tag k x y is same =
     rw (← size, take-append-add front y left) (cut_unfollowed tag k (take left y) is.low is.few few)
 
 pub cut_unseen : (m n tag k : ℕ) (before : List Part) (x y rest : List ℕ) → IsCutIn n tag k x → AreParts before
-    → forms_hold (passed (goes 0x04 is_shut everything) (tags_of before))
-    (tables.FIRST ∷ tables.OTHERS) ≡ true
+    → forms_hold (passed (goes 0x04 is_shut everything) (tags_of before)) (tables.FIRST ∷ tables.OTHERS) ≡ true
     → AreUnseen m [] before 0x04 n (header tag k ++ x) (header tag k ++ y) rest
 unfolding key_bytes
 cut_unseen m n tag k before x y rest cut are known differ is =
@@ -248,13 +247,8 @@ keys_alike k l a b p q parameters public_key size few =
     lens (element 0x02 (1 ∷ [])) (header 0x04 n ++ y) (header 0x04 n ++ x) (lens (header 0x04 n) y x (sym len)) in
     let whole = ap length p.tree.whole ∙ length-append (header 0x30 (length (inside_key k))) (inside_key k) in
     let fits : length (ec_in n x) ≤ max_content_len = omega (arith, whole, ap length (key_same k), few) in
-    let short : n ≤ max_content_len = omega (
-      arith,
-      length-append (element 0x02 (1 ∷ [])) (header 0x04 n ++ x),
-      length-append (header 0x04 n) x,
-      xs,
-      fits,
-    ) in
+    let short : n ≤ max_content_len = omega (arith, length-append (element 0x02 (1 ∷ [])) (header 0x04 n ++ x),
+    length-append (header 0x04 n) x, xs, fits) in
     let differ : DifferIn n x y = record {
       few = short;
       len = len;

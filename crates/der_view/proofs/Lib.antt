@@ -1,14 +1,12 @@
 pub mod ArcLemmas
 pub mod BlockLemmas
 pub mod CharacterLemmas
-pub mod CurveLemmas
 pub mod DrawingLemmas
 pub mod FaultLemmas
 pub mod HeaderLemmas
 pub mod KeyFormLemmas
 pub mod KeyLemmas
 pub mod KeyMaskLemmas
-pub mod LawLemmas
 pub mod LineLemmas
 pub mod MaskLemmas
 pub mod NameLemmas

@@ -17,8 +17,7 @@ kept-short text short = take_all 101 text short
 -- as much of a text is kept as there is room for
 pub kept-cut : (old text : List ℕ) (room : ℕ) → length old + room ≡ 101 → kept (old ++ text) ≡ old ++ take room text
 unfolding kept
-kept-cut old text room full =
-    ap (λ n. take n (old ++ text)) (sym full) ∙ take-append-add old text room
+kept-cut old text room full = ap (λ n. take n (old ++ text)) (sym full) ∙ take-append-add old text room
 
 pub ruleset kept_by_room = (kept-cut, length-take)
 
@@ -52,8 +51,7 @@ kept-last text short = ap kept (append-nil text) ∙ kept-short text short
 -- of the items of an iterator, until the line is full
 pub ruleset until_full = (kept-more, append_assoc, kept-full, kept-last)
 
-take-spaces : (m n : ℕ) (old : List ℕ) (y : ℕ)
-    → take m (old ++ take n (replicate m y)) ≡ take m (old ++ replicate n y)
+take-spaces : (m n : ℕ) (old : List ℕ) (y : ℕ) → take m (old ++ take n (replicate m y)) ≡ take m (old ++ replicate n y)
 take-spaces m n old y = same_lists _ _ (grind (arith, places)) (λ k d h. grind (arith, places))
 
 -- no more than 101 equal characters count
@@ -86,18 +84,13 @@ shown-short text few =
     let whole : nat_le (length text) 100 ≡ true = grind (arith, nat_tests) in
     rw whole (sym (kept-short (map printed text) (omega (arith, length-map text printed))))
 
-pub shown-long : (text : List ℕ) → 100 < length text
-    → shown text ≡ kept (map printed (take 97 text) ++ codes "...")
+pub shown-long : (text : List ℕ) → 100 < length text → shown text ≡ kept (map printed (take 97 text) ++ codes "...")
 unfolding shown
 shown-long text many =
     let cut : nat_le (length text) 100 ≡ false = grind (arith, nat_tests) in
     let front : List ℕ = map printed (take 97 text) in
-    rw cut (map-append printed (take 97 text) (codes "...") ∙ sym (kept-short (front ++ codes "...") (omega (
-      arith,
-      length-append front (codes "..."),
-      length-map (take 97 text) printed,
-      length-take-le 97 text (omega arith),
-    ))))
+    rw cut (map-append printed (take 97 text) (codes "...") ∙ sym (kept-short (front ++ codes "...") (omega (arith,
+    length-append front (codes "..."), length-map (take 97 text) printed, length-take-le 97 text (omega arith)))))
 
 -- how a line is shown
 pub ruleset shows = (kept_pieces, map-append, take_at_read, shown-short, shown-long, shown-line)

@@ -4,8 +4,7 @@ use Rattle.std.proofs.Common.{slice_index_or, if◌then◌else◌, bytes_eq}
 use Rattle.der_view.specs.Names.{names_after}
 
 -- where there is one
-pub first_row : (most : ℕ) (table front : List ℕ) → 0 < most → 3 ≤ length table
-    → names_after most table front
+pub first_row : (most : ℕ) (table front : List ℕ) → 0 < most → 3 ≤ length table → names_after most table front
     ≡ (if bytes_eq (take (slice_index_or table 0 0) (drop 3 table)) front
     then take (256 * slice_index_or table 1 0 + slice_index_or table 2 0)
     (drop (slice_index_or table 0 0) (drop 3 table))

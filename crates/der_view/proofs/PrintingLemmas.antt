@@ -10,18 +10,9 @@ use Rattle.der_view.specs.RowLines.{hex_words, spaces}
 use Rattle.der_view.specs.Rows.{Row}
 use Rattle.der_view.specs.declared.plan.Plan.{Plan}
 
--- a row was written
-pub row_written : {W E P Q T : Type 0} (appends : W → W → List ℕ → Type 0) (plan : Plan) (all : Bool) (row : Row)
-    (view : RowView) (d f : Option E) (a b : W) → view ≡ row_of plan all row → P → Q
-    → (T → HasWritten appends d a f b (lines_text (told_lines view)))
-    → P × Q × (T → HasWritten appends d a f b (rows_text plan all (row ∷ [])))
-row_written appends plan all row view d f a b is p q written =
-    (p, q, λ t. rw (append-nil (lines_text (told_lines (row_of plan all row))), ← is) (written t))
-
 -- one more line of a content was written
-pub content_written : {W : Type 0} (appends : W → W → List ℕ → Type 0)
-    (joined : (a b c : W) (s t : List ℕ) → appends a b s → appends b c t → appends a c (s ++ t))
-    (a b c : W) (bytes line : List ℕ) (count : ℕ)
+pub content_written : {W : Type 0} (appends : W → W → List ℕ → Type 0) (joined : (a b c : W) (s t : List ℕ)
+    → appends a b s → appends b c t → appends a c (s ++ t)) (a b c : W) (bytes line : List ℕ) (count : ℕ)
     → line ≡ kept (spaces 25 ++ hex_words (take 16 (drop (count * 16) bytes)))
     → appends a b (lines_text (content_lines bytes count)) → appends b c (line_text (shown line))
     → appends a c (lines_text (content_lines bytes (count + 1)))

@@ -15,6 +15,11 @@ use Rattle.der_view.specs.declared.sentences.Sentence.{Sentence}
 use Rattle.der_view.specs.declared.text.pem.LineKind.{LineKind}
 use Rattle.der_view.specs.declared.text.pem.LineKind.TheVariants as kinds
 
+pub or_front : (other : Option SourceView) (source : SourceView) (rest : List SourceView)
+    → or_source other (source ∷ rest) ≡ source ∷ rest
+or_front None source rest = refl
+or_front (Some other) source rest = refl
+
 -- the length of what is before a cut, or of all; and that of the rest
 abbrev front_len : List (List ℕ) → Option CutView → ℕ
 front_len lines None = length (concat lines)
@@ -86,11 +91,7 @@ bodies_by : (label : Option (List ℕ)) (number : ℕ) (line : List ℕ) (lines 
 bodies_by (Some label) number line lines blocks is fits =
     let (bounds, some) = first_is_boundary line label is in
     rw bounds
-    (omega (
-      arith,
-      block_within number label lines (cut_at kinds.Boundary lines),
-      cut_len kinds.Boundary lines,
-    ))
+    (omega (arith, block_within number label lines (cut_at kinds.Boundary lines), cut_len kinds.Boundary lines))
 bodies_by None number line lines blocks is fits = elim (cases_Bool (is_of kinds.Boundary line)) [
   | inl takes ↦ rw takes (omega (arith, cut_len kinds.Boundary lines))
   | inr others ↦ rw others (omega (arith, (past_len line lines (cut_at kinds.Boundary lines)).1))
@@ -114,13 +115,8 @@ blocks_or_within most other text fits one =
     let reads : Bool = list_any (λ byte. byte == 0x0A) text in
     let blocks : List BlockView = blocks_in 0 (lines_of text) in
     by (pem_sources reads blocks)
-    (omega (
-      arith,
-      of_blocks reads blocks,
-      bodies_within 0 (lines_of text),
-      cut_len kinds.Boundary (lines_of text),
-      ap length (concat_lines text),
-    ))
+    (omega (arith, of_blocks reads blocks, bodies_within 0 (lines_of text), cut_len kinds.Boundary (lines_of text),
+    ap length (concat_lines text)))
   where
     by : (sources : List SourceView) → total_len sources ≤ most → total_len (or_source (Some other) sources) ≤ most + 2
     by [] fits = omega arith

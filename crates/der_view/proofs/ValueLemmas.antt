@@ -9,8 +9,7 @@ use Rattle.sec1_der.specs.Elements.{number_of}
 use Rattle.der_types.specs.Integers.{signed_number}
 use Rattle.der_types.proofs.TimeLaws.{utc_digits}
 
-number_after-push : (m n : ℕ) (bytes : List ℕ)
-    → number_from_digits_after 256 (m + n) bytes
+number_after-push : (m n : ℕ) (bytes : List ℕ) → number_from_digits_after 256 (m + n) bytes
     ≡ m * 256 ^ length bytes + number_from_digits_after 256 n bytes
 number_after-push m n [] = omega arith
 number_after-push m n (b ∷ bytes) =

@@ -138,6 +138,7 @@ fn split_unit(bytes: &[u8]) -> Option<(u32, &[u8])>
 
 /// Returns the first character in UTF-16 (ISO/IEC 10646 section 9.4) and the bytes after it; `None`
 /// if the bytes don't begin with one.
+#[tactic(auto, using(crate::proofs::CharacterLemmas::utf16_unit, crate::proofs::CharacterLemmas::utf16_few))]
 fn split_utf16(bytes: &[u8]) -> Option<(u32, &[u8])>
     ensures { MatchOption result
         ((utf16_codes bytes.now ≡ []) × (is_utf16 bytes.now ≡ (length bytes.now == 0)))

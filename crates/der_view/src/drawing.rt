@@ -25,6 +25,7 @@ use crate::text::{Encoding, Flaw, Found, Source, armour_of};
 use sec1::BorrowedKey;
 
 /// Returns `true` if the bytes are those of a key (RFC 5915 section 3).
+#[tactic(auto, unfolding(crate::specs::Drawings::is_key_of))]
 pub fn is_key(bytes: &[u8]) -> bool
     ensures value { result ≡ is_key_of bytes.now }
     ensures key { IsKey bytes.now result }

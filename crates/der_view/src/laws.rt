@@ -20,7 +20,7 @@ use crate::grammar::{Name, Secrecy};
 
 /// The rows of bytes are those of their mask, in which each byte that isn't shown is 0, and each
 /// that isn't drawn FF; and so is whether they follow.
-#[tactic(auto, using(crate::proofs::LawLemmas::mask_laws))]
+#[tactic(auto, using(crate::proofs::PictureMaskLemmas::mask_as_len, crate::proofs::PictureMaskLemmas::rows_of_mask, crate::proofs::PictureMaskLemmas::whole_of_mask))]
 pub fn rows_are_of_mask()
     ensures rows { (loose small is_public : Bool) (root : Component) (bytes : List ℕ)
         → rows_as (record { loose = loose; small = small; given = [] }) root is_public
@@ -33,7 +33,7 @@ pub fn rows_are_of_mask()
 {}
 
 /// Bytes that have the same masks have the same plan and the same picture.
-#[tactic(auto, using(crate::proofs::LawLemmas::mask_laws))]
+#[tactic(auto, using(crate::proofs::PictureMaskLemmas::picture_alike, crate::proofs::PictureMaskLemmas::plan_alike))]
 pub fn pictures_are_of_masks()
     ensures picture { (a b : List ℕ) → AreAlike a b → picture false a ≡ picture false b }
     ensures plan { (a b : List ℕ) → AreAlike a b → plan_of a ≡ plan_of b }
@@ -101,7 +101,6 @@ pub fn keys_are_known()
 {}
 
 /// Each byte is in one row, and the rows are in order: each begins where those before it end.
-#[tactic(auto, using(crate::proofs::LawLemmas::mask_laws))]
 pub fn rows_are_bytes()
     ensures len { (all : Bool) (bytes : List ℕ) → rows_len (picture all bytes) ≡ length bytes }
     ensures order { (all : Bool) (bytes : List ℕ) → AreAt 0 (picture all bytes) }

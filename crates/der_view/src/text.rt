@@ -212,6 +212,7 @@ impl<'a> Sources<'a> {
     }
 
     /// Returns the next source; `None`, changing nothing, after the last one.
+    #[tactic(auto, using(crate::proofs::SourceLemmas::or_front))]
     pub fn next_source(&mut self) -> Option<Source<'a>>
         ensures { MatchOption result ((self.old ≡ []) × (self.new ≡ self.old))
             (λ source. self.old ≡ source_view source ∷ self.new) }

@@ -1,19 +1,8 @@
 use Rattle.std.proofs.Common.{[], ◌∷◌, arith, refl, sym}
 use Rattle.std.specs.Char.Utf16.{utf16_chars}
 use Rattle.der_view.specs.Characters.{units_of}
-use Rattle.der_view.proofs.CharacterLemmas.{utf16_few, utf16_none, utf16_unit}
+use Rattle.der_view.proofs.CharacterLemmas.{utf16_none}
 use Rattle.der_view.proofs.characters.split_utf16.Goals as goal
-
-pub returns-in_err-high : goal.returns-in_err-high
-returns-in_err-high c = rw c.from_residual.ensures (utf16_few c.args.bytes.now c.in_err-high.ensures.count)
-
-pub returns-then-not-is_surrogate : goal.returns-then-not-is_surrogate
-returns-then-not-is_surrogate c = (
-  rw c.in_ok-high.ensures.units
-      (utf16_unit c.in_ok-high.high (units_of c.in_ok-high.after.now) (sym c.if-not-is_surrogate.ensures)),
-  omega (arith, c.in_ok-high.ensures.count),
-  omega (arith, c.in_ok-high.ensures.count),
-)
 
 -- a surrogate at the end
 pub returns-in_err-low : goal.returns-in_err-low
@@ -27,22 +16,15 @@ returns-in_err-low c =
 -- two surrogates
 pub returns-then-are_pair : goal.returns-then-are_pair
 unfolding utf16_chars
-returns-then-are_pair c = (
-  rw (c.in_ok-high.ensures.units, c.in_ok-low.ensures.units, sym c.if-are_pair.ensures) refl,
-  omega (arith, c.in_ok-high.ensures.count, c.in_ok-low.ensures.count),
-  omega (arith, c.in_ok-high.ensures.count, c.in_ok-low.ensures.count),
-)
+returns-then-are_pair c = (rw (c.in_ok-high.ensures.units, c.in_ok-low.ensures.units, sym c.if-are_pair.ensures) refl,
+    omega (arith, c.in_ok-high.ensures.count, c.in_ok-low.ensures.count),
+    omega (arith, c.in_ok-high.ensures.count, c.in_ok-low.ensures.count))
 
 -- a surrogate before another unit
 pub returns-else-are_pair : goal.returns-else-are_pair
 unfolding utf16_chars
 returns-else-are_pair c =
     utf16_none c.args.bytes.now (utf16_chars (c.in_ok-low.low ∷ units_of c.in_ok-low.rest.now))
-    (rw (
-      c.in_ok-high.ensures.units,
-      c.in_ok-low.ensures.units,
-      sym c.if-are_pair.ensures,
-      sym c.if-not-is_surrogate.ensures,
-    )
-    refl)
+    (rw (c.in_ok-high.ensures.units, c.in_ok-low.ensures.units, sym c.if-are_pair.ensures,
+    sym c.if-not-is_surrogate.ensures) refl)
     (omega (arith, c.in_ok-high.ensures.count))

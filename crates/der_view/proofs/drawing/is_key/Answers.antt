@@ -14,10 +14,6 @@ refused bytes errors.PointEncoding is = absurd is
 refused bytes errors.Version is = absurd is
 refused bytes errors.Memory is = absurd is
 
-pub returns-in-Ok-clause-value : goal.returns-in-Ok-clause-value
-unfolding is_key_of
-returns-in-Ok-clause-value c = rw c.in-Ok.ensures.kind refl
-
 pub returns-in-Err-clause-value : goal.returns-in-Err-clause-value
 unfolding is_key_of
 returns-in-Err-clause-value c = sym (refused c.args.bytes.now _ c.in-Err.ensures.kind)

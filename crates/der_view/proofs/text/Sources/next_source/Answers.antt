@@ -9,18 +9,7 @@ last : (other : Option Source) (old new : List SourceView) → or_source (option
 last None old new is none = (sym is, none ∙ is)
 last (Some source) old new is none = rw none (sym is)
 
-more : (other : Option Source) (source : SourceView) (rest : List SourceView)
-    → or_source (option_map source_view other) (source ∷ rest) ≡ source ∷ rest
-more None source rest = refl
-more (Some other) source rest = refl
-
 pub returns-in-None : goal.returns-in-None
 returns-in-None c =
     last c.self.inside.other c.args.self.now _ (rw c.in-None.ensures.value at c.self.view_is)
     (rw c.in-None.ensures.value refl)
-
-pub returns-in-Some : goal.returns-in-Some
-returns-in-Some c =
-    sym c.self.view_is
-    ∙ rw (c.in-Some.ensures.value, c.is_key_of_openssl.ensures, c.is_of_private_key.ensures)
-    (more c.self.inside.other _ _)
