@@ -1,9 +1,10 @@
 -- The first character in UTF-16.
-use Rattle.std.proofs.Common.{◌≡◌, ℕ, ◌%◌, ◌<◌, ◌≤◌, List, [], ◌∷◌, length, true, false, refl, arith, Bool, nat_lt}
-use Rattle.std.proofs.Common.{nat_le, ◌==◌, ◌&&◌, Option, Some, None}
+use Rattle.std.proofs.Common.{◌≡◌, ℕ, ◌%◌, ◌<◌, ◌≤◌, List, [], ◌∷◌, length, false, refl, arith, nat_lt, nat_le, ◌==◌}
+use Rattle.std.proofs.Common.{◌&&◌, Option, Some, None}
 use Rattle.std.specs.Char.Utf16.{is_high_surrogate, utf16_chars}
 use Rattle.std.proofs.Math.Bool.{and-false}
 use Rattle.std.proofs.lemmas.Bool.Decides.{nat_tests}
+use Rattle.std.proofs.lemmas.Str.{IsUtf8-from_is_utf8}
 use Rattle.der_view.specs.Characters.{is_utf16, units_of, utf16_codes}
 
 -- a unit that is no surrogate
@@ -31,3 +32,5 @@ unfolding utf16_chars
 utf16_few [] few = (refl, refl)
 utf16_few (b ∷ []) few = (refl, refl)
 utf16_few (b ∷ c ∷ bytes) few = absurd (omega arith)
+
+pub ruleset utf8 = (IsUtf8-from_is_utf8)

@@ -91,8 +91,8 @@ either_says : (end : ℕ) (c : Bool) (p q : Option Position) (f g : Option (Opti
 either_says end true p q f g one two = one
 either_says end false p q f g one two = two
 
-first_says : (f : Fault) → SaysKinds f → Places (at_first f) f
-first_says f says end bytes = by (f bytes) (says.kind bytes)
+leaf : {f : Fault} → SaysKinds f → ℕ → Places (at_first f) f
+leaf {f} says tag end bytes = by (f bytes) (says.kind bytes)
   where
     by : (o : Option (Option ErrorKind)) → o ≢ Some None → IsPlaceOf o end (placed end bytes o)
     by None other = nowhere end
@@ -198,10 +198,9 @@ timed {levels} {others} {g} two = row (λ most end few. here end [] Truncated)
     (λ rest less. two.says most end rest (omega arith))))
   where
     one : (tag : ℕ) → Places (at_first (own_fault rules.Time tag)) (own_fault rules.Time tag)
-    one tag = first_says (own_fault rules.Time tag) (record {
-      kind = λ time. laws.either_says (tag == 0x17) _ _
-          (utc_says.kind time) (general_says.kind time);
-    })
+    one tag =
+        leaf
+        (record { kind = λ time. laws.either_says (tag == 0x17) _ _ (utc_says.kind time) (general_says.kind time) }) tag
 
     same : (tag : ℕ) (bytes : List ℕ) (utc general : Bool) → tag == 0x17 ≡ utc → tag == 0x18 ≡ general
         → records.time_fault g (tag ∷ bytes)
@@ -230,12 +229,6 @@ repeated {levels} {t} {rule} {f} same one =
 
 -- ---- contents
 
-leaf : {f : Fault} → SaysKinds f → ℕ → Places (at_first f) f
-leaf {f} says tag end bytes = first_says f says end bytes
-
-anything : ℕ → Places (at_first no_fault) no_fault
-anything = leaf none_says
-
 alone : (o : Option Position) → option_or o None ≡ o
 alone None = refl
 alone (Some fault) = refl
@@ -257,7 +250,7 @@ ordered levels rule f kinds one end bytes =
     (twice (sequence_fault 0x30 f bytes) (value_unless (is_ascending bytes)))
     (or_says end end _ _ (sequence_fault 0x30 f bytes) _ (omega arith)
     ((repeated (λ _. refl) one).says (1 + length bytes) end bytes (omega arith))
-    (first_says (set_fault 0x30 f) kinds end bytes))
+    (leaf kinds 0 end bytes))
   where
     twice : (o p : Option (Option ErrorKind)) → option_or o (option_or o p) ≡ option_or o p
     twice None p = refl
@@ -273,14 +266,12 @@ point l tag end bytes =
     unused [] = here end [] Truncated
     unused (t ∷ bytes) =
         element_says (λ _. at_first whole_bits_fault) (at_first no_fault) (λ _. whole_bits_fault) no_fault end t bytes
-        (t == 0x03) (first_says whole_bits_fault whole_says) (λ rest few. nowhere end)
-
-identifier : ℕ → Places (at_first records.identifier_fault) records.identifier_fault
-identifier = leaf (test_says _)
+        (t == 0x03) (leaf whole_says 0) (λ rest few. nowhere end)
 
 algorithm : (l : ℕ) → RuleSays (suc l) rules.Algorithm (λ _. records.algorithm_fault)
 unfolding any_element_fault
-algorithm l tag = only l table.ALGORITHM _ (needed (λ _. refl) identifier (optional_any (λ _. anything 0) (ends l)))
+algorithm l tag =
+    only l table.ALGORITHM _ (needed (λ _. refl) (leaf (test_says _)) (optional_any (leaf none_says) (ends l)))
 
 public_key : (l : ℕ) → RuleSays (suc (suc l)) rules.PublicKeyInfo (λ _. records.public_key_fault)
 public_key l tag =
@@ -290,7 +281,8 @@ public_key l tag =
 attributes : RuleSays 62 rules.KeyAttributes (λ _. set_fault 0x30 records.key_attribute_fault)
 attributes tag =
     ordered 61 rules.KeyAttribute records.key_attribute_fault (set_says _ _ key_attribute_says)
-    (λ tag. only 60 table.KEY_ATTRIBUTE _ (needed (λ _. refl) identifier (needed (λ _. refl) anything (ends 60))))
+    (λ tag. only 60 table.KEY_ATTRIBUTE _ (needed (λ _. refl) (leaf (test_says _))
+    (needed (λ _. refl) (leaf none_says) (ends 60))))
 
 container : RuleSays 63 rules.Container (λ _. container_fault)
 container tag end bytes = by (has_version_one bytes)
@@ -301,26 +293,26 @@ container tag end bytes = by (has_version_one bytes)
         (if one then Some table.ONE_ASYMMETRIC_KEY else Some table.PRIVATE_KEY_INFO)) None)
     by true =
         only 62 table.ONE_ASYMMETRIC_KEY _ (needed (λ _. refl) (leaf (byte_says 1)) (needed (λ _. refl) (algorithm 61)
-        (needed (λ _. refl) anything (optional (λ _. refl) attributes
+        (needed (λ _. refl) (leaf none_says) (optional (λ _. refl) attributes
         (optional (λ _. refl) (leaf bits_says) (ends 62)))))) end bytes
     by false =
         only 62 table.PRIVATE_KEY_INFO _ (needed (λ _. refl) (leaf (byte_says 0)) (needed (λ _. refl) (algorithm 61)
-        (needed (λ _. refl) anything (optional (λ _. refl) attributes (ends 62))))) end bytes
+        (needed (λ _. refl) (leaf none_says) (optional (λ _. refl) attributes (ends 62))))) end bytes
 
 name : RuleSays 61 rules.Name (λ _. records.names_fault)
 unfolding any_element_fault
 name tag =
     only 60 table.NAME _ (repeated (λ _. refl) (λ tag. ordered 59 rules.NameAttribute records.attribute_fault
     (set_says _ _ attribute_says)
-    (λ tag. only 58 table.NAME_ATTRIBUTE _ (needed (λ _. refl) identifier (any (λ _. anything 0) (ends 58))))))
+    (λ tag. only 58 table.NAME_ATTRIBUTE _ (needed (λ _. refl) (leaf (test_says _)) (any (leaf none_says) (ends 58))))))
 
 extensions : RuleSays 61 rules.ExtensionsField
     (λ _. element_fault 0x30 (sequence_fault 0x30 records.extension_fault) end_fault)
 extensions tag =
     only 60 table.EXTENSIONS_FIELD _ (needed (λ _. refl) (λ tag. only 59 table.EXTENSIONS _ (repeated (λ _. refl)
-    (λ tag. only 58 table.EXTENSION _ (needed (λ _. refl) identifier
+    (λ tag. only 58 table.EXTENSION _ (needed (λ _. refl) (leaf (test_says _))
     (optional (λ _. refl) (leaf (other_says (0x00 ∷ []) _ (test_says _)))
-    (needed (λ _. refl) anything (ends 58))))))) (ends 60))
+    (needed (λ _. refl) (leaf none_says) (ends 58))))))) (ends 60))
 
 tbs_certificate : RuleSays 62 rules.TbsCertificate (λ _. records.tbs_fault)
 tbs_certificate tag =
@@ -371,7 +363,7 @@ whole rule f one bytes = (needed (λ _. refl) one (ends 63)).says (1 + length by
 pub key_refused : (bytes : List ℕ) → IsPlaceOf (key_fault bytes) (length bytes) (key_place bytes)
 unfolding key_fault
 key_refused = whole rules.EcPrivateKey _
-    (λ tag. only 62 table.EC_PRIVATE_KEY _ (needed (λ _. refl) (leaf (byte_says 1)) (needed (λ _. refl) anything
+    (λ tag. only 62 table.EC_PRIVATE_KEY _ (needed (λ _. refl) (leaf (byte_says 1)) (needed (λ _. refl) (leaf none_says)
     (optional (λ _. refl) (λ tag. only 61 table.CURVE _ (needed (λ _. refl) (leaf identifier_says) (ends 61)))
     (optional (λ _. refl) (point 61) (ends 62))))))
 

@@ -131,19 +131,6 @@ leaf_follows depth some tag content rest c others deep low is shut next =
     element_follows depth some tag content rest c others deep low is
     (λ most head few less. record { rest = rw shut refl; rows = λ place here. rw shut (refl, tt) }) next
 
--- a field in which is one element
-field_follows : (some : List Component) (tag inner : ℕ) (content rest : List ℕ) (g : ℕ) (p : Presence) (s : Structure)
-    (name : Name) (c : Component) (others : List Component) → is_low tag ≡ true → is_low inner ≡ true → ((x : List ℕ)
-    → component_at tag (der_header tag (length x)) x some ≡ Some ((g, p, contents.Inside s, name), others))
-    → component_at inner (der_header inner (length content)) content (components s) ≡ Some (c, []) → ((whole : Structure
-    → List ℕ → Bool) → opened_in whole false (der_header inner (length content)) c.2 content ≡ None)
-    → Follows 1 others rest → Follows 1 some (element tag (element inner content ++ []) ++ rest)
-field_follows some tag inner content rest g p s name c others low deep is known shut next =
-    let x : List ℕ = element inner content ++ [] in
-    element_follows 1 some tag x rest (g, p, contents.Inside s, name) others refl low (is x)
-    (λ most head few less. inside_goes most 1 some (der_header tag (length x)) head g p s name others x rest refl
-    (leaf_follows 2 (components s) inner content [] c [] refl deep known shut (ended 2 [] refl) most few less)) next
-
 abbrev ec_key : List Component
 ec_key = components structures.EcPrivateKey
 
@@ -156,8 +143,11 @@ public_follows : (some : List Component) (q : Option (List ℕ)) → may_end som
 unfolding cases components admits opened_in others_after
 public_follows some None may is = ended 1 some may
 public_follows some (Some bytes) may is =
-    field_follows some 0xA1 0x03 (0 ∷ bytes) [] _ _ structures.PublicPoint _ _ [] refl refl is refl
-    (λ whole. refl) (ended 1 [] refl)
+    let x : List ℕ = element 0x03 (0 ∷ bytes) ++ [] in
+    element_follows 1 some 0xA1 x [] point_row [] refl refl (is x)
+    (λ most head few less. inside_goes most 1 some (der_header 0xA1 (length x)) head _ _ structures.PublicPoint _ [] x
+    [] refl (leaf_follows 2 (components structures.PublicPoint) 0x03 (0 ∷ bytes) [] _ [] refl refl refl (λ whole. refl)
+    (ended 2 [] refl) most few less)) (ended 1 [] refl)
 
 fields_follow : (p q : Option (List ℕ)) → Follows 1 (drop 2 ec_key) (joined (forest
     (field 0 (option_map (λ arcs. leaf 0x06 (content_of arcs)) p)
@@ -165,8 +155,11 @@ fields_follow : (p q : Option (List ℕ)) → Follows 1 (drop 2 ec_key) (joined 
 unfolding cases components admits opened_in others_after
 fields_follow None q = public_follows (drop 2 ec_key) q refl (λ x. refl)
 fields_follow (Some arcs) q =
-    field_follows (drop 2 ec_key) 0xA0 0x06 (content_of arcs) _ _ _ structures.CurveName _ _
-    (drop 3 ec_key) refl refl (λ x. refl) refl (λ whole. refl) (public_follows (drop 3 ec_key) q refl (λ x. refl))
+    let x : List ℕ = element 0x06 (content_of arcs) ++ [] in
+    element_follows 1 (drop 2 ec_key) 0xA0 x _ _ (drop 3 ec_key) refl refl refl
+    (λ most head few less. inside_goes most 1 (drop 2 ec_key) (der_header 0xA0 (length x)) head _ _ structures.CurveName
+    _ (drop 3 ec_key) x _ refl (leaf_follows 2 (components structures.CurveName) 0x06 (content_of arcs) [] _ [] refl
+    refl refl (λ whole. refl) (ended 2 [] refl) most few less)) (public_follows (drop 3 ec_key) q refl (λ x. refl))
 
 key_follows : (key : Key) → Follows 1 ec_key (inside_key key)
 unfolding cases components admits opened_in others_after

@@ -2,7 +2,7 @@
 use Rattle.std.proofs.lemmas.Bool.{not-true, cases_Bool, and_parts, cases_lt}
 use Rattle.std.proofs.Common.{eqb-true, le-ltb, subst, ap₂, ◌||◌, ◌≡◌, ◌==◌, ◌&&◌, ℕ, zero, suc, ◌+◌, ◌<◌, ◌≤◌, Bool}
 use Rattle.std.proofs.Common.{true, false, List, [], ◌∷◌, ◌++◌, length, take, drop, refl, sym, ap, ◌∙◌, Option, Some}
-use Rattle.std.proofs.Common.{None, arith, length-append, append_assoc, ⊎_elim, append-nil, inl, ◌-◌, ◌/◌, ◌%◌}
+use Rattle.std.proofs.Common.{None, arith, length-append, append_assoc, ⊎_elim, append-nil, inl, inr, ◌-◌, ◌/◌, ◌%◌}
 use Rattle.std.proofs.Common.{if◌then◌else◌, Result, Ok, not, lt-ltb, ne_eqb, drop_at, length-take, take_all, take_at}
 use Rattle.std.proofs.Common.{is_some, is_none, nat_lt}
 use Rattle.std.proofs.lemmas.List.{nil_from_length, drop_all}
@@ -83,17 +83,13 @@ element_in_der cut tag n x low few =
     let tail : drop (der_header tag n).len (header tag n ++ x) ≡ x =
     drop_at (header tag n) x (der_header tag n).len (sym (head_len tag n)) in
     ap (λ (r : Result Header ElementFault). element_by cut (header tag n ++ x) r) (head_in_der tag n x low few)
-    ∙ rw tail (by_len (nat_lt (length x) n) cut refl)
-  where
-    by_len : (test c : Bool) → nat_lt (length x) n ≡ test → ◌≡◌ {A = Option (Header × List ℕ × List ℕ)}
-        (if test then (if c then Some (der_header tag n, x, []) else None)
-        else Some (der_header tag n, take n x, drop n x))
-        (if test && not c then None else Some (der_header tag n, take n x, drop n x))
-    by_len false c short = refl
-    by_len true false short = refl
-    by_len true true short =
-        let few : length x ≤ n = grind (arith, nat_tests) in
-        rw (take_all n x few, drop_all n x few) refl
+    ∙ rw tail (elim (cases_Bool (nat_lt (length x) n)) [
+      | inl short ↦
+          let less : length x ≤ n = grind (arith, nat_tests) in
+          rw (short, take_all n x less, drop_all n x less)
+          (elim (cases_Bool cut) [ inl is ↦ rw is refl | inr whole ↦ rw whole refl ])
+      | inr long ↦ rw long refl
+    ])
 
 -- ---- the next element
 
@@ -161,15 +157,11 @@ rest_is loose most depth p definite =
     by_opened (λ s. rest_of (inside_loose p.component.2 loose) most depth (is_open p) (components s) (inside_bytes p))
     (opened_of loose most depth p)
   where
-    by_rest : (o : Option (List ℕ))
-        → after_inside false p.rest o ≡ (if is_some (after_inside false p.rest o) then Some p.rest else None)
-    by_rest None = refl
-    by_rest (Some r) = refl
-
     by_opened : (inside : Structure → Option (List ℕ)) (o : Option Structure)
         → rest_with inside o p ≡ (if is_some (rest_with inside o p) then Some p.rest else None)
     by_opened inside None = refl
-    by_opened inside (Some s) = rw definite (by_rest (inside s))
+    by_opened inside (Some s) = rw definite (elim (inside s) as (λ (o : Option (List ℕ)). after_inside false p.rest o
+        ≡ (if is_some (after_inside false p.rest o) then Some p.rest else None)) [ None ↦ refl | Some r ↦ refl ])
 
 pub masks_alike : (loose small : Bool) (most depth : ℕ) (p q : Step) (f g : List ℕ → List ℕ) → AreSteps p q
     → f p.rest ≡ g q.rest
@@ -488,12 +480,11 @@ cut_unfollowed tag k x low few short (suc most) depth s =
     goes_on false (components s) tag (length_octets k ++ x) in
     let none : step_by false false (components s) (header tag k ++ x) ≡ None =
     next_is false false (components s) tag k x low few ∙ rw long refl in
-    let stop : step_at false depth (components s) (header tag k ++ x) ≡ None = rw none (same (nat_lt depth 64)) in
+    let stop : step_at false depth (components s) (header tag k ++ x) ≡ None = elim (cases_Bool (nat_lt depth 64)) [
+      | inl less ↦ rw (less, none) refl
+      | inr more ↦ rw more refl
+    ] in
     rw (end, stop) refl
-  where
-    same : (test : Bool) → ◌≡◌ {A = Option Step} (if test then None else None) None
-    same true = refl
-    same false = refl
 
 -- whether a content is hidden, unless it follows a structure to its end
 abbrev pub is_shut : Content → Bool

@@ -64,11 +64,11 @@ all_print [] = refl
 all_print (c ∷ text) = grind (arith, nat_tests, all_print text)
 
 -- what is shown is a line
-pub shown-line : (text : List ℕ) → IsLine (shown text)
+pub shown-line : (text line : List ℕ) → line ≡ shown text → IsLine line
 unfolding shown
-shown-line text =
+shown-line text line is =
     let cut : List ℕ = if nat_le (length text) 100 then text else take 97 text ++ codes "..." in
-    record { short = omega (arith, length-map cut printed, cut-short); printable = all_print cut }
+    rw is (record { short = omega (arith, length-map cut printed, cut-short); printable = all_print cut })
   where
     cut-short : length (if nat_le (length text) 100 then text else take 97 text ++ codes "...") ≤ 100
     cut-short = elim (cases_lt 100 (length text)) [
@@ -93,7 +93,7 @@ shown-long text many =
     length-append front (codes "..."), length-map (take 97 text) printed, length-take-le 97 text (omega arith)))))
 
 -- how a line is shown
-pub ruleset shows = (kept_pieces, map-append, take_at_read, shown-short, shown-long, shown-line)
+pub ruleset shows = (kept_pieces, map-append, take_at_read, shown-short, shown-long)
 
 -- seven pieces of a new line
 pub kept_seven : (old a b c d e f g t u v w x y z : List ℕ) → old ≡ [] → t ≡ kept (old ++ a) → u ≡ kept (t ++ b)

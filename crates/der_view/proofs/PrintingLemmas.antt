@@ -1,11 +1,10 @@
 -- What is written of a row, and what lines are.
-use Rattle.std.proofs.Common.{◌≡◌, List, [], ◌∷◌, Bool, Option, ℕ, ◌+◌, ◌*◌, ◌++◌, add-one, append-nil, drop, map, take}
+use Rattle.std.proofs.Common.{◌≡◌, refl, List, [], ◌∷◌, Bool, ℕ, ◌+◌, ◌*◌, ◌++◌, add-one, append-nil, drop, map, take}
 use Rattle.std.proofs.lemmas.Grind.{flat_map-append}
 use Rattle.der_view.proofs.LineLemmas.{shown-line}
-use Rattle.der_view.specs.Facts.{RowView, row_of}
+use Rattle.der_view.specs.Facts.{row_of}
 use Rattle.der_view.specs.Lines.{kept, shown}
-use Rattle.der_view.specs.Printing.{AreLines, HasWritten, content_lines, line_text, lines_text, rows_lines, rows_text}
-use Rattle.der_view.specs.Printing.{told_lines}
+use Rattle.der_view.specs.Printing.{AreLines, content_lines, line_text, lines_text, rows_lines, told_lines}
 use Rattle.der_view.specs.RowLines.{hex_words, spaces}
 use Rattle.der_view.specs.Rows.{Row}
 use Rattle.der_view.specs.declared.plan.Plan.{Plan}
@@ -21,7 +20,7 @@ content_written appends joined a b c bytes line count is done next =
 
 shown_are : (lines rest : List (List ℕ)) → AreLines rest → AreLines (map shown lines ++ rest)
 shown_are [] rest are = are
-shown_are (line ∷ lines) rest are = (shown-line line, shown_are lines rest are)
+shown_are (line ∷ lines) rest are = (shown-line line (shown line) refl, shown_are lines rest are)
 
 -- all lines of rows
 pub rows_are : (plan : Plan) (all : Bool) (rows : List Row) → AreLines (rows_lines plan all rows)

@@ -36,6 +36,7 @@ impl<'a> Characters<'a> {
 
     /// Returns the characters of the content of a string type of X.680, given by its tag number;
     /// `None` if the type is none, or the bytes aren't characters of it.
+    #[tactic(auto, using(crate::proofs::CharacterLemmas::utf8))]
     pub(crate) fn of_string(number: u32, bytes: &'a [u8]) -> Option<Characters<'a>>
         ensures { option_map codes_of result ≡ string_codes number bytes.now }
     {

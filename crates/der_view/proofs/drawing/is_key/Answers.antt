@@ -9,10 +9,7 @@ use Rattle.der_view.proofs.drawing.is_key.Goals as goal
 refused : (bytes : List ℕ) (error : Error) → IsAsn1Where (λ kind. key_fault bytes ≡ Some (Some kind)) error
     → is_none (key_fault bytes) ≡ false
 refused bytes (errors.Asn1 cause) is = rw is refl
-refused bytes errors.Crypto is = absurd is
-refused bytes errors.PointEncoding is = absurd is
-refused bytes errors.Version is = absurd is
-refused bytes errors.Memory is = absurd is
+refused bytes _ is = absurd is
 
 pub returns-in-Err-clause-value : goal.returns-in-Err-clause-value
 unfolding is_key_of
