@@ -220,9 +220,5 @@ key_known key a is few =
         let left : left_as tables.FIRST.0 b ≡ 0 =
         ap capped (none_left (rows_as strictly tables.FIRST.0 false b) rows) in
         let near : nearest b ≡ tables.FIRST = best_none b tables.FIRST tables.OTHERS left whole in
-        record {
-          form = rw (near, whole) refl;
-          whole = rw (near, whole) refl;
-          way = rw (near, whole) refl;
-          rows = rw (near, whole) rows;
-        }
+        record { form = rw (near, whole) refl; whole = rw (near, whole) refl; way = rw (near, whole) refl;
+          rows = rw (near, whole) rows }
