@@ -36,8 +36,12 @@ concat_lines (byte ∷ text) =
 past-past : (m n : ℕ) (front text : List ℕ) (cut : Option CutView)
     → option_map (past m front) (option_map (past n text) cut) ≡ option_map (past (m + n) (front ++ text)) cut
 past-past m n front text None = refl
-past-past m n front text (Some cut) = rw (append_assoc front text cut.before) (ap (λ (k : ℕ). Some (record { count = k;
-  before = front ++ (text ++ cut.before); line = cut.line; after = cut.after })) (omega arith))
+past-past m n front text (Some cut) = rw (append_assoc front text cut.before) (ap (λ (k : ℕ). Some (record {
+  count = k;
+  before = front ++ (text ++ cut.before);
+  line = cut.line;
+  after = cut.after;
+})) (omega arith))
 
 -- the lines from a place on, of which the first one is of a kind, or isn't
 line_at : (text : List ℕ) (len : ℕ) → len < length text

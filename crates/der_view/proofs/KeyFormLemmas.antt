@@ -176,8 +176,12 @@ unfolding best better
 best_none bytes first [] none whole = refl
 best_none bytes first (second ∷ others) none whole =
     let fewer : nat_lt (left_as second.0 bytes) (left_as first.0 bytes) ≡ false = grind (arith, nat_tests) in
-    rw (fewer, whole, and-false (whole_as false second.0 bytes),
-    and-false (left_as second.0 bytes == left_as first.0 bytes)) (best_none bytes first others none whole)
+    rw (
+      fewer,
+      whole,
+      and-false (whole_as false second.0 bytes),
+      and-false (left_as second.0 bytes == left_as first.0 bytes),
+    ) (best_none bytes first others none whole)
 
 -- ---- a key's bytes
 
@@ -220,5 +224,9 @@ key_known key a is few =
         let left : left_as tables.FIRST.0 b ≡ 0 =
         ap capped (none_left (rows_as strictly tables.FIRST.0 false b) rows) in
         let near : nearest b ≡ tables.FIRST = best_none b tables.FIRST tables.OTHERS left whole in
-        record { form = rw (near, whole) refl; whole = rw (near, whole) refl; way = rw (near, whole) refl;
-          rows = rw (near, whole) rows }
+        record {
+          form = rw (near, whole) refl;
+          whole = rw (near, whole) refl;
+          way = rw (near, whole) refl;
+          rows = rw (near, whole) rows;
+        }

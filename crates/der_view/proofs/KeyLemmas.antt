@@ -57,8 +57,12 @@ length_in_der n rest few = ⊎_elim
 
 -- the header of an element of n bytes
 abbrev pub der_header : ℕ → ℕ → Header
-der_header tag n = record { tag = tag_of tag (tag % 0x20); tag_len = 1; len = 1 + length (length_octets n);
-  content_len = Some n }
+der_header tag n = record {
+  tag = tag_of tag (tag % 0x20);
+  tag_len = 1;
+  len = 1 + length (length_octets n);
+  content_len = Some n;
+}
 
 head_len : (tag n : ℕ) → (der_header tag n).len ≡ length (header tag n)
 head_len tag n = omega arith
@@ -323,8 +327,13 @@ with_content : (fine : Content → Bool) (holds : List Component → Bool) (tag 
 with_content fine holds tag n a b s t low is size content rest =
     let p = parts_of n a a s s is refl refl in
     let q = parts_of n a b s t is size rest.len in
-    record { low = low; few = is.few; len = omega (arith, length-append a s, length-append b t, size, rest.len);
-      content = rw (p.0, q.0) content; rest = rw (p.1, q.1) rest }
+    record {
+      low = low;
+      few = is.few;
+      len = omega (arith, length-append a s, length-append b t, size, rest.len);
+      content = rw (p.0, q.0) content;
+      rest = rw (p.1, q.1) rest;
+    }
 
 -- whether this holds of the components after elements with these tags, if such follow
 abbrev pub passed : (List Component → Bool) → List ℕ → List Component → Bool
@@ -380,9 +389,13 @@ content_unseen holds tag n a b size shut inner other = record {
   anything = refl;
   same = λ c is loose small most depth.
       content_alike loose small most depth (der_header tag n) c a b (λ s. holds (components s))
-      (record { definite = refl; len = size; inner = λ s l known. inner (components s) known l small most depth;
+      (record {
+        definite = refl;
+        len = size;
+        inner = λ s l known. inner (components s) known l small most depth;
         anything = λ l made. other made l small most depth;
-        unseen = λ x len made. free_len small tag n x shut made }) is;
+        unseen = λ x len made. free_len small tag n x shut made;
+      }) is;
 }
 
 -- an element of any content that is masked alike, or of as much of it as is there
@@ -402,8 +415,13 @@ private_alike : (fine : Content → Bool) (before : List Part) (tag n : ℕ) (x 
     → Alike (passed (goes tag fine everything) (tags_of before)) (key_in [] before tag n x) (key_in [] before tag n y)
 private_alike fine before tag n x y are low differ content =
     parts_alike before (goes tag fine everything) (header tag n ++ x) (header tag n ++ y) are
-    (element_alike fine everything tag n x y (record { low = low; few = differ.few; len = differ.len; content = content;
-      rest = rw differ.after (same_alike (drop n y)) }))
+    (element_alike fine everything tag n x y (record {
+      low = low;
+      few = differ.few;
+      len = differ.len;
+      content = content;
+      rest = rw differ.after (same_alike (drop n y));
+    }))
 
 abbrev is_hidden : Content → Bool
 is_hidden = inside (λ cs. false)
@@ -441,8 +459,11 @@ key_alike (level ∷ levels) before tag n x y (are, low, few, inner) (shut, more
     let alike = key_alike levels before tag n x y inner more differ in
     parts_alike level.before (goes level.tag (inside holds) everything) (element level.tag a ++ level.after)
     (element level.tag b ++ level.after) are
-    (rw (append_assoc (header level.tag k) a level.after, append_assoc (header level.tag (length b)) b level.after,
-    ← alike.len)
+    (rw (
+      append_assoc (header level.tag k) a level.after,
+      append_assoc (header level.tag (length b)) b level.after,
+      ← alike.len,
+    )
     (element_alike (inside holds) everything level.tag k (a ++ level.after) (b ++ level.after)
     (inside_alike holds level.tag k a b level.after low (record { few = few; there = inl refl }) (shut k) alike)))
 

@@ -247,8 +247,13 @@ keys_alike k l a b p q parameters public_key size few =
     lens (element 0x02 (1 ∷ [])) (header 0x04 n ++ y) (header 0x04 n ++ x) (lens (header 0x04 n) y x (sym len)) in
     let whole = ap length p.tree.whole ∙ length-append (header 0x30 (length (inside_key k))) (inside_key k) in
     let fits : length (ec_in n x) ≤ max_content_len = omega (arith, whole, ap length (key_same k), few) in
-    let short : n ≤ max_content_len = omega (arith, length-append (element 0x02 (1 ∷ [])) (header 0x04 n ++ x),
-    length-append (header 0x04 n) x, xs, fits) in
+    let short : n ≤ max_content_len = omega (
+      arith,
+      length-append (element 0x02 (1 ∷ [])) (header 0x04 n ++ x),
+      length-append (header 0x04 n) x,
+      xs,
+      fits,
+    ) in
     let differ : DifferIn n x y = record {
       few = short;
       len = len;

@@ -89,8 +89,12 @@ unfolding shown
 shown-long text many =
     let cut : nat_le (length text) 100 ≡ false = grind (arith, nat_tests) in
     let front : List ℕ = map printed (take 97 text) in
-    rw cut (map-append printed (take 97 text) (codes "...") ∙ sym (kept-short (front ++ codes "...") (omega (arith,
-    length-append front (codes "..."), length-map (take 97 text) printed, length-take-le 97 text (omega arith)))))
+    rw cut (map-append printed (take 97 text) (codes "...") ∙ sym (kept-short (front ++ codes "...") (omega (
+      arith,
+      length-append front (codes "..."),
+      length-map (take 97 text) printed,
+      length-take-le 97 text (omega arith),
+    ))))
 
 -- how a line is shown
 pub ruleset shows = (kept_pieces, map-append, take_at_read, shown-short, shown-long)

@@ -115,8 +115,13 @@ blocks_or_within most other text fits one =
     let reads : Bool = list_any (λ byte. byte == 0x0A) text in
     let blocks : List BlockView = blocks_in 0 (lines_of text) in
     by (pem_sources reads blocks)
-    (omega (arith, of_blocks reads blocks, bodies_within 0 (lines_of text), cut_len kinds.Boundary (lines_of text),
-    ap length (concat_lines text)))
+    (omega (
+      arith,
+      of_blocks reads blocks,
+      bodies_within 0 (lines_of text),
+      cut_len kinds.Boundary (lines_of text),
+      ap length (concat_lines text),
+    ))
   where
     by : (sources : List SourceView) → total_len sources ≤ most → total_len (or_source (Some other) sources) ≤ most + 2
     by [] fits = omega arith

@@ -6,9 +6,11 @@ use Rattle.der_view.proofs.SourceLemmas.{sources_within}
 use Rattle.der_view.proofs.showing.show.Goals as goal
 
 pub loop-source-init : goal.loop-source-init
-loop-source-init g c = record { within = rw c.new-sources.ensures (sources_within c.args.input.now);
+loop-source-init g c = record {
+  within = rw c.new-sources.ensures (sources_within c.args.input.now);
   drawn = λ plain. ([], g.met.W.Output.nothing _, rw c.new-sources.ensures refl);
-  key = λ none. rw c.new-sources.ensures refl }
+  key = λ none. rw c.new-sources.ensures refl;
+}
 
 pub show_source-requires-clause-digits : goal.show_source-requires-clause-digits
 show_source-requires-clause-digits g c = omega (arith, ap total_len c.in-Some.ensures)

@@ -3,5 +3,8 @@ use Rattle.sec1_der.specs.Elements.{number_of}
 use Rattle.der_view.proofs.values.magnitude.Given as goal
 
 abbrev pub invariant-loop-digit : goal.invariant-loop-digit
-invariant-loop-digit l = record { number : l.number ≡ number_of (take l.digit-index l.digits);
-  end : l.end ≡ 256 ^ l.digit-index; below : l.number < l.end }
+invariant-loop-digit l = record {
+  number : l.number ≡ number_of (take l.digit-index l.digits);
+  end : l.end ≡ 256 ^ l.digit-index;
+  below : l.number < l.end;
+}
