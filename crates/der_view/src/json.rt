@@ -3,14 +3,18 @@
 
 use crate::characters::Characters;
 use crate::facts::{Kind, RowFacts, Shown};
+use crate::form::draw_rows;
+use crate::grammar::Component;
 use crate::header::Class;
 use crate::known::Known;
 use crate::line::{DIGITS, Line};
 use crate::marks::Mark;
 use crate::output::Output;
+use crate::plan::Plan;
 use crate::said::{Reading, advice_of, first_line, key_misfit, line_of, misfit_line, point_misfit};
 use crate::sentences::Sentence;
 use crate::values::{Arcs, Value};
+use crate::walk::{Element, Place, Rows};
 use itoa::Buffer;
 
 /// An object that is being written.
@@ -83,6 +87,49 @@ impl<'w, W: Output> Object<'w, W> {
     pub(crate) fn end(self) -> Result<(), W::Error> {
         self.writer.push(b"}\n")
     }
+}
+
+/// Returns the offset of the first row that has a mark.
+pub(crate) fn mark_of(plan: Plan, bytes: &[u8]) -> Option<usize> {
+    let mut first = FirstMark { plan, offset: None };
+    draw_rows(&mut first, plan, bytes, false);
+    first.offset
+}
+
+/// Looks for the first row that has a mark.
+#[derive(Drop)]
+struct FirstMark {
+    /// How the bytes are drawn.
+    plan: Plan,
+    /// Its offset.
+    offset: Option<usize>,
+}
+
+impl FirstMark {
+    /// Looks at a row.
+    fn see(&mut self, row: &RowFacts) {
+        if self.offset.is_none() && row.marks.iter().any(|mark| mark.is_some()) {
+            self.offset = Some(row.place.offset);
+        }
+    }
+}
+
+impl Rows for FirstMark {
+    ghost tells = { λ _ _ _. Unit {0} };
+
+    fn element(&mut self, place: Place, element: &Element) {
+        self.see(&RowFacts::of_element(self.plan, false, place, element));
+    }
+
+    fn end_of_contents(&mut self, _place: Place) {}
+
+    fn not_drawn(&mut self, place: Place, expected: &[Component], len: usize, content: &[u8]) {
+        self.see(&RowFacts::of_not_drawn(self.plan, place, expected, len, content));
+    }
+
+    ghost nothing = { λ _. tt };
+
+    ghost joined = { λ _ _ _ _ _ _ _. tt };
 }
 
 /// Writes the last object of a picture that says this, with this command.

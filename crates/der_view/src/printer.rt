@@ -89,8 +89,6 @@ pub(crate) struct Style {
 pub struct Printer<'a, W: Output> {
     writer: &'a mut W,
     pub(crate) style: Style,
-    /// The offset of the first row that has a mark.
-    pub(crate) mark: Option<usize>,
     error: Option<W::Error>,
 }
 
@@ -111,7 +109,6 @@ impl<'a, W: Output> Printer<'a, W> {
                 is_json: false,
                 levels: 0,
             },
-            mark: None,
             error: None,
         }
     }
@@ -145,9 +142,6 @@ impl<'a, W: Output> Printer<'a, W> {
             levels,
             ..
         } = self.style;
-        if self.mark.is_none() && row.marks.iter().any(|mark| mark.is_some()) {
-            self.mark = Some(row.place.offset);
-        }
         if self.error.is_some() || levels > 0 && row.place.depth >= levels {
             return;
         }

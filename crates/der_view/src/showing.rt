@@ -11,7 +11,7 @@ ghost use Rattle.der_view.specs.Sources.{source_len, source_view, text_len};
 use crate::characters::Characters;
 use crate::drawing::{is_read_as_key, known_of, reading_with, write_said, write_text};
 use crate::form::draw_rows;
-use crate::json::{Object, write_last, write_said_object};
+use crate::json::{Object, mark_of, write_last, write_said_object};
 use crate::line::Line;
 use crate::output::Output;
 use crate::part::drawn_element;
@@ -214,9 +214,8 @@ fn show_part<W: Output>(
         rows.style.is_json = true;
         rows.style.levels = options.levels;
         draw_rows(&mut rows, plan, bytes, options.all);
-        let mark = rows.mark;
         rows.finish()?;
-        write_said_object(writer, is_key, reading, file, &known, mark)?;
+        write_said_object(writer, is_key, reading, file, &known, mark_of(plan, bytes))?;
         return Ok(is_key);
     }
     write_levels(writer, plan, bytes, options)?;
