@@ -3271,6 +3271,8 @@ static uint32_t der_view_walk_follows_3(uint64_t p0, uint64_t p1, uint64_t p2, u
     uint32_t p4, uint64_t p5, uint64_t p6);
 static void der_view_form_draw_rows(uint64_t p0, uint64_t p1, uint64_t p2, uint64_t p3,
     uint32_t p4);
+static void der_view_walk_draw_step_6(uint64_t p0, uint64_t p1, uint64_t p2, uint64_t p3,
+    uint64_t p4, uint64_t p5, uint64_t p6);
 static void der_view_said_first_line(uint64_t p0, uint32_t p1, uint32_t p2, uint32_t p3,
     uint32_t p4, uint64_t p5);
 static void der_view_said_misfit_line(uint64_t p0, uint64_t p1, uint64_t p2, uint64_t p3,
@@ -3278,7 +3280,7 @@ static void der_view_said_misfit_line(uint64_t p0, uint64_t p1, uint64_t p2, uin
 static void der_view_json_Object_write_line(uint64_t p0, uint64_t p1, uint64_t p2, uint64_t p3,
     uint64_t p4);
 static void der_view_printer_Printer_tell(uint64_t p0, uint64_t p1);
-static void der_view_walk_draw_step_6(uint64_t p0, uint64_t p1, uint64_t p2, uint64_t p3,
+static void der_view_walk_draw_step_7(uint64_t p0, uint64_t p1, uint64_t p2, uint64_t p3,
     uint64_t p4, uint64_t p5, uint64_t p6);
 static void der_view_line_Line_push_mark(uint64_t p0, uint64_t p1, uint64_t p2, uint64_t p3);
 static void der_view_json_Object_write_back(uint64_t p0, uint64_t p1, uint64_t p2);
@@ -3295,6 +3297,10 @@ static void itoa_Buffer_format(uint64_t p0, uint64_t p1, uint64_t p2, uint64_t p
 static void der_view_values_arcs_split_subidentifier(uint64_t p0, uint64_t p1, uint64_t p2,
     uint64_t p3, uint64_t p4);
 static void der_view_values_arcs_Arcs_new(uint64_t p0, uint64_t p1, uint64_t p2);
+static void der_view_walk_walk_7(uint64_t p0, uint64_t p1, uint64_t p2, uint64_t p3,
+    uint64_t p4, uint64_t p5);
+static uint32_t der_view_walk_follows_7(uint64_t p0, uint64_t p1, uint64_t p2, uint64_t p3,
+    uint32_t p4, uint64_t p5, uint64_t p6);
 static void der_view_walk_walk_6(uint64_t p0, uint64_t p1, uint64_t p2, uint64_t p3,
     uint64_t p4, uint64_t p5);
 static uint32_t der_view_walk_follows_6(uint64_t p0, uint64_t p1, uint64_t p2, uint64_t p3,
@@ -19421,551 +19427,672 @@ static void der_view_showing_show_part(uint64_t p0, uint64_t p1, uint64_t p2, ui
     uint32_t p4, uint64_t p5)
 {
   FRAME(1280)
-  uint32_t v7 = 0, v8 = 0, v9 = 0, v10 = 0, v11 = 0, v12 = 0, v13 = 0, t0, t1, t3;
-  uint64_t v14 = 0, v15 = 0, v16 = 0, t2;
+  uint32_t v7 = 0, v8 = 0, v9 = 0, v10 = 0, v11 = 0, v12 = 0, v13 = 0, v14 = 0, v15 = 0,
+      v16 = 0, v17 = 0, v18 = 0, v19 = 0, v20 = 0, v21 = 0, v22 = 0, t0, t1, t2, t3, t5;
+  uint64_t v23 = 0, v24 = 0, v25 = 0, t4;
+  store64(frame + 496, 0);
+  store64(frame + 488, 0);
+  store64(frame + 480, 0);
+  v7 = 0;
+  fill(frame + 312, 0, 168);
+  store64(frame + 304, 0);
+  store64(frame + 296, 0);
+  store64(frame + 288, 0);
+  store64(frame + 280, 0);
+  store64(frame + 272, 0);
+  store64(frame + 264, 0);
+  store64(frame + 256, 0);
+  fill(frame + 88, 0, 168);
+  der_view_plan_plan_of(frame + 480, p2, p3);
+  store8(frame + 1170, 12);
+  store16(frame + 1168, 48);
+  store64(frame + 520, 0);
   store64(frame + 512, 0);
   store64(frame + 504, 0);
-  store64(frame + 496, 0);
-  v7 = 0;
-  fill(frame + 328, 0, 168);
-  fill(frame + 256, 0, 72);
-  fill(frame + 88, 0, 168);
-  der_view_plan_plan_of(frame + 496, p2, p3);
-  store8(frame + 1058, 12);
-  store16(frame + 1056, 48);
-  store64(frame + 1184, 0);
-  store64(frame + 1176, 0);
-  store64(frame + 1168, 0);
-  der_view_faults_walk_check(frame + 1168, 64, frame + 1056, 1, p3, p2, p3);
-  v8 = load8(frame + 1168);
-  der_view_drawing_known_of(frame + 88, frame + 496, p2, p3);
-  move(frame + 328, frame + 88, 168);
-  if (p3 == 0)
+  der_view_faults_walk_check(frame + 504, 64, frame + 1168, 1, p3, p2, p3);
+  v8 = load8(frame + 504);
+  der_view_drawing_known_of(frame + 88, frame + 480, p2, p3);
+  move(frame + 312, frame + 88, 168);
+  v9 = (uint32_t)(p3 == 0);
+  if (v9)
     goto after_1;
   if (p3 < 3)
     goto after_1;
-  v9 = load8(p2);
-  v10 = load8(p2 + 2);
-  v11 = load8(p2 + 1);
+  v10 = load8(p2);
+  v11 = load8(p2 + 2);
+  v12 = load8(p2 + 1);
   if (p3 == 3)
     goto after_2;
-  v12 = load8(p2 + 3);
-  v13 = 1;
-  if (v9 != 254u)
-    goto after_3;
-  if ((v11 & 0xffu) != 237u)
-    goto after_3;
-  if ((v10 & 0xffu) != 254u)
+  v13 = load8(p2 + 3);
+  v14 = 1;
+  if (v10 != 254u)
     goto after_3;
   if ((v12 & 0xffu) != 237u)
+    goto after_3;
+  if ((v11 & 0xffu) != 254u)
+    goto after_3;
+  if ((v13 & 0xffu) != 237u)
     goto after_3;
   v7 = 16;
   goto after_4;
 after_3:;
-  if (v9 != 206u)
+  if (v10 != 206u)
+    goto after_5;
+  if ((v12 & 0xffu) != 206u)
     goto after_5;
   if ((v11 & 0xffu) != 206u)
     goto after_5;
-  if ((v10 & 0xffu) != 206u)
-    goto after_5;
-  if ((v12 & 0xffu) != 206u)
+  if ((v13 & 0xffu) != 206u)
     goto after_5;
   v7 = 16;
   goto after_4;
 after_2:;
-  if (v9 != 31u)
+  if (v10 != 31u)
     goto after_1;
-  if ((v11 & 0xffu) != 139u)
+  if ((v12 & 0xffu) != 139u)
     goto after_1;
-  if ((v10 & 0xffu) != 8u)
+  if ((v11 & 0xffu) != 8u)
     goto after_1;
-  v13 = 1;
+  v14 = 1;
   v7 = 17;
   goto after_4;
 after_5:;
-  if (v9 != 31u)
+  if (v10 != 31u)
     goto after_6;
-  if ((v11 & 0xffu) != 139u)
+  if ((v12 & 0xffu) != 139u)
     goto after_6;
-  if ((v10 & 0xffu) != 8u)
+  if ((v11 & 0xffu) != 8u)
     goto after_6;
   v7 = 17;
   goto after_4;
 after_6:;
-  if (v9 != 30u)
+  if (v10 != 30u)
     goto after_7;
-  if ((v11 & 0xffu) != 241u)
+  if ((v12 & 0xffu) != 241u)
     goto after_7;
-  if ((v10 & 0xffu) != 181u)
+  if ((v11 & 0xffu) != 181u)
     goto after_7;
-  if ((v12 & 0xffu) != 176u)
+  if ((v13 & 0xffu) != 176u)
     goto after_7;
   v7 = 18;
   goto after_4;
 after_7:;
-  if (v9 != 3u)
+  if (v10 != 3u)
     goto after_8;
-  if ((v11 & 0xffu) != 217u)
+  if ((v12 & 0xffu) != 217u)
     goto after_8;
-  if ((v10 & 0xffu) != 162u)
+  if ((v11 & 0xffu) != 162u)
     goto after_8;
-  if ((v12 & 0xffu) != 154u)
+  if ((v13 & 0xffu) != 154u)
     goto after_8;
   v7 = 19;
   goto after_4;
 after_8:;
-  switch (v9 + 0xffffff6bu) {
+  switch (v10 + 0xffffff6bu) {
   case 0: case 4:
     goto after_9;
   default:
     goto after_1;
   }
 after_9:;
-  if ((v12 & 0xffu) != 4u)
+  if ((v13 & 0xffu) != 4u)
     goto after_1;
-  t0 = (uint32_t)(((((uint64_t)v11 & 0xff) << 8) | ((uint64_t)v10 & 0xff)) > (p3 +
+  t0 = (uint32_t)(((((uint64_t)v12 & 0xff) << 8) | ((uint64_t)v11 & 0xff)) > (p3 +
       0xfffffffffffffffd));
   if (t0)
     goto after_1;
   v7 = 20;
   goto after_4;
 after_1:;
-  v13 = 0;
+  v14 = 0;
 after_4:;
-  v10 = (uint32_t)(v8 == 0u);
+  v12 = (uint32_t)(v8 == 0u);
   if (load8(p5 + 1) != 1u)
     goto after_10;
   store64(frame + 290, 0);
   store64(frame + 298, 0);
   store64(frame + 256, p1);
-  store64(frame + 264, load64(frame + 496));
-  store64(frame + 272, load64(frame + 504));
-  store64(frame + 280, load64(frame + 512));
-  store64(frame + 306, 0);
-  store64(frame + 314, 0);
-  store64(frame + 320, 0);
+  store64(frame + 264, load64(frame + 480));
+  store64(frame + 272, load64(frame + 488));
+  store64(frame + 280, load64(frame + 496));
   store8(frame + 289, 1);
-  v9 = load8(p5);
-  store8(frame + 288, (uint8_t)v9);
+  v10 = load8(p5);
+  store8(frame + 288, (uint8_t)v10);
   store64(frame + 296, load64(p5 + 8));
-  der_view_form_draw_rows(frame + 256, frame + 496, p2, p3, v9);
-  v9 = load8(frame + 320);
-  if (v9)
-    goto after_11;
-  p5 = load64(frame + 312);
+  der_view_form_draw_rows(frame + 256, frame + 480, p2, p3, v10);
   v11 = load8(frame + 304);
-  fill(frame + 944, 0, 112);
-  store64(frame + 896, 0);
-  store64(frame + 888, 0);
-  store64(frame + 880, 0);
-  fill(frame + 768, 0, 112);
+  if (v11)
+    goto after_11;
+  v15 = load8(frame + 488);
+  store8(frame + 1064, (uint8_t)v15);
+  v10 = load8(frame + 487);
+  store8(frame + 1063, (uint8_t)v10);
+  v16 = load8(frame + 486);
+  store8(frame + 1062, (uint8_t)v16);
+  v17 = load8(frame + 485);
+  store8(frame + 1061, (uint8_t)v17);
+  v18 = load8(frame + 484);
+  store8(frame + 1060, (uint8_t)v18);
+  v19 = load8(frame + 483);
+  store8(frame + 1059, (uint8_t)v19);
+  v20 = load8(frame + 482);
+  store8(frame + 1058, (uint8_t)v20);
+  v21 = load8(frame + 481);
+  store8(frame + 1057, (uint8_t)v21);
+  v13 = load8(frame + 480);
+  store8(frame + 1056, (uint8_t)v13);
+  v11 = load8(frame + 489);
+  store8(frame + 1065, (uint8_t)v11);
+  store64(frame + 1080, 0);
+  store64(frame + 1088, 0);
+  store64(frame + 1072, load64(frame + 496));
+  store64(frame + 1066, load64(frame + 490));
+  store64(frame + 632, 0);
+  store64(frame + 648, 0);
+  store64(frame + 640, CONSTANT(0));
+  v22 = (uint32_t)(v10 == 1u);
+  store8(frame + 632, (uint8_t)v22);
+  store8(frame + 633, (uint8_t)(v22 & v11));
+  v22 = 2;
+  if (v10 != 2u)
+    goto after_12;
+  p5 = 0;
+  if (v9 == 0u)
+    goto after_13;
+  v10 = 0;
+  goto after_14;
+after_13:;
+  t1 = ((uint32_t)((v13 & 0xffu) == 1u) & (uint32_t)((v16 & 0xffu) == 0u)) &
+      (uint32_t)(((uint32_t)load8(frame + 1066) & 1u) == 0u);
+  v10 = t1;
+  goto after_14;
+after_12:;
+  if ((v13 & 0xffu) == 1u)
+    goto after_15;
+  v19 = 9;
+  v21 = 0;
+  v18 = 0;
+  v17 = 0;
+  v9 = 0;
+  goto after_16;
+after_15:;
+  if ((v16 & 0xffu) == 2u)
+    goto after_17;
+  v22 = v20;
+  v9 = 0;
+  goto after_16;
+after_17:;
+  v9 = v15 & v11;
+  v22 = v20;
+after_16:;
+  store64(frame + 904, 0);
+  store64(frame + 1168, 0);
+  fill(frame + 504, 0, 128);
   store64(frame + 760, 0);
   store64(frame + 752, 0);
   store64(frame + 744, 0);
+  store64(frame + 880, 0);
+  store64(frame + 888, 0);
+  store8(frame + 904, (uint8_t)(v9 & 1u));
+  store64(frame + 896, p3);
+  store8(frame + 1036, (uint8_t)v17);
+  store8(frame + 1035, (uint8_t)v18);
+  store8(frame + 1034, (uint8_t)v19);
+  store8(frame + 1033, (uint8_t)v22);
+  store8(frame + 1032, (uint8_t)v21);
+  der_view_step_step_by(frame + 504, 1, 0, frame + 1032, 1, p2, p3);
+  if (load8(frame + 504) != 1u)
+    goto after_18;
+  store64(frame + 1200, p3);
+  store64(frame + 1192, p2);
+  store64(frame + 1184, 1);
+  store64(frame + 1176, frame + 1032);
+  der_view_walk_draw_step_6(frame + 744, frame + 1056, frame + 632, p3, frame + 880,
+      frame + 1168, frame + 512);
+  if (load8(frame + 744) == 0u)
+    goto after_19;
+  p2 = load64(frame + 760);
+  if (p2 == 0)
+    goto after_19;
+  v9 = 1;
+  if (p3 != p2)
+    goto after_20;
+  t2 = (uint32_t)(load8(frame + 1056) == 1u) & (uint32_t)(((uint32_t)load8(frame + 1062) &
+      0xffu) == 0u);
+  v9 = t2 & (uint32_t)(((uint32_t)load8(frame + 1066) & 1u) == 0u);
+after_20:;
+  if (load8(frame + 1080) == 1u)
+    goto after_19;
+  if (v9 == 0u)
+    goto after_19;
+  store64(frame + 1088, p3 - p2);
+  store64(frame + 1080, 1);
+  goto after_19;
+after_18:;
+  if ((v13 & 0xffu) != 1u)
+    goto after_19;
+  if (v16 & 0xffu)
+    goto after_19;
+  if ((uint32_t)load8(frame + 1066) & 1u)
+    goto after_19;
+  store64(frame + 1088, 0);
+  store64(frame + 1080, 1);
+after_19:;
+  v10 = (uint32_t)(load8(frame + 1080) == 1u);
+  p5 = load64(frame + 1088);
+after_14:;
+  fill(frame + 1056, 0, 112);
+  store64(frame + 1008, 0);
+  store64(frame + 1000, 0);
+  store64(frame + 992, 0);
+  fill(frame + 880, 0, 112);
+  store64(frame + 872, 0);
+  store64(frame + 864, 0);
+  store64(frame + 856, 0);
+  fill(frame + 744, 0, 112);
   fill(frame + 632, 0, 112);
-  fill(frame + 520, 0, 112);
-  v12 = (uint32_t)(v8 == 0u);
-  t1 = der_view_said_advice_of(v12, p4, frame + 328);
-  v9 = t1;
-  store32(frame + 913, 0);
-  store8(frame + 912, 123);
-  store64(frame + 904, p1);
-  store32(frame + 916, 0);
+  v11 = (uint32_t)(v8 == 0u);
+  t3 = der_view_said_advice_of(v11, p4, frame + 312);
+  v9 = t3;
+  store32(frame + 1025, 0);
+  store8(frame + 1024, 123);
+  store64(frame + 1016, p1);
+  store32(frame + 1028, 0);
   p3 = (uint64_t)(v9 & 0xffu) << 5;
   p2 = load64(p3 + CONSTANT(23672));
   if (p2 == 0)
-    goto after_12;
+    goto after_21;
   p1 = load64(p3 + CONSTANT(23664));
-  der_view_json_Object_write_member(frame + 80, frame + 904, CONSTANT(28101), 6, CONSTANT(1928), 1);
+  der_view_json_Object_write_member(frame + 80, frame + 1016, CONSTANT(28101), 6,
+      CONSTANT(1928), 1);
   if (load8(frame + 80) == 0u)
-    goto after_13;
+    goto after_22;
   v9 = load8(frame + 81);
-  v11 = 1;
-  goto after_14;
-after_13:;
-  store64(frame + 1184, p2);
-  store64(frame + 1176, p1);
-  store64(frame + 1168, 2);
-  p2 = load64(frame + 904);
-  der_view_json_write_characters(frame + 72, p2, frame + 1168);
+  v10 = 1;
+  goto after_23;
+after_22:;
+  store64(frame + 520, p2);
+  store64(frame + 512, p1);
+  store64(frame + 504, 2);
+  p2 = load64(frame + 1016);
+  der_view_json_write_characters(frame + 72, p2, frame + 504);
   if (load8(frame + 72) == 0u)
-    goto after_15;
+    goto after_24;
   v9 = load8(frame + 73);
-  v11 = 1;
-  goto after_14;
-after_15:;
+  v10 = 1;
+  goto after_23;
+after_24:;
   p1 = load64(p2 + 16);
   if (load64(p2 + 8) <= p1)
-    goto after_16;
+    goto after_25;
   store8(load64(p2) + p1, 34);
   p1 = p1 + 1;
-  goto after_17;
-after_16:;
+  goto after_26;
+after_25:;
   p1 = p1 + 1;
   p1 = (p1 == 0) ? 0xffffffffffffffffull : p1;
-after_17:;
+after_26:;
   store64(p2 + 16, p1);
-after_12:;
+after_21:;
   if (v8)
-    goto after_18;
-  der_view_json_Object_write_member(frame + 56, frame + 904, CONSTANT(28107), 3,
+    goto after_27;
+  der_view_json_Object_write_member(frame + 56, frame + 1016, CONSTANT(28107), 3,
       CONSTANT(28115), 4);
   v9 = load8(frame + 57);
   v8 = load8(frame + 56);
-  goto after_19;
-after_18:;
-  der_view_json_Object_write_member(frame + 64, frame + 904, CONSTANT(28107), 3,
+  goto after_28;
+after_27:;
+  der_view_json_Object_write_member(frame + 64, frame + 1016, CONSTANT(28107), 3,
       CONSTANT(28119), 5);
   v9 = load8(frame + 65);
   v8 = load8(frame + 64);
-after_19:;
+after_28:;
   if (v8 & 0xffu)
-    goto after_20;
-  if ((v11 & 0xffu) != 1u)
-    goto after_21;
-  store64(frame + 1200, 0);
-  store64(frame + 1192, 0);
-  store64(frame + 1184, 0);
-  store64(frame + 1176, 0);
-  store64(frame + 1168, 0);
-  t2 = itoa_integer_write_unsigned(p5, frame + 1168);
-  p2 = t2;
-  der_view_json_Object_write_member(frame + 48, frame + 904, CONSTANT(33998), 4,
-      (frame + 1168) + p2, 40ull - p2);
+    goto after_29;
+  if (v10 == 0u)
+    goto after_30;
+  store64(frame + 536, 0);
+  store64(frame + 528, 0);
+  store64(frame + 520, 0);
+  store64(frame + 512, 0);
+  store64(frame + 504, 0);
+  t4 = itoa_integer_write_unsigned(p5, frame + 504);
+  p2 = t4;
+  der_view_json_Object_write_member(frame + 48, frame + 1016, CONSTANT(33998), 4,
+      (frame + 504) + p2, 40ull - p2);
   if (load8(frame + 48) == 0u)
-    goto after_21;
+    goto after_30;
   v9 = load8(frame + 49);
-after_20:;
-  v11 = 1;
-  goto after_14;
-after_21:;
-  der_view_json_Object_write_member(frame + 40, frame + 904, CONSTANT(28110), 5, CONSTANT(1928), 1);
+after_29:;
+  v10 = 1;
+  goto after_23;
+after_30:;
+  der_view_json_Object_write_member(frame + 40, frame + 1016, CONSTANT(28110), 5,
+      CONSTANT(1928), 1);
   if (load8(frame + 40) == 0u)
-    goto after_22;
+    goto after_31;
   v9 = load8(frame + 41);
-  v11 = 1;
-  goto after_14;
-after_22:;
-  der_view_said_first_line(frame + 944, v12, p4, v13, v7, frame + 328);
-  p2 = load64(frame + 904);
-  fill(frame + 1056, 0, 112);
-  der_view_line_Line_finish(frame + 1056, frame + 944);
-  move(frame + 1168, frame + 1056, 112);
-  store64(frame + 920, 2);
-  store64(frame + 936, load64(frame + 1272));
-  store64(frame + 928, frame + 1168);
-  der_view_json_write_characters(frame + 32, p2, frame + 920);
+  v10 = 1;
+  goto after_23;
+after_31:;
+  der_view_said_first_line(frame + 1056, v11, p4, v14, v7, frame + 312);
+  p2 = load64(frame + 1016);
+  fill(frame + 1168, 0, 112);
+  der_view_line_Line_finish(frame + 1168, frame + 1056);
+  move(frame + 504, frame + 1168, 112);
+  store64(frame + 1032, 2);
+  store64(frame + 1048, load64(frame + 608));
+  store64(frame + 1040, frame + 504);
+  der_view_json_write_characters(frame + 32, p2, frame + 1032);
   if (load8(frame + 32) == 0u)
-    goto after_23;
+    goto after_32;
   v9 = load8(frame + 33);
-  v11 = 1;
-  goto after_14;
-after_23:;
-  p1 = load64(frame + 416);
-  der_view_said_key_misfit(frame + 880, frame + 328);
-  p5 = frame + 400;
-  if (load8(frame + 880) != 1u)
-    goto after_24;
-  der_view_said_misfit_line(frame + 768, CONSTANT(34003), 20, p5, p1, load64(frame + 888),
-      load64(frame + 896));
-  der_view_json_Object_write_line(frame + 24, p2, CONSTANT(34002), 1, frame + 768);
+  v10 = 1;
+  goto after_23;
+after_32:;
+  p1 = load64(frame + 400);
+  der_view_said_key_misfit(frame + 992, frame + 312);
+  p5 = frame + 384;
+  if (load8(frame + 992) != 1u)
+    goto after_33;
+  der_view_said_misfit_line(frame + 880, CONSTANT(34003), 20, p5, p1, load64(frame + 1000),
+      load64(frame + 1008));
+  der_view_json_Object_write_line(frame + 24, p2, CONSTANT(34002), 1, frame + 880);
   if (load8(frame + 24) == 0u)
-    goto after_24;
+    goto after_33;
   v9 = load8(frame + 25);
-  v11 = 1;
-  goto after_14;
-after_24:;
-  der_view_said_point_misfit(frame + 744, frame + 328);
-  if (load8(frame + 744) != 1u)
-    goto after_25;
-  der_view_said_misfit_line(frame + 632, CONSTANT(34023), 14, p5, p1, load64(frame + 752),
-      load64(frame + 760));
-  der_view_json_Object_write_line(frame + 16, p2, CONSTANT(34002), 1, frame + 632);
+  v10 = 1;
+  goto after_23;
+after_33:;
+  der_view_said_point_misfit(frame + 856, frame + 312);
+  if (load8(frame + 856) != 1u)
+    goto after_34;
+  der_view_said_misfit_line(frame + 744, CONSTANT(34023), 14, p5, p1, load64(frame + 864),
+      load64(frame + 872));
+  der_view_json_Object_write_line(frame + 16, p2, CONSTANT(34002), 1, frame + 744);
   if (load8(frame + 16) == 0u)
-    goto after_25;
+    goto after_34;
   v9 = load8(frame + 17);
-  v11 = 1;
-  goto after_14;
-after_25:;
+  v10 = 1;
+  goto after_23;
+after_34:;
   p1 = load64(p3 + CONSTANT(23656));
   if (p1 == 0)
-    goto after_26;
+    goto after_35;
   p1 = (p1 < 101) ? p1 : 101ull;
   p5 = 112ull - p1;
   if (p5 == 0)
-    goto after_27;
-  fill((frame + 1168) + p1, 0, p5);
-after_27:;
+    goto after_36;
+  fill((frame + 504) + p1, 0, p5);
+after_36:;
   if (p1 == 0)
-    goto after_28;
-  move(frame + 1168, load64(p3 + CONSTANT(23648)), p1);
-after_28:;
-  store64(frame + 1272, p1);
-  move(frame + 520, frame + 1168, 112);
-  der_view_json_Object_write_line(frame + 8, p2, CONSTANT(34002), 1, frame + 520);
+    goto after_37;
+  move(frame + 504, load64(p3 + CONSTANT(23648)), p1);
+after_37:;
+  store64(frame + 608, p1);
+  move(frame + 632, frame + 504, 112);
+  der_view_json_Object_write_line(frame + 8, p2, CONSTANT(34002), 1, frame + 632);
   if (load8(frame + 8) == 0u)
-    goto after_26;
+    goto after_35;
   v9 = load8(frame + 9);
-  v11 = 1;
-  goto after_14;
-after_26:;
+  v10 = 1;
+  goto after_23;
+after_35:;
   sec1_c_picture_text_TextOutput_push(p2, CONSTANT(1928), 1);
   der_view_json_Object_end(p2);
-  goto after_29;
+  goto after_38;
 after_11:;
-  v11 = 1;
-  v9 = (v9 == 1u) ? (uint32_t)load8(frame + 321) : 0u;
-  goto after_14;
+  v10 = 1;
+  v9 = (v11 == 1u) ? (uint32_t)load8(frame + 305) : 0u;
+  goto after_23;
 after_10:;
+  v23 = load64(p5 + 8);
+  store64(frame + 1216, 0);
   v9 = load8(p5);
-  p5 = load64(p5 + 8);
-  if (p5 != 0)
-    goto after_30;
-  store64(frame + 1192, load64(frame + 512));
-  store64(frame + 1184, load64(frame + 504));
-  store64(frame + 1176, load64(frame + 496));
-  store64(frame + 1201, 0);
-  store64(frame + 1168, p1);
-  store64(frame + 1209, 0);
-  store64(frame + 1217, 0);
-  store64(frame + 1225, 0);
-  store64(frame + 1232, 0);
-  store8(frame + 1200, (uint8_t)v9);
-  der_view_form_draw_rows(frame + 1168, frame + 496, p2, p3, v9 & 1u);
-  v12 = load8(frame + 1232);
-  v9 = (v12 == 1u) ? (uint32_t)load8(frame + 1233) : 0u;
-  goto after_31;
-after_30:;
-  store64(frame + 1201, 0);
-  store64(frame + 1209, 0);
-  store64(frame + 1168, p1);
-  store64(frame + 1176, load64(frame + 496));
-  store64(frame + 1184, load64(frame + 504));
-  store64(frame + 1192, load64(frame + 512));
-  store64(frame + 1217, 0);
-  store64(frame + 1225, 0);
-  store64(frame + 1232, 0);
-  store64(frame + 1208, p5);
-  store8(frame + 1200, (uint8_t)v9);
-  der_view_form_draw_rows(frame + 1168, frame + 496, p2, p3, v9 & 1u);
-  v12 = load8(frame + 1232);
-  v9 = (v12 == 1u) ? (uint32_t)load8(frame + 1233) : 0u;
-after_31:;
-  v11 = 1;
-  if (v12)
-    goto after_14;
-  fill(frame + 944, 0, 112);
-  store64(frame + 784, 0);
-  store64(frame + 776, 0);
-  store64(frame + 768, 0);
-  v8 = (uint32_t)(v8 == 0u);
-  der_view_said_first_line(frame + 944, v8, p4, v13, v7, frame + 328);
-  fill(frame + 1168, 0, 112);
-  der_view_line_Line_finish(frame + 1168, frame + 944);
-  p3 = load64(frame + 1272);
-  p2 = load64(p1 + 8);
-  p5 = load64(p1 + 16);
-  if (p2 < p5)
-    goto after_32;
-  if (p3 > (p2 - p5))
-    goto after_32;
-  if (p3 == 0)
-    goto after_33;
-  move(load64(p1) + p5, frame + 1168, p3);
-after_33:;
-  p3 = p5 + p3;
-  p2 = load64(p1 + 8);
-  goto after_34;
-after_32:;
-  p5 = p3 + p5;
-  p3 = (p5 < p3) ? 0xffffffffffffffffull : p5;
-after_34:;
-  if (p2 <= p3)
-    goto after_35;
-  store8(load64(p1) + p3, 10);
-  p3 = p3 + 1;
-  goto after_36;
-after_35:;
-  p3 = p3 + 1;
-  p3 = (p3 == 0) ? 0xffffffffffffffffull : p3;
-after_36:;
-  v14 = p1 + 16;
-  store64(v14, p3);
-  p2 = load64(frame + 416);
-  der_view_said_key_misfit(frame + 768, frame + 328);
-  v15 = load64(frame + 776);
-  v16 = load64(frame + 784);
-  v9 = load8(frame + 768);
-  fill(frame + 1056, 0, 112);
-  p5 = frame + 400;
-  if (v9 != 1u)
-    goto after_37;
-  der_view_said_misfit_line(frame + 1056, CONSTANT(34003), 20, p5, p2, v15, v16);
-  fill(frame + 1168, 0, 112);
-  der_view_line_Line_finish(frame + 1168, frame + 1056);
-  p3 = load64(frame + 1272);
-  v15 = load64(p1 + 8);
-  v14 = load64(v14);
-  if (v15 < v14)
-    goto after_38;
-  if (p3 > (v15 - v14))
-    goto after_38;
-  if (p3 == 0)
+  if (v23 != 0)
     goto after_39;
-  move(load64(p1) + v14, frame + 1168, p3);
-after_39:;
-  p3 = v14 + p3;
-  v15 = load64(p1 + 8);
+  store64(frame + 552, 0);
+  store64(frame + 512, load64(frame + 480));
+  store64(frame + 520, load64(frame + 488));
+  store64(frame + 528, load64(frame + 496));
+  store64(frame + 537, 0);
+  store64(frame + 504, p1);
+  store64(frame + 545, 0);
+  store8(frame + 536, (uint8_t)v9);
+  store8(frame + 553, 0);
+  der_view_form_draw_rows(frame + 504, frame + 480, p2, p3, v9 & 1u);
+  v11 = load8(frame + 552);
+  v9 = (v11 == 1u) ? (uint32_t)load8(frame + 553) : 0u;
   goto after_40;
-after_38:;
-  v14 = p3 + v14;
-  p3 = (v14 < p3) ? 0xffffffffffffffffull : v14;
+after_39:;
+  store64(frame + 1201, 0);
+  store64(frame + 1209, 0);
+  store64(frame + 1168, p1);
+  store64(frame + 1176, load64(frame + 480));
+  store64(frame + 1184, load64(frame + 488));
+  store64(frame + 1192, load64(frame + 496));
+  store64(frame + 1208, v23);
+  store8(frame + 1200, (uint8_t)v9);
+  store8(frame + 1217, 0);
+  der_view_form_draw_rows(frame + 1168, frame + 480, p2, p3, v9 & 1u);
+  v11 = load8(frame + 1216);
+  v9 = (v11 == 1u) ? (uint32_t)load8(frame + 1217) : 0u;
 after_40:;
-  if (v15 <= p3)
-    goto after_41;
-  store8(load64(p1) + p3, 10);
-  p3 = p3 + 1;
-  goto after_42;
-after_41:;
-  p3 = p3 + 1;
-  p3 = (p3 == 0) ? 0xffffffffffffffffull : p3;
-after_42:;
-  store64(p1 + 16, p3);
-after_37:;
-  der_view_said_point_misfit(frame + 768, frame + 328);
-  v15 = load64(frame + 776);
-  v14 = load64(frame + 784);
-  v9 = load8(frame + 768);
+  v10 = 1;
+  if (v11)
+    goto after_23;
   fill(frame + 1056, 0, 112);
-  if (v9 != 1u)
-    goto after_43;
-  der_view_said_misfit_line(frame + 1056, CONSTANT(34023), 14, p5, p2, v15, v14);
-  fill(frame + 1168, 0, 112);
-  der_view_line_Line_finish(frame + 1168, frame + 1056);
-  p3 = load64(frame + 1272);
+  store64(frame + 896, 0);
+  store64(frame + 888, 0);
+  store64(frame + 880, 0);
+  v8 = (uint32_t)(v8 == 0u);
+  der_view_said_first_line(frame + 1056, v8, p4, v14, v7, frame + 312);
+  fill(frame + 504, 0, 112);
+  der_view_line_Line_finish(frame + 504, frame + 1056);
+  p3 = load64(frame + 608);
   p2 = load64(p1 + 8);
   p5 = load64(p1 + 16);
   if (p2 < p5)
-    goto after_44;
+    goto after_41;
   if (p3 > (p2 - p5))
-    goto after_44;
+    goto after_41;
   if (p3 == 0)
-    goto after_45;
-  move(load64(p1) + p5, frame + 1168, p3);
-after_45:;
+    goto after_42;
+  move(load64(p1) + p5, frame + 504, p3);
+after_42:;
   p3 = p5 + p3;
   p2 = load64(p1 + 8);
-  goto after_46;
-after_44:;
+  goto after_43;
+after_41:;
   p5 = p3 + p5;
   p3 = (p5 < p3) ? 0xffffffffffffffffull : p5;
-after_46:;
+after_43:;
   if (p2 <= p3)
-    goto after_47;
+    goto after_44;
   store8(load64(p1) + p3, 10);
   p3 = p3 + 1;
-  goto after_48;
-after_47:;
+  goto after_45;
+after_44:;
   p3 = p3 + 1;
   p3 = (p3 == 0) ? 0xffffffffffffffffull : p3;
+after_45:;
+  v24 = p1 + 16;
+  store64(v24, p3);
+  p2 = load64(frame + 400);
+  der_view_said_key_misfit(frame + 880, frame + 312);
+  v23 = load64(frame + 888);
+  v25 = load64(frame + 896);
+  v9 = load8(frame + 880);
+  fill(frame + 1168, 0, 112);
+  p5 = frame + 384;
+  if (v9 != 1u)
+    goto after_46;
+  der_view_said_misfit_line(frame + 1168, CONSTANT(34003), 20, p5, p2, v23, v25);
+  fill(frame + 504, 0, 112);
+  der_view_line_Line_finish(frame + 504, frame + 1168);
+  p3 = load64(frame + 608);
+  v23 = load64(p1 + 8);
+  v24 = load64(v24);
+  if (v23 < v24)
+    goto after_47;
+  if (p3 > (v23 - v24))
+    goto after_47;
+  if (p3 == 0)
+    goto after_48;
+  move(load64(p1) + v24, frame + 504, p3);
 after_48:;
+  p3 = v24 + p3;
+  v23 = load64(p1 + 8);
+  goto after_49;
+after_47:;
+  v24 = p3 + v24;
+  p3 = (v24 < p3) ? 0xffffffffffffffffull : v24;
+after_49:;
+  if (v23 <= p3)
+    goto after_50;
+  store8(load64(p1) + p3, 10);
+  p3 = p3 + 1;
+  goto after_51;
+after_50:;
+  p3 = p3 + 1;
+  p3 = (p3 == 0) ? 0xffffffffffffffffull : p3;
+after_51:;
   store64(p1 + 16, p3);
-after_43:;
-  t3 = der_view_said_advice_of(v8, p4, frame + 328);
-  p2 = (uint64_t)(t3 & 0xffu) << 5;
+after_46:;
+  der_view_said_point_misfit(frame + 880, frame + 312);
+  v23 = load64(frame + 888);
+  v24 = load64(frame + 896);
+  v9 = load8(frame + 880);
+  fill(frame + 1168, 0, 112);
+  if (v9 != 1u)
+    goto after_52;
+  der_view_said_misfit_line(frame + 1168, CONSTANT(34023), 14, p5, p2, v23, v24);
+  fill(frame + 504, 0, 112);
+  der_view_line_Line_finish(frame + 504, frame + 1168);
+  p3 = load64(frame + 608);
+  p2 = load64(p1 + 8);
+  p5 = load64(p1 + 16);
+  if (p2 < p5)
+    goto after_53;
+  if (p3 > (p2 - p5))
+    goto after_53;
+  if (p3 == 0)
+    goto after_54;
+  move(load64(p1) + p5, frame + 504, p3);
+after_54:;
+  p3 = p5 + p3;
+  p2 = load64(p1 + 8);
+  goto after_55;
+after_53:;
+  p5 = p3 + p5;
+  p3 = (p5 < p3) ? 0xffffffffffffffffull : p5;
+after_55:;
+  if (p2 <= p3)
+    goto after_56;
+  store8(load64(p1) + p3, 10);
+  p3 = p3 + 1;
+  goto after_57;
+after_56:;
+  p3 = p3 + 1;
+  p3 = (p3 == 0) ? 0xffffffffffffffffull : p3;
+after_57:;
+  store64(p1 + 16, p3);
+after_52:;
+  t5 = der_view_said_advice_of(v8, p4, frame + 312);
+  p2 = (uint64_t)(t5 & 0xffu) << 5;
   p5 = load64(CONSTANT(23656) + p2);
   if (p5 == 0)
-    goto after_49;
-  v15 = load64(CONSTANT(23648) + p2);
+    goto after_58;
+  v23 = load64(CONSTANT(23648) + p2);
   p5 = (p5 < 101) ? p5 : 101ull;
-  v14 = 104ull - p5;
-  if (v14 == 0)
-    goto after_50;
-  fill((frame + 1056) + p5, 0, v14);
-after_50:;
+  v24 = 104ull - p5;
+  if (v24 == 0)
+    goto after_59;
+  fill((frame + 1168) + p5, 0, v24);
+after_59:;
   if (p5 == 0)
-    goto after_51;
-  move(frame + 1056, v15, p5);
-after_51:;
-  store64(frame + 1160, p5);
-  fill(frame + 1168, 0, 112);
-  der_view_line_Line_finish(frame + 1168, frame + 1056);
-  p5 = load64(frame + 1272);
-  v15 = load64(p1 + 8);
-  if (v15 < p3)
-    goto after_52;
-  if (p5 > (v15 - p3))
-    goto after_52;
+    goto after_60;
+  move(frame + 1168, v23, p5);
+after_60:;
+  store64(frame + 1272, p5);
+  fill(frame + 504, 0, 112);
+  der_view_line_Line_finish(frame + 504, frame + 1168);
+  p5 = load64(frame + 608);
+  v23 = load64(p1 + 8);
+  if (v23 < p3)
+    goto after_61;
+  if (p5 > (v23 - p3))
+    goto after_61;
   if (p5 == 0)
-    goto after_53;
-  move(load64(p1) + p3, frame + 1168, p5);
-after_53:;
+    goto after_62;
+  move(load64(p1) + p3, frame + 504, p5);
+after_62:;
   p3 = p3 + p5;
-  v15 = load64(p1 + 8);
-  goto after_54;
-after_52:;
+  v23 = load64(p1 + 8);
+  goto after_63;
+after_61:;
   p3 = p5 + p3;
   p3 = (p3 < p5) ? 0xffffffffffffffffull : p3;
-after_54:;
-  if (v15 <= p3)
-    goto after_55;
+after_63:;
+  if (v23 <= p3)
+    goto after_64;
   store8(load64(p1) + p3, 10);
   p3 = p3 + 1;
-  goto after_56;
-after_55:;
+  goto after_65;
+after_64:;
   p3 = p3 + 1;
   p3 = (p3 == 0) ? 0xffffffffffffffffull : p3;
-after_56:;
+after_65:;
   store64(p1 + 16, p3);
-after_49:;
+after_58:;
   p5 = load64(p2 + CONSTANT(23672));
   if (p5 == 0)
-    goto after_29;
-  v15 = load64(p2 + CONSTANT(23664));
-  v14 = (frame + 1056) | 2;
-  fill(v14, 0, 102);
-  store16(frame + 1056, 8224);
+    goto after_38;
+  v23 = load64(p2 + CONSTANT(23664));
+  v24 = (frame + 1168) | 2;
+  fill(v24, 0, 102);
+  store16(frame + 1168, 8224);
   p2 = (p5 < 99) ? p5 : 99ull;
   if (p2 == 0)
-    goto after_57;
-  move(v14, v15, p2);
-after_57:;
-  store64(frame + 1160, p2 + 2);
-  fill(frame + 1168, 0, 112);
-  der_view_line_Line_finish(frame + 1168, frame + 1056);
-  p2 = load64(frame + 1272);
+    goto after_66;
+  move(v24, v23, p2);
+after_66:;
+  store64(frame + 1272, p2 + 2);
+  fill(frame + 504, 0, 112);
+  der_view_line_Line_finish(frame + 504, frame + 1168);
+  p2 = load64(frame + 608);
   p5 = load64(p1 + 8);
   if (p5 < p3)
-    goto after_58;
+    goto after_67;
   if (p2 > (p5 - p3))
-    goto after_58;
+    goto after_67;
   if (p2 == 0)
-    goto after_59;
-  move(load64(p1) + p3, frame + 1168, p2);
-after_59:;
+    goto after_68;
+  move(load64(p1) + p3, frame + 504, p2);
+after_68:;
   p3 = p3 + p2;
   p5 = load64(p1 + 8);
-  goto after_60;
-after_58:;
+  goto after_69;
+after_67:;
   p3 = p2 + p3;
   p3 = (p3 < p2) ? 0xffffffffffffffffull : p3;
-after_60:;
+after_69:;
   if (p5 <= p3)
-    goto after_61;
+    goto after_70;
   store8(load64(p1) + p3, 10);
   p3 = p3 + 1;
-  goto after_62;
-after_61:;
+  goto after_71;
+after_70:;
   p3 = p3 + 1;
   p3 = (p3 == 0) ? 0xffffffffffffffffull : p3;
-after_62:;
+after_71:;
   store64(p1 + 16, p3);
-after_29:;
-  v11 = 0;
-  v9 = v10;
-after_14:;
+after_38:;
+  v10 = 0;
+  v9 = v12;
+after_23:;
   store8(p0 + 1, (uint8_t)v9);
-  store8(p0, (uint8_t)v11);
+  store8(p0, (uint8_t)v10);
   return;
 }
 
@@ -20484,7 +20611,7 @@ after_4:;
   store64(frame + 208, p2);
   store64(frame + 200, 1);
   store64(frame + 192, frame + 227);
-  der_view_walk_draw_step_6(frame + 32, p0, frame + 8, p3, frame + 232, frame + 184, frame + 64);
+  der_view_walk_draw_step_7(frame + 32, p0, frame + 8, p3, frame + 232, frame + 184, frame + 64);
   if (load8(frame + 32) == 0u)
     goto after_2;
   p1 = load64(frame + 48);
@@ -20569,6 +20696,279 @@ after_6:;
   store64(frame + 608, frame + 227);
   der_view_printer_Printer_tell(p0, frame + 264);
 after_2:;
+}
+
+/* der_view::walk::draw_step::<#058ff82db2a1a4d6> */
+static void der_view_walk_draw_step_6(uint64_t p0, uint64_t p1, uint64_t p2, uint64_t p3,
+    uint64_t p4, uint64_t p5, uint64_t p6)
+{
+  FRAME(816)
+  uint32_t v8 = 0, v12 = 0, v13 = 0, v14 = 0, v17 = 0, v18 = 0, t0;
+  uint64_t v9 = 0, v10 = 0, v11 = 0, v15 = 0, v16 = 0, v19 = 0, v20 = 0, v21 = 0, v22 = 0,
+      v23 = 0, v24 = 0, v25 = 0, v26 = 0, v27 = 0, v28 = 0, v29 = 0, t1, t2;
+  store32(frame + 184, load32(p4 + 25));
+  store32(frame + 187, load32(p4 + 28));
+  v8 = load8(p4 + 24);
+  v9 = load64(p4 + 16);
+  v10 = load64(p4 + 8);
+  p4 = load64(p4);
+  v11 = 0;
+  store64(frame + 200, 0);
+  store64(frame + 192, 0);
+  v12 = 0;
+  store32(frame + 176, 0);
+  store32(frame + 179, 0);
+  store64(frame + 136, 0);
+  store64(frame + 144, 0);
+  store64(frame + 152, 0);
+  store64(frame + 160, 0);
+  store64(frame + 168, 0);
+  store64(frame + 112, 0);
+  store64(frame + 120, 0);
+  store64(frame + 128, 0);
+  store64(frame + 88, 0);
+  store64(frame + 96, 0);
+  store64(frame + 104, 0);
+  store64(frame + 80, 0);
+  store64(frame + 72, 0);
+  store64(frame + 64, 0);
+  store64(frame + 56, 0);
+  store64(frame + 48, 0);
+  store64(frame + 40, 0);
+  v13 = 1;
+  v14 = v8 & 1u;
+  v15 = v10 + 1;
+  v16 = p4 + load64(p6 + 16);
+  v17 = load8(p2);
+  v18 = load8(p6 + 58);
+  switch ((uint32_t)((uint64_t)v18 & 0xff)) {
+  case 6:
+    goto after_1;
+  case 7:
+    goto after_2;
+  case 8:
+    goto after_3;
+  default:
+    goto after_4;
+  }
+after_1:;
+  v12 = load8(p6 + 59);
+  goto after_5;
+after_2:;
+  v19 = load64(p6 + 88);
+  v20 = load64(p6 + 96);
+  v12 = load8(p6 + 59);
+  v17 = 0;
+  store32(frame + 233, 0);
+  store8(frame + 232, (uint8_t)v14);
+  store64(frame + 224, v9);
+  store64(frame + 216, v15);
+  store64(frame + 208, v16);
+  store32(frame + 236, 0);
+  v11 = 0;
+  store64(frame + 408, 0);
+  store64(frame + 344, 0);
+  store64(frame + 784, 0);
+  store64(frame + 792, 0);
+  store64(frame + 800, 0);
+  der_view_grammar_Structure_components(frame + 24, v12);
+  store64(frame + 440, v20);
+  store64(frame + 432, v19);
+  store16(frame + 408, 256);
+  store8(frame + 344, 0);
+  store64(frame + 424, load64(frame + 32));
+  store64(frame + 416, load64(frame + 24));
+  store64(frame + 352, load64(p2 + 8));
+  store64(frame + 360, load64(p2 + 16));
+  store8(frame + 345, (uint8_t)(uint32_t)load8(p2 + 1));
+  der_view_walk_walk_6(frame + 784, p1, frame + 344, p3, frame + 208, frame + 408);
+  v13 = (uint32_t)(load8(frame + 784) == 1u);
+  v12 = v13 ? v12 : 0u;
+  goto after_5;
+after_3:;
+  v19 = load64(p6 + 96);
+  if (v19 == 0)
+    goto after_6;
+  v13 = 0;
+  v20 = load64(p6 + 88);
+  if (load8(v20))
+    goto after_7;
+  v19 = v19 + 0xffffffffffffffff;
+  if (v19 != 0)
+    goto after_8;
+  v13 = 0;
+  goto after_7;
+after_8:;
+  v12 = load8(p6 + 59);
+  v17 = 0;
+  store32(frame + 433, 0);
+  store8(frame + 432, (uint8_t)v14);
+  store64(frame + 424, v9);
+  store64(frame + 416, v15);
+  store64(frame + 408, v16);
+  store32(frame + 436, 0);
+  t0 = der_view_walk_follows_6(p1, p2, p3, frame + 408, v12, v20 + 1, v19);
+  v13 = t0;
+  v12 = v13 ? v12 : 0u;
+  v11 = v13;
+  goto after_5;
+after_4:;
+  v13 = 1;
+  if (load8(p6 + 24) != 1u)
+    goto after_9;
+  v12 = 0;
+  if (load8(p6 + 1) != 1u)
+    goto after_6;
+  if ((((uint32_t)((v18 & 0xffu) == 9u) | v17) & 1u) == 0u)
+    goto after_6;
+after_9:;
+  v12 = 84;
+  goto after_5;
+after_7:;
+  v12 = 0;
+  v17 = 0;
+  goto after_5;
+after_6:;
+  v13 = 0;
+  v17 = 0;
+after_5:;
+  v19 = (frame + 208) + 56;
+  fill(v19, 0, 80);
+  if (load8(p5 + 1))
+    goto after_10;
+  store64(frame + 376, load64(p6 + 32));
+  store64(frame + 368, load64(p6 + 24));
+  store64(frame + 360, load64(p6 + 16));
+  store64(frame + 352, load64(p6 + 8));
+  store64(frame + 344, load64(p6));
+  v21 = load64(p6 + 88);
+  v20 = load64(p6 + 96);
+  t1 = der_view_content_shown_len(load8(p2 + 1), frame + 344, load8(p6 + 58), load8(p6 + 59),
+      v21, v20);
+  v22 = t1;
+  v23 = CONSTANT(0);
+  v24 = 0;
+  v25 = 0;
+  v26 = CONSTANT(0);
+  v18 = load8(p6 + 80);
+  if (v18)
+    goto after_11;
+  v25 = load64(p5 + 16);
+  v26 = load64(p5 + 8);
+after_11:;
+  v27 = p6 + 40;
+  v28 = p6 + 56;
+  v29 = (load8(frame + 368) == 1u) ? v20 : 0ull;
+  if (v13)
+    goto after_12;
+  v23 = load64(p2 + 16);
+  v24 = load64(frame + 360) + p4;
+  t2 = v23;
+  v23 = (v23 < v24) ? v23 : v24;
+  v24 = t2 - v23;
+  v24 = (v24 < v20) ? v24 : v20;
+  v23 = load64(p2 + 8) + v23;
+after_12:;
+  store32(v19, load32(v28));
+  store8(v19 + 4, (uint8_t)(uint32_t)load8(v28 + 4));
+  store64(frame + 240, load64(p6 + 32));
+  store64(frame + 232, load64(p6 + 24));
+  store64(frame + 224, load64(p6 + 16));
+  store64(frame + 216, load64(p6 + 8));
+  store64(frame + 208, load64(p6));
+  store64(frame + 248, load64(v27));
+  store64(frame + 256, load64(v27 + 8));
+  store8(frame + 336, (uint8_t)v13);
+  store64(frame + 328, v24);
+  store64(frame + 320, v23);
+  store64(frame + 312, v22);
+  store64(frame + 304, v21);
+  store64(frame + 296, v29);
+  store8(frame + 288, (uint8_t)v18);
+  store64(frame + 280, v25);
+  store64(frame + 272, v26);
+  store8(frame + 808, (uint8_t)v8);
+  store64(frame + 800, v9);
+  store64(frame + 792, v10);
+  store64(frame + 784, p4);
+  store32(frame + 809, load32(frame + 184));
+  store32(frame + 812, load32(frame + 187));
+  fill(frame + 408, 0, 376);
+  store64(frame + 400, load64(p1 + 16));
+  store64(frame + 392, load64(p1 + 8));
+  store64(frame + 384, load64(p1));
+  der_view_facts_RowFacts_of_element(frame + 408, frame + 384, 0, frame + 784, frame + 208);
+  if (load8(p1 + 24) == 1u)
+    goto after_10;
+  p4 = load64(frame + 408);
+  if (load8(frame + 560) == 1u)
+    goto after_13;
+  if (((uint32_t)load8(frame + 592) & 0xffu) == 1u)
+    goto after_13;
+  if (((uint32_t)load8(frame + 624) & 0xffu) == 1u)
+    goto after_13;
+  if (((uint32_t)load8(frame + 656) & 0xffu) == 1u)
+    goto after_13;
+  if (((uint32_t)load8(frame + 688) & 0xffu) == 1u)
+    goto after_13;
+  if (((uint32_t)load8(frame + 720) & 0xffu) != 1u)
+    goto after_10;
+after_13:;
+  store64(p1 + 32, p4);
+  store64(p1 + 24, 1);
+after_10:;
+  if (v13 == 0u)
+    goto after_14;
+  v13 = load8(p6 + 24);
+  v8 = load8(p5 + 1);
+  der_view_grammar_Structure_components(frame + 8, v12);
+  store8(frame + 137, (uint8_t)v8);
+  v13 = (uint32_t)(v13 != 1u);
+  store8(frame + 136, (uint8_t)v13);
+  store8(frame + 112, (uint8_t)v17);
+  store64(frame + 56, v11 + v16);
+  store64(frame + 64, v15);
+  store64(frame + 72, v9);
+  store8(frame + 80, (uint8_t)v14);
+  store64(frame + 152, load64(frame + 16));
+  store64(frame + 144, load64(frame + 8));
+  store8(frame + 113, (uint8_t)(uint32_t)load8(p2 + 1));
+  store64(frame + 120, load64(p2 + 8));
+  store64(frame + 128, load64(p2 + 16));
+  store64(frame + 168, load64(p6 + 96) - v11);
+  store64(frame + 160, load64(p6 + 88) + v11);
+  store32(frame + 84, load32(frame + 179));
+  store32(frame + 81, load32(frame + 176));
+  der_view_walk_walk_6(frame + 88, p1, frame + 112, p3, frame + 56, frame + 136);
+  if (load8(frame + 88) != 1u)
+    goto after_15;
+  if (v13 == 0u)
+    goto after_16;
+  store64(frame + 48, load64(frame + 104));
+  store64(frame + 40, load64(frame + 96));
+  goto after_17;
+after_14:;
+  p4 = load64(p6 + 112);
+  p6 = load64(p6 + 104);
+  store64(p0, 1);
+  store64(p0 + 8, p6);
+  store64(p0 + 16, p4);
+  store64(frame + 200, p4);
+  store64(frame + 192, p6);
+  goto after_18;
+after_15:;
+  store64(p0 + 16, 0);
+  store64(p0 + 8, 0);
+  store64(p0, 0);
+  goto after_18;
+after_16:;
+  store64(frame + 48, load64(p6 + 112));
+  store64(frame + 40, load64(p6 + 104));
+after_17:;
+  store64(p0, 1);
+  store64(p0 + 8, load64(frame + 40));
+  store64(p0 + 16, load64(frame + 48));
+after_18:;
 }
 
 /* der_view::said::first_line */
@@ -21124,65 +21524,47 @@ static void der_view_printer_Printer_tell(uint64_t p0, uint64_t p1)
       v16 = 0, v17 = 0, v18 = 0, v19 = 0, t0, t2, t3, t4, t5, t6;
   if (load8(p0 + 48) == 1u)
     goto after_1;
-  if (load8(p1 + 152) == 1u)
-    goto after_2;
-  if (load8(p1 + 184) == 1u)
-    goto after_2;
-  if (load8(p1 + 216) == 1u)
-    goto after_2;
-  if (load8(p1 + 248) == 1u)
-    goto after_2;
-  if (load8(p1 + 280) == 1u)
-    goto after_2;
-  if (load8(p1 + 312) != 1u)
-    goto after_1;
-after_2:;
-  store64(p0 + 56, load64(p1));
-  store64(p0 + 48, 1);
-after_1:;
-  if (load8(p0 + 64) == 1u)
-    goto after_3;
   v3 = load8(p0 + 33);
   v4 = load64(p0 + 40);
   if (v4 == 0)
-    goto after_4;
+    goto after_2;
   if (v4 <= load64(p1 + 8))
-    goto after_3;
-after_4:;
+    goto after_1;
+after_2:;
   v5 = load64(p0);
   if ((v3 & 1u) == 0u)
-    goto after_5;
+    goto after_3;
   store64(frame + 648, 0);
   store64(frame + 640, 0);
   v3 = load8(p1 + 32);
   if (v3 != 2u)
-    goto after_6;
+    goto after_4;
   if (load64(p1 + 80) != 0)
-    goto after_7;
+    goto after_5;
   v6 = 0;
   v3 = 0;
   if (((uint32_t)load8(p1 + 152) & 0xffu) != 1u)
-    goto after_8;
-after_7:;
+    goto after_6;
+after_5:;
   store32(frame + 649, 0);
   store8(frame + 648, 123);
   store64(frame + 640, v5);
   store32(frame + 652, 0);
-  goto after_9;
-after_6:;
+  goto after_7;
+after_4:;
   store32(frame + 649, 0);
   store8(frame + 648, 123);
   store64(frame + 640, v5);
   store32(frame + 652, 0);
   if (v3)
-    goto after_9;
+    goto after_7;
   v3 = load8(p1 + 37);
   v4 = load8(p1 + 36);
   if (load8(p1 + 64) != 1u)
-    goto after_10;
+    goto after_8;
   v7 = load64(p1 + 72);
   if (v7 == load64(p1 + 80))
-    goto after_10;
+    goto after_8;
   store64(frame + 192, 0);
   store64(frame + 184, 0);
   store64(frame + 176, 0);
@@ -21193,19 +21575,19 @@ after_6:;
   der_view_json_Object_write_member(frame + 136, frame + 640, CONSTANT(28152), 9,
       (frame + 160) + v7, 40ull - v7);
   if (load8(frame + 136) == 0u)
-    goto after_10;
+    goto after_8;
   v6 = load8(frame + 137);
   v3 = 1;
-  goto after_8;
-after_10:;
+  goto after_6;
+after_8:;
   der_view_json_Object_write_member(frame + 128, frame + 640, CONSTANT(28161), 5,
       CONSTANT(1928), 1);
   if (load8(frame + 128) == 0u)
-    goto after_11;
+    goto after_9;
   v6 = load8(frame + 129);
   v3 = 1;
-  goto after_8;
-after_11:;
+  goto after_6;
+after_9:;
   v4 = v4 << 3;
   v7 = load64(CONSTANT(39336) + v4);
   store64(frame + 176, load64(CONSTANT(39304) + v4));
@@ -21214,79 +21596,79 @@ after_11:;
   v4 = load64(frame + 640);
   der_view_json_write_characters(frame + 120, v4, frame + 160);
   if (load8(frame + 120) == 0u)
-    goto after_12;
+    goto after_10;
   v6 = load8(frame + 121);
   v3 = 1;
-  goto after_8;
-after_12:;
+  goto after_6;
+after_10:;
   v7 = load64(v4 + 16);
   if (load64(v4 + 8) <= v7)
-    goto after_13;
+    goto after_11;
   store8(load64(v4) + v7, 34);
   v7 = v7 + 1;
-  goto after_14;
-after_13:;
+  goto after_12;
+after_11:;
   v7 = v7 + 1;
   v7 = (v7 == 0) ? 0xffffffffffffffffull : v7;
-after_14:;
+after_12:;
   store64(v4 + 16, v7);
   if ((v3 & 1u) == 0u)
-    goto after_15;
+    goto after_13;
   der_view_json_Object_write_member(frame + 104, frame + 640, CONSTANT(28166), 11,
       CONSTANT(28115), 4);
   v6 = load8(frame + 105);
   v3 = load8(frame + 104);
-  goto after_16;
-after_15:;
+  goto after_14;
+after_13:;
   der_view_json_Object_write_member(frame + 112, frame + 640, CONSTANT(28166), 11,
       CONSTANT(28119), 5);
   v6 = load8(frame + 113);
   v3 = load8(frame + 112);
-after_16:;
+after_14:;
   if (v3 & 0xffu)
-    goto after_17;
-after_9:;
+    goto after_15;
+after_7:;
   v8 = load64(p1 + 368);
   if (v8 == 0)
-    goto after_18;
+    goto after_16;
   v9 = load64(p1 + 360);
   der_view_json_Object_write_member(frame + 96, frame + 640, CONSTANT(28177), 7, CONSTANT(1928), 1);
   if (load8(frame + 96))
-    goto after_19;
+    goto after_17;
   v7 = load64(frame + 640);
   v4 = load64(v7 + 16);
-again_22:;
+again_20:;
   v10 = load64(v7 + 8);
   if (v10 < v4)
-    goto after_20;
+    goto after_18;
   if ((v10 - v4) < 2)
-    goto after_20;
+    goto after_18;
   v10 = load8(v9);
   t1 = ((uint32_t)load8(CONSTANT(28246) + (v10 & 0xf)) << 8) | (uint32_t)load8(CONSTANT(28246) +
       (v10 >> 4));
   store16(load64(v7) + v4, (uint16_t)t1);
   v4 = v4 + 2;
-  goto after_21;
-after_20:;
+  goto after_19;
+after_18:;
   v10 = v4 + 2;
   v4 = (v10 < v4) ? 0xffffffffffffffffull : v10;
-after_21:;
+after_19:;
   store64(v7 + 16, v4);
   v9 = v9 + 1;
   v8 = v8 + 0xffffffffffffffff;
   if (v8 != 0)
-    goto again_22;
+    goto again_20;
   if (load64(v7 + 8) <= v4)
-    goto after_23;
+    goto after_21;
   store8(load64(v7) + v4, 34);
   v4 = v4 + 1;
-  goto after_24;
-after_23:;
+  goto after_22;
+after_21:;
   v4 = v4 + 1;
   v4 = (v4 == 0) ? 0xffffffffffffffffull : v4;
-after_24:;
+after_22:;
   store64(v7 + 16, v4);
-after_18:;
+after_16:;
   v4 = load64(p1 + 8);
   v7 = 0;
   store64(frame + 192, 0);
@@ -21299,46 +21681,46 @@ after_18:;
   der_view_json_Object_write_member(frame + 88, frame + 640, CONSTANT(28184), 5,
       (frame + 160) + v4, 40ull - v4);
   if (load8(frame + 88))
-    goto after_25;
+    goto after_23;
   move(frame + 160, p1 + 152, 192);
   v8 = frame + 569;
   v3 = 1;
-again_46:;
+again_44:;
   v4 = (frame + 160) + (v7 << 5);
   v7 = v7 + 1;
-again_48:;
+again_46:;
   if (load8(v4) != 1u)
-    goto after_26;
+    goto after_24;
   v6 = load8(v4 + 8);
   v9 = load64(v4 + 16);
   v10 = load64(v4 + 24);
   v11 = load8(v4 + 12);
   if ((v3 & 1u) == 0u)
-    goto after_27;
+    goto after_25;
   der_view_json_Object_write_member(frame + 80, frame + 640, CONSTANT(28262), 6,
       CONSTANT(28268), 1);
   if (load8(frame + 80) == 0u)
-    goto after_28;
+    goto after_26;
   v6 = load8(frame + 81);
   v3 = 1;
-  goto after_8;
-after_28:;
+  goto after_6;
+after_26:;
   v4 = load64(frame + 640);
-  goto after_29;
-after_27:;
+  goto after_27;
+after_25:;
   v4 = load64(frame + 640);
   v5 = load64(v4 + 16);
   if (load64(v4 + 8) <= v5)
-    goto after_30;
+    goto after_28;
   store8(load64(v4) + v5, 44);
   v5 = v5 + 1;
-  goto after_31;
-after_30:;
+  goto after_29;
+after_28:;
   v5 = v5 + 1;
   v5 = (v5 == 0) ? 0xffffffffffffffffull : v5;
-after_31:;
-  store64(v4 + 16, v5);
 after_29:;
+  store64(v4 + 16, v5);
+after_27:;
   store32(v8, 0);
   store32(v8 + 3, 0);
   store64(frame + 480, v10);
@@ -21353,171 +21735,171 @@ after_29:;
   v10 = CONSTANT(29976);
   switch (v6) {
   case 2:
-    goto after_32;
+    goto after_30;
   case 3:
-    goto after_33;
+    goto after_31;
   case 1:
-    goto after_34;
+    goto after_32;
   default:
-    goto after_35;
+    goto after_33;
   }
-after_32:;
+after_30:;
   v9 = 8;
   v10 = CONSTANT(29983);
-  goto after_35;
-after_33:;
+  goto after_33;
+after_31:;
   v9 = 4;
   v10 = CONSTANT(29991);
-  goto after_35;
-after_34:;
+  goto after_33;
+after_32:;
   v10 = (uint64_t)v11 << 3;
   v9 = load64(CONSTANT(39504) + v10);
   v10 = load64(CONSTANT(39368) + v10);
-after_35:;
+after_33:;
   der_view_json_Object_write_member(frame + 72, frame + 560, CONSTANT(28270), 4, CONSTANT(1928), 1);
   if (load8(frame + 72) == 0u)
-    goto after_36;
+    goto after_34;
   v6 = load8(frame + 73);
   v3 = 1;
-  goto after_8;
-after_36:;
+  goto after_6;
+after_34:;
   store64(frame + 368, v9);
   store64(frame + 360, v10);
   store64(frame + 352, 2);
   v9 = load64(frame + 560);
   der_view_json_write_characters(frame + 64, v9, frame + 352);
   if (load8(frame + 64) == 0u)
-    goto after_37;
+    goto after_35;
   v6 = load8(frame + 65);
   v3 = 1;
-  goto after_8;
-after_37:;
+  goto after_6;
+after_35:;
   v10 = load64(v9 + 16);
   if (load64(v9 + 8) <= v10)
-    goto after_38;
+    goto after_36;
   store8(load64(v9) + v10, 34);
   v10 = v10 + 1;
-  goto after_39;
-after_38:;
+  goto after_37;
+after_36:;
   v10 = v10 + 1;
   v10 = (v10 == 0) ? 0xffffffffffffffffull : v10;
-after_39:;
+after_37:;
   store64(v9 + 16, v10);
   v9 = load64(frame + 776);
   der_view_json_Object_write_member(frame + 56, frame + 560, CONSTANT(28110), 5, CONSTANT(1928), 1);
   if (load8(frame + 56) == 0u)
-    goto after_40;
+    goto after_38;
   v6 = load8(frame + 57);
   v3 = 1;
-  goto after_8;
-after_40:;
+  goto after_6;
+after_38:;
   store64(frame + 368, v9);
   store64(frame + 352, 2);
   store64(frame + 360, frame + 672);
   v9 = load64(frame + 560);
   der_view_json_write_characters(frame + 48, v9, frame + 352);
   if (load8(frame + 48) == 0u)
-    goto after_41;
+    goto after_39;
   v6 = load8(frame + 49);
   v3 = 1;
-  goto after_8;
-after_41:;
+  goto after_6;
+after_39:;
   v12 = v9 + 8;
   v5 = load64(v12);
   v10 = load64(v9 + 16);
   if (v5 <= v10)
-    goto after_42;
+    goto after_40;
   store8(load64(v9) + v10, 34);
   v10 = v10 + 1;
   v5 = load64(v12);
+  goto after_41;
+after_40:;
+  v10 = v10 + 1;
+  v10 = (v10 == 0) ? 0xffffffffffffffffull : v10;
+after_41:;
+  if (v5 <= v10)
+    goto after_42;
+  store8(load64(v9) + v10, 125);
+  v10 = v10 + 1;
   goto after_43;
 after_42:;
   v10 = v10 + 1;
   v10 = (v10 == 0) ? 0xffffffffffffffffull : v10;
 after_43:;
-  if (v5 <= v10)
-    goto after_44;
-  store8(load64(v9) + v10, 125);
-  v10 = v10 + 1;
-  goto after_45;
-after_44:;
-  v10 = v10 + 1;
-  v10 = (v10 == 0) ? 0xffffffffffffffffull : v10;
-after_45:;
   store64(v9 + 16, v10);
   v3 = 0;
   if (v7 != 6)
-    goto again_46;
-  goto after_47;
-after_26:;
+    goto again_44;
+  goto after_45;
+after_24:;
   v4 = v4 + 32;
   v7 = v7 + 1;
   if (v7 != 7)
-    goto again_48;
+    goto again_46;
   if (v3 & 1u)
-    goto after_49;
+    goto after_47;
   v4 = load64(frame + 640);
-after_47:;
+after_45:;
   v7 = load64(v4 + 16);
   if (load64(v4 + 8) <= v7)
-    goto after_50;
+    goto after_48;
   store8(load64(v4) + v7, 93);
   v7 = v7 + 1;
-  goto after_51;
-after_50:;
+  goto after_49;
+after_48:;
   v7 = v7 + 1;
   v7 = (v7 == 0) ? 0xffffffffffffffffull : v7;
-after_51:;
-  store64(v4 + 16, v7);
 after_49:;
+  store64(v4 + 16, v7);
+after_47:;
   der_view_json_Object_write_number(frame + 40, frame + 640, CONSTANT(28189), 10, load64(p1 + 56));
   if (load8(frame + 40))
-    goto after_52;
+    goto after_50;
   if (load8(p1 + 32))
-    goto after_53;
+    goto after_51;
   if (load8(p1 + 64) == 0u)
-    goto after_54;
-after_53:;
+    goto after_52;
+after_51:;
   der_view_json_Object_write_number(frame + 32, frame + 640, CONSTANT(28199), 3, load64(p1 + 80));
   if (load8(frame + 32) == 0u)
-    goto after_54;
+    goto after_52;
   v6 = load8(frame + 33);
   v3 = 1;
-  goto after_8;
-after_54:;
+  goto after_6;
+after_52:;
   v4 = (uint64_t)load8(p1 + 104) << 4;
   der_view_json_Object_write_text_if(frame + 24, frame + 640, CONSTANT(28202), 4,
       load64(CONSTANT(30024) + v4), load64(CONSTANT(30032) + v4));
   if (load8(frame + 24))
-    goto after_55;
+    goto after_53;
   der_view_json_Object_write_number(frame + 16, frame + 640, CONSTANT(28206), 6, load64(p1));
   if (load8(frame + 16))
-    goto after_56;
+    goto after_54;
   der_view_json_Object_write_back(frame + 8, frame + 640, p1);
   if (load8(frame + 8))
-    goto after_57;
+    goto after_55;
   der_view_json_Object_end(load64(frame + 640));
   v6 = 0;
   v3 = 0;
-  goto after_8;
-after_57:;
+  goto after_6;
+after_55:;
   v6 = load8(frame + 9);
-after_17:;
+after_15:;
   v3 = 1;
-  goto after_8;
-after_5:;
+  goto after_6;
+after_3:;
   v6 = 0;
   fill(frame + 352, 0, 112);
   v3 = load8(p1 + 32);
   if (v3 != 2u)
-    goto after_58;
+    goto after_56;
   if (load64(p1 + 80) != 0)
-    goto after_58;
+    goto after_56;
   if (((uint32_t)load8(p1 + 152) & 0xffu) == 1u)
-    goto after_58;
+    goto after_56;
   v3 = 0;
-  goto after_8;
-after_58:;
+  goto after_6;
+after_56:;
   fill(frame + 672, 0, 112);
   fill(frame + 160, 0, 112);
   store64(frame + 464, 0);
@@ -21531,34 +21913,34 @@ after_58:;
   v4 = 4ull - v7;
   v4 = (v4 > 4) ? 0ull : v4;
   if (v4 == 0)
-    goto after_59;
+    goto after_57;
   fill(frame + 160, 32, v4);
-after_59:;
+after_57:;
   v9 = 101ull - v4;
   v7 = (v7 < v9) ? v7 : v9;
   if (v7 == 0)
-    goto after_60;
+    goto after_58;
   move((frame + 160) | v4, (frame + 464) + v8, v7);
-after_60:;
+after_58:;
   v4 = v7 + v4;
   v12 = load64(p1 + 56);
   if (v12 == 0)
-    goto after_61;
+    goto after_59;
   v7 = load64(p1 + 48);
   v8 = v12;
-again_65:;
+again_63:;
   store8(frame + 560, 32);
   v10 = (frame + 160) + v4;
   v9 = (uint32_t)(v4 != 101);
   if ((v10 - (frame + 560)) >= v9)
-    goto after_62;
+    goto after_60;
   store8(v10, 32);
-  goto after_63;
-after_62:;
+  goto after_61;
+after_60:;
   if (v9 == 0)
-    goto after_63;
+    goto after_61;
   move(v10, frame + 560, v9);
-after_63:;
+after_61:;
   v4 = v4 + v9;
   store64(frame + 264, v4);
   v9 = load8(v7);
@@ -21567,33 +21949,33 @@ after_63:;
   v9 = 101ull - v4;
   v9 = (v9 < 2) ? v9 : 2ull;
   if (v9 == 0)
-    goto after_64;
+    goto after_62;
   move((frame + 160) + v4, frame + 560, v9);
-after_64:;
+after_62:;
   v4 = v9 + v4;
   store64(frame + 264, v4);
   v7 = v7 + 1;
   v8 = v8 + 0xffffffffffffffff;
   if (v8 != 0)
-    goto again_65;
-after_61:;
+    goto again_63;
+after_59:;
   store8(frame + 560, 32);
   v7 = (frame + 160) + v4;
   v9 = (uint32_t)(v4 != 101);
   if ((v7 - (frame + 560)) >= v9)
-    goto after_66;
+    goto after_64;
   store8(v7, 32);
-  goto after_67;
-after_66:;
+  goto after_65;
+after_64:;
   if (v9 == 0)
-    goto after_67;
+    goto after_65;
   move(v7, frame + 560, v9);
-after_67:;
+after_65:;
   v7 = 19ull - (((v12 < 0x5555555555555555) ? v12 : 0x5555555555555555ull) * 3);
   v7 = (v7 > 19) ? 0ull : v7;
   v4 = v4 + v9;
   if (load8(p1 + 64) != 1u)
-    goto after_68;
+    goto after_66;
   store64(frame + 560, 0);
   store64(frame + 568, 0);
   store64(frame + 576, 0);
@@ -21607,59 +21989,59 @@ after_67:;
   v8 = 101ull - v4;
   v7 = (v7 < v8) ? v7 : v8;
   if (v7 == 0)
-    goto after_69;
+    goto after_67;
   fill((frame + 160) + v4, 32, v7);
-after_69:;
+after_67:;
   v4 = v7 + v4;
   v7 = 101ull - v4;
   v7 = (v9 < v7) ? v9 : v7;
   if (v7 == 0)
-    goto after_70;
+    goto after_68;
   move((frame + 160) + v4, (frame + 560) + v10, v7);
-after_70:;
-  v4 = v7 + v4;
-  goto after_71;
 after_68:;
+  v4 = v7 + v4;
+  goto after_69;
+after_66:;
   v7 = v7 - (uint64_t)(uint32_t)(v7 != 0);
   v9 = 101ull - v4;
   v7 = (v7 < v9) ? v7 : v9;
   if (v7 == 0)
-    goto after_72;
+    goto after_70;
   fill((frame + 160) + v4, 32, v7);
-after_72:;
+after_70:;
   v4 = v7 + v4;
   v9 = (frame + 160) + v4;
   v7 = (uint32_t)(v4 != 101);
   if ((v9 - CONSTANT(33952)) >= v7)
-    goto after_73;
+    goto after_71;
   store8(v9, 63);
-  goto after_74;
-after_73:;
-  if (v7 == 0)
-    goto after_74;
-  fill(v9, 63, v7);
-after_74:;
-  v4 = v4 + v7;
+  goto after_72;
 after_71:;
+  if (v7 == 0)
+    goto after_72;
+  fill(v9, 63, v7);
+after_72:;
+  v4 = v4 + v7;
+after_69:;
   v7 = 101ull - v4;
   v9 = (v7 < 2) ? v7 : 2ull;
   if (v9 == 0)
-    goto after_75;
+    goto after_73;
   fill((frame + 160) + v4, 32, v9);
-after_75:;
+after_73:;
   v7 = load64(p1 + 8);
   v8 = ((v7 < 16) ? v7 : 16ull) << 1;
   v9 = v9 + v4;
   v4 = 101ull - v9;
   v4 = (v8 < v4) ? v8 : v4;
   if (v4 == 0)
-    goto after_76;
+    goto after_74;
   fill((frame + 160) + v9, 32, v4);
-after_76:;
+after_74:;
   v4 = v4 + v9;
   store64(frame + 264, v4);
   if (v7 < 17)
-    goto after_77;
+    goto after_75;
   store64(frame + 496, 0);
   store64(frame + 488, 0);
   store64(frame + 480, 0);
@@ -21671,106 +22053,106 @@ after_76:;
   v8 = 101ull - v4;
   v7 = (v7 < v8) ? v7 : v8;
   if (v7 == 0)
-    goto after_78;
+    goto after_76;
   move((frame + 160) + v4, (frame + 464) + v10, v7);
-after_78:;
+after_76:;
   v4 = v7 + v4;
   v7 = 101ull - v4;
   v7 = (v7 < 2) ? v7 : 2ull;
   if (v7 == 0)
-    goto after_79;
+    goto after_77;
   move((frame + 160) + v4, CONSTANT(24798), v7);
-after_79:;
+after_77:;
   v4 = v7 + v4;
   store64(frame + 264, v4);
-after_77:;
+after_75:;
   switch (v3) {
   case 1:
-    goto after_80;
+    goto after_78;
   case 2:
-    goto after_81;
+    goto after_79;
   default:
-    goto after_82;
+    goto after_80;
   }
-after_82:;
+after_80:;
   der_view_line_Line_push_type(frame + 160, load64(p1 + 36));
   fill(frame + 464, 0, 96);
   der_view_facts_RowFacts_value(frame + 464, p1);
   if (load8(frame + 464) != 1u)
-    goto after_83;
+    goto after_81;
   v4 = load8(frame + 480);
   move(frame + 560, frame + 481, 79);
   switch ((uint32_t)v4) {
   case 1:
-    goto after_84;
+    goto after_82;
   case 2:
-    goto after_85;
+    goto after_83;
   case 3:
-    goto after_86;
+    goto after_84;
   case 4:
-    goto after_87;
+    goto after_85;
   case 5:
-    goto after_88;
+    goto after_86;
   case 6:
-    goto after_89;
+    goto after_87;
   default:
-    goto after_90;
+    goto after_88;
   }
-after_84:;
+after_82:;
   der_view_line_Line_push_number_of(frame + 160, load64(frame + 567), CONSTANT(25000), 5);
-  goto after_90;
-after_85:;
+  goto after_88;
+after_83:;
   der_view_line_Line_push_number_of(frame + 160, load64(frame + 567), CONSTANT(25000), 5);
   v4 = load8(frame + 575);
   if (v4 == 0)
-    goto after_90;
+    goto after_88;
   der_view_line_Line_push_number_of(frame + 160, v4, CONSTANT(33963), 11);
-  goto after_90;
-after_86:;
+  goto after_88;
+after_84:;
   store8(frame + 640, 32);
   v4 = load64(frame + 264);
   v8 = (frame + 160) + v4;
   v7 = (uint32_t)(v4 != 101);
   if ((v8 - (frame + 640)) >= v7)
-    goto after_91;
+    goto after_89;
   store8(v8, 32);
-  goto after_92;
-after_91:;
+  goto after_90;
+after_89:;
   if (v7 == 0)
-    goto after_92;
+    goto after_90;
   move(v8, frame + 640, v7);
-after_92:;
+after_90:;
   v8 = load64(frame + 607);
   v4 = v4 + v7;
   v7 = 101ull - v4;
   v7 = (v8 < v7) ? v8 : v7;
   if (v7 == 0)
-    goto after_93;
+    goto after_91;
   move((frame + 160) + v4, frame + 567, v7);
-after_93:;
+after_91:;
   store64(frame + 264, v7 + v4);
-  goto after_90;
-after_87:;
+  goto after_88;
+after_85:;
   store8(frame + 640, 32);
   v13 = load64(frame + 264);
   v4 = (frame + 160) + v13;
   v14 = (uint32_t)(v13 != 101);
   if ((v4 - (frame + 640)) >= v14)
-    goto after_94;
+    goto after_92;
   store8(v4, 32);
-  goto after_95;
-after_94:;
+  goto after_93;
+after_92:;
   if (v14 == 0)
-    goto after_95;
+    goto after_93;
   move(v4, frame + 640, v14);
-after_95:;
+after_93:;
   v4 = v13 + v14;
   v7 = 101ull - v4;
   v15 = (v7 < 19) ? v7 : 19ull;
   if (v15 == 0)
-    goto after_96;
+    goto after_94;
   move((frame + 160) + v4, frame + 560, v15);
-after_96:;
+after_94:;
   v16 = v15 + v4;
   store64(frame + 264, v16);
   v17 = (frame + 160) + v16;
@@ -21779,14 +22161,14 @@ after_96:;
   v7 = 101ull - v16;
   v18 = (v4 < v7) ? v4 : v7;
   if ((v17 - v12) >= v18)
-    goto after_97;
+    goto after_95;
   v10 = v18 & 3;
   v7 = 0;
   if (v18 < 4)
-    goto after_98;
+    goto after_96;
   v19 = v18 & 0xfffffffffffffffc;
   v7 = 0;
-again_99:;
+again_97:;
   v4 = v17 + v7;
   v8 = v12 + v7;
   store8(v4, (uint8_t)(uint32_t)load8(v8));
@@ -21795,60 +22177,60 @@ again_99:;
   store8(v4 + 3, (uint8_t)(uint32_t)load8(v8 + 3));
   v7 = v7 + 4;
   if (v19 != v7)
-    goto again_99;
+    goto again_97;
   if (v10 == 0)
-    goto after_100;
-after_98:;
+    goto after_98;
+after_96:;
   v4 = v12 + v7;
   v7 = (frame + 160) + (((v7 + v13) + v15) + v14);
-again_101:;
+again_99:;
   store8(v7, (uint8_t)(uint32_t)load8(v4));
   v7 = v7 + 1;
   v4 = v4 + 1;
   v10 = v10 + 0xffffffffffffffff;
   if (v10 != 0)
-    goto again_101;
-  goto after_100;
-after_97:;
+    goto again_99;
+  goto after_98;
+after_95:;
   if (v18 == 0)
-    goto after_100;
+    goto after_98;
   move(v17, v12, v18);
-after_100:;
+after_98:;
   store64(frame + 264, v18 + v16);
-  goto after_90;
-after_88:;
+  goto after_88;
+after_86:;
   if (load8(frame + 567))
-    goto after_102;
+    goto after_100;
   store8(frame + 640, 32);
   v4 = load64(frame + 264);
   v8 = (frame + 160) + v4;
   v7 = (uint32_t)(v4 != 101);
   if ((v8 - (frame + 640)) >= v7)
-    goto after_103;
+    goto after_101;
   store8(v8, 32);
-  goto after_104;
-after_103:;
+  goto after_102;
+after_101:;
   if (v7 == 0)
-    goto after_104;
+    goto after_102;
   move(v8, frame + 640, v7);
-after_104:;
+after_102:;
   store64(frame + 264, v4 + v7);
   der_view_line_Line_push_arcs(frame + 160, frame + 512);
-  goto after_90;
-after_102:;
+  goto after_88;
+after_100:;
   store8(frame + 640, 32);
   v13 = load64(frame + 264);
   v4 = (frame + 160) + v13;
   v14 = (uint32_t)(v13 != 101);
   if ((v4 - (frame + 640)) >= v14)
-    goto after_105;
+    goto after_103;
   store8(v4, 32);
-  goto after_106;
-after_105:;
+  goto after_104;
+after_103:;
   if (v14 == 0)
-    goto after_106;
+    goto after_104;
   move(v4, frame + 640, v14);
-after_106:;
+after_104:;
   v16 = v13 + v14;
   store64(frame + 264, v16);
   v17 = (frame + 160) + v16;
@@ -21857,14 +22239,14 @@ after_106:;
   v7 = 101ull - v16;
   v18 = (v4 < v7) ? v4 : v7;
   if ((v17 - v12) >= v18)
-    goto after_107;
+    goto after_105;
   v10 = v18 & 3;
   v7 = 0;
   if (v18 < 4)
-    goto after_108;
+    goto after_106;
   v19 = v18 & 0xfffffffffffffffc;
   v7 = 0;
-again_109:;
+again_107:;
   v4 = v17 + v7;
   v8 = v12 + v7;
   store8(v4, (uint8_t)(uint32_t)load8(v8));
@@ -21873,32 +22255,32 @@ again_109:;
   store8(v4 + 3, (uint8_t)(uint32_t)load8(v8 + 3));
   v7 = v7 + 4;
   if (v19 != v7)
-    goto again_109;
+    goto again_107;
   if (v10 == 0)
-    goto after_110;
-after_108:;
+    goto after_108;
+after_106:;
   v4 = v12 + v7;
   v7 = (frame + 160) + ((v7 + v13) + v14);
-again_111:;
+again_109:;
   store8(v7, (uint8_t)(uint32_t)load8(v4));
   v7 = v7 + 1;
   v4 = v4 + 1;
   v10 = v10 + 0xffffffffffffffff;
   if (v10 != 0)
-    goto again_111;
-  goto after_110;
-after_107:;
+    goto again_109;
+  goto after_108;
+after_105:;
   if (v18 == 0)
-    goto after_110;
+    goto after_108;
   move(v17, v12, v18);
-after_110:;
+after_108:;
   v4 = v18 + v16;
   v7 = 101ull - v4;
   v7 = (v7 < 2) ? v7 : 2ull;
   if (v7 == 0)
-    goto after_112;
+    goto after_110;
   move((frame + 160) + v4, CONSTANT(29875), v7);
-after_112:;
+after_110:;
   store64(frame + 264, v7 + v4);
   der_view_line_Line_push_arcs(frame + 160, frame + 512);
   store8(frame + 640, 41);
@@ -21906,24 +22288,24 @@ after_112:;
   v8 = (frame + 160) + v4;
   v7 = (uint32_t)(v4 != 101);
   if ((v8 - (frame + 640)) >= v7)
-    goto after_113;
+    goto after_111;
   store8(v8, 41);
-  goto after_114;
-after_113:;
+  goto after_112;
+after_111:;
   if (v7 == 0)
-    goto after_114;
+    goto after_112;
   move(v8, frame + 640, v7);
-after_114:;
+after_112:;
   store64(frame + 264, v4 + v7);
-  goto after_90;
-after_89:;
+  goto after_88;
+after_87:;
   v4 = load64(frame + 264);
   v7 = 101ull - v4;
   v7 = (v7 < 2) ? v7 : 2ull;
   if (v7 == 0)
-    goto after_115;
+    goto after_113;
   move((frame + 160) + v4, CONSTANT(33974), v7);
-after_115:;
+after_113:;
   v4 = v7 + v4;
   store64(frame + 264, v4);
   v7 = load8(frame + 567);
@@ -21931,40 +22313,40 @@ after_115:;
   store64(frame + 648, load64(frame + 496));
   store64(frame + 640, v7);
   if (v4 > 100)
-    goto after_116;
-again_125:;
+    goto after_114;
+again_123:;
   der_view_characters_Characters_next_character(frame + 152, frame + 640);
   if (load8(frame + 152) != 1u)
-    goto after_116;
+    goto after_114;
   v3 = load32(frame + 156);
   store16(frame + 668, 92);
   if (v3 == 92u)
-    goto after_117;
+    goto after_115;
   if (v3 != 34u)
-    goto after_118;
-after_117:;
+    goto after_116;
+after_115:;
   store8(frame + 669, (uint8_t)v3);
   v7 = 101ull - v4;
   v7 = (v7 < 2) ? v7 : 2ull;
   if (v7 == 0)
-    goto after_119;
+    goto after_117;
   move((frame + 160) + v4, frame + 668, v7);
-after_119:;
+after_117:;
   v4 = v7 + v4;
-  goto after_120;
-after_118:;
+  goto after_118;
+after_116:;
   if ((v3 + 0xffffffe0u) > 94u)
-    goto after_121;
+    goto after_119;
   store8((frame + 160) + v4, (uint8_t)v3);
   v4 = v4 + 1;
-  goto after_120;
-after_121:;
+  goto after_118;
+after_119:;
   v7 = 101ull - v4;
   v7 = (v7 < 3) ? v7 : 3ull;
   if (v7 == 0)
-    goto after_122;
+    goto after_120;
   move((frame + 160) + v4, CONSTANT(33976), v7);
-after_122:;
+after_120:;
   store64(frame + 264, v7 + v4);
   der_view_line_Line_push_code(frame + 160, v3);
   store8(frame + 671, 125);
@@ -21972,72 +22354,72 @@ after_122:;
   v8 = (frame + 160) + v4;
   v7 = (uint32_t)(v4 != 101);
   if ((v8 - (frame + 671)) >= v7)
-    goto after_123;
+    goto after_121;
   store8(v8, 125);
-  goto after_124;
-after_123:;
+  goto after_122;
+after_121:;
   if (v7 == 0)
-    goto after_124;
+    goto after_122;
   move(v8, frame + 671, v7);
-after_124:;
+after_122:;
   v4 = v4 + v7;
-after_120:;
+after_118:;
   store64(frame + 264, v4);
   if (v4 < 101)
-    goto again_125;
-after_116:;
+    goto again_123;
+after_114:;
   store8(frame + 640, 34);
   v8 = (frame + 160) + v4;
   v7 = (uint32_t)(v4 != 101);
   if ((v8 - (frame + 640)) >= v7)
-    goto after_126;
+    goto after_124;
   store8(v8, 34);
-  goto after_127;
-after_126:;
+  goto after_125;
+after_124:;
   if (v7 == 0)
-    goto after_127;
+    goto after_125;
   move(v8, frame + 640, v7);
-after_127:;
+after_125:;
   store64(frame + 264, v4 + v7);
-  goto after_90;
-after_83:;
+  goto after_88;
+after_81:;
   v4 = load64(p1 + ((load8(p1 + 64) == 1u) ? 72ull : 80ull));
   if (load8(p1 + 32))
-    goto after_128;
+    goto after_126;
   if ((load64(p1 + 36) & 0xffffffff000000ff) != 0x300000000)
-    goto after_128;
+    goto after_126;
   v4 = v4 - (uint64_t)(uint32_t)(v4 != 0);
-after_128:;
+after_126:;
   switch ((uint32_t)(uint64_t)load8(p1 + 112)) {
   case 2:
-    goto after_129;
+    goto after_127;
   case 1: case 3: case 4:
-    goto after_130;
+    goto after_128;
   default:
-    goto after_90;
+    goto after_88;
   }
-after_129:;
+after_127:;
   v3 = load8(p1 + 113);
   der_view_line_Line_push_number_of(frame + 160, v4, CONSTANT(25000), 5);
   if (v4 == 0)
-    goto after_90;
+    goto after_88;
   if ((v3 & 0xffu) > 7u)
-    goto after_90;
+    goto after_88;
   der_view_line_Line_push_number_of(frame + 160, (uint64_t)v3 & 0xff, CONSTANT(33963), 11);
-  goto after_90;
-after_130:;
+  goto after_88;
+after_128:;
   der_view_line_Line_push_number_of(frame + 160, v4, CONSTANT(25000), 5);
-  goto after_90;
-after_80:;
+  goto after_88;
+after_78:;
   v7 = 101ull - v4;
   v7 = (v7 < 15) ? v7 : 15ull;
   if (v7 == 0)
-    goto after_131;
+    goto after_129;
   move((frame + 160) + v4, CONSTANT(33827), v7);
-after_131:;
+after_129:;
   store64(frame + 264, v7 + v4);
-  goto after_90;
-after_81:;
+  goto after_88;
+after_79:;
   v7 = load64(p1 + 80);
   store64(frame + 496, 0);
   store64(frame + 488, 0);
@@ -22050,83 +22432,83 @@ after_81:;
   v10 = 101ull - v4;
   v8 = (v8 < v10) ? v8 : v10;
   if (v8 == 0)
-    goto after_132;
+    goto after_130;
   move((frame + 160) + v4, (frame + 464) + v12, v8);
-after_132:;
+after_130:;
   v3 = (uint32_t)(v7 == 1);
   v7 = v3 ? 5ull : 6ull;
   v4 = v8 + v4;
   v8 = 101ull - v4;
   v7 = (v7 < v8) ? v7 : v8;
   if (v7 == 0)
-    goto after_133;
+    goto after_131;
   move((frame + 160) + v4, v3 ? CONSTANT(25000) : CONSTANT(25005), v7);
-after_133:;
+after_131:;
   v4 = v7 + v4;
   v7 = 101ull - v4;
   v7 = (v7 < 10) ? v7 : 10ull;
   if (v7 == 0)
-    goto after_134;
+    goto after_132;
   move((frame + 160) + v4, CONSTANT(33953), v7);
-after_134:;
+after_132:;
   store64(frame + 264, v7 + v4);
-after_90:;
+after_88:;
   fill(frame + 672, 0, 112);
   switch ((uint32_t)(uint64_t)load8(p1 + 112)) {
   case 3:
-    goto after_135;
+    goto after_133;
   case 2:
-    goto after_136;
+    goto after_134;
   default:
-    goto after_137;
+    goto after_135;
   }
-after_135:;
+after_133:;
   der_view_line_Line_push_point(frame + 672, load8(p1 + 120), load64(p1 + 128));
   v4 = load64(frame + 776);
-  goto after_138;
-after_137:;
+  goto after_136;
+after_135:;
   v7 = (uint64_t)load8(p1 + 104) << 4;
   v4 = load64(CONSTANT(30032) + v7);
   v4 = (v4 < 101) ? v4 : 101ull;
   if (v4 == 0)
-    goto after_139;
+    goto after_137;
   move(frame + 672, load64(CONSTANT(30024) + v7), v4);
-after_139:;
+after_137:;
   v7 = 101ull - v4;
   v3 = load8(p1 + 105);
   v7 = v3 ? ((v7 < 11) ? v7 : 11ull) : 0ull;
   if (v7 == 0)
-    goto after_140;
+    goto after_138;
   move((frame + 672) + v4, v3 ? CONSTANT(33980) : CONSTANT(0), v7);
-after_140:;
+after_138:;
   v4 = v7 + v4;
   store64(frame + 776, v4);
-after_138:;
+after_136:;
   if (v4 == 0)
-    goto after_136;
+    goto after_134;
   v7 = load64(frame + 264);
   v9 = v9 + 29;
   v8 = v9 - v7;
   v9 = (v8 > v9) ? 0ull : v8;
   v9 = (v9 > 2) ? v9 : 2ull;
   if (((v7 + v4) + v9) > 100)
-    goto after_136;
+    goto after_134;
   v8 = 101ull - v7;
   v9 = (v9 < v8) ? v9 : v8;
   v9 = (v9 < 101) ? v9 : 101ull;
   if (v9 == 0)
-    goto after_141;
+    goto after_139;
   fill((frame + 160) + v7, 32, v9);
-after_141:;
+after_139:;
   v7 = v9 + v7;
   v9 = 101ull - v7;
   v4 = (v4 < v9) ? v4 : v9;
   if (v4 == 0)
-    goto after_142;
+    goto after_140;
   move((frame + 160) + v7, frame + 672, v4);
-after_142:;
+after_140:;
   store64(frame + 264, v4 + v7);
-after_136:;
+after_134:;
   move(frame + 352, frame + 160, 112);
   v8 = load64(frame + 456);
   fill(frame + 160, 0, 112);
@@ -22135,48 +22517,48 @@ after_136:;
   v7 = load64(v5 + 8);
   v9 = load64(v5 + 16);
   if (v7 < v9)
-    goto after_143;
+    goto after_141;
   if (v4 > (v7 - v9))
-    goto after_143;
+    goto after_141;
   if (v4 == 0)
-    goto after_144;
+    goto after_142;
   move(load64(v5) + v9, frame + 160, v4);
-after_144:;
+after_142:;
   v4 = v9 + v4;
   v7 = load64(v5 + 8);
-  goto after_145;
-after_143:;
+  goto after_143;
+after_141:;
   v9 = v4 + v9;
   v4 = (v9 < v4) ? 0xffffffffffffffffull : v9;
-after_145:;
+after_143:;
   if (v7 <= v4)
-    goto after_146;
+    goto after_144;
   store8(load64(v5) + v4, 10);
   v4 = v4 + 1;
-  goto after_147;
-after_146:;
+  goto after_145;
+after_144:;
   v4 = v4 + 1;
   v4 = (v4 == 0) ? 0xffffffffffffffffull : v4;
-after_147:;
+after_145:;
   store64(v5 + 16, v4);
   fill(frame + 160, 0, 96);
   der_view_facts_RowFacts_value(frame + 160, p1);
   if (load8(frame + 160) == 0u)
-    goto after_148;
+    goto after_146;
   if (v8 > 100)
-    goto after_148;
+    goto after_146;
   if ((((uint32_t)load8(frame + 176) + 0xfffffffdu) & 0xffu) < 254u)
-    goto after_149;
-after_148:;
+    goto after_147;
+after_146:;
   v19 = load64(p1 + 368);
   if (v19 == 0)
-    goto after_149;
+    goto after_147;
   v12 = 0;
   v16 = (v19 >> 4) + (uint64_t)(uint32_t)((v19 & 0xf) != 0);
   v13 = load64(p1 + 360);
   v18 = frame + 184;
   v17 = 0;
-again_160:;
+again_158:;
   fill(v18, 0, 80);
   store8(frame + 184, 32);
   store64(frame + 176, 0x2020202020202020);
@@ -22185,24 +22567,24 @@ again_160:;
   v4 = 25;
   store64(frame + 264, 25);
   if (v19 <= (v17 << 4))
-    goto after_150;
+    goto after_148;
   v7 = (v19 < v12) ? v19 : v12;
   v9 = v19 - v7;
   v8 = (v9 < 16) ? v9 : 16ull;
   v7 = v13 + v7;
-again_154:;
+again_152:;
   store8(frame + 464, 32);
   v10 = (frame + 160) + v4;
   v9 = (uint32_t)(v4 != 101);
   if ((v10 - (frame + 464)) >= v9)
-    goto after_151;
+    goto after_149;
   store8(v10, 32);
-  goto after_152;
-after_151:;
+  goto after_150;
+after_149:;
   if (v9 == 0)
-    goto after_152;
+    goto after_150;
   move(v10, frame + 464, v9);
-after_152:;
+after_150:;
   v10 = load8(v7);
   store8(frame + 465, (uint8_t)(uint32_t)load8(CONSTANT(28246) + (v10 & 0xf)));
   store8(frame + 464, (uint8_t)(uint32_t)load8(CONSTANT(28246) + (v10 >> 4)));
@@ -22210,16 +22592,16 @@ after_152:;
   v9 = 101ull - v4;
   v9 = (v9 < 2) ? v9 : 2ull;
   if (v9 == 0)
-    goto after_153;
+    goto after_151;
   move((frame + 160) + v4, frame + 464, v9);
-after_153:;
+after_151:;
   v4 = v9 + v4;
   store64(frame + 264, v4);
   v7 = v7 + 1;
   v8 = v8 + 0xffffffffffffffff;
   if (v8 != 0)
-    goto again_154;
-after_150:;
+    goto again_152;
+after_148:;
   move(frame + 672, frame + 160, 112);
   fill(frame + 160, 0, 112);
   der_view_line_Line_finish(frame + 160, frame + 672);
@@ -22227,104 +22609,104 @@ after_150:;
   v7 = load64(v5 + 8);
   v9 = load64(v5 + 16);
   if (v7 < v9)
-    goto after_155;
+    goto after_153;
   if (v4 > (v7 - v9))
-    goto after_155;
+    goto after_153;
   if (v4 == 0)
-    goto after_156;
+    goto after_154;
   move(load64(v5) + v9, frame + 160, v4);
-after_156:;
+after_154:;
   v4 = v9 + v4;
   v7 = load64(v5 + 8);
-  goto after_157;
-after_155:;
+  goto after_155;
+after_153:;
   v9 = v4 + v9;
   v4 = (v9 < v4) ? 0xffffffffffffffffull : v9;
-after_157:;
+after_155:;
   if (v7 <= v4)
-    goto after_158;
+    goto after_156;
   store8(load64(v5) + v4, 10);
   v4 = v4 + 1;
-  goto after_159;
-after_158:;
+  goto after_157;
+after_156:;
   v4 = v4 + 1;
   v4 = (v4 == 0) ? 0xffffffffffffffffull : v4;
-after_159:;
+after_157:;
   store64(v5 + 16, v4);
   v12 = v12 + 16;
   v17 = v17 + 1;
   if (v17 != v16)
-    goto again_160;
-after_149:;
+    goto again_158;
+after_147:;
   der_view_printer_write_marks(frame + 144, v5, p1 + 152, 6, load64(p1 + 344), load64(p1 + 352));
   v6 = load8(frame + 145);
   v3 = load8(frame + 144);
-  goto after_8;
-after_19:;
+  goto after_6;
+after_17:;
   v6 = load8(frame + 97);
   v3 = 1;
-  goto after_8;
-after_25:;
+  goto after_6;
+after_23:;
   v6 = load8(frame + 89);
   v3 = 1;
-  goto after_8;
-after_52:;
+  goto after_6;
+after_50:;
   v6 = load8(frame + 41);
   v3 = 1;
-  goto after_8;
-after_55:;
+  goto after_6;
+after_53:;
   v6 = load8(frame + 25);
   v3 = 1;
-  goto after_8;
-after_56:;
+  goto after_6;
+after_54:;
   v6 = load8(frame + 17);
   v3 = 1;
-  goto after_8;
-after_8:;
+  goto after_6;
+after_6:;
   if ((v3 & 0xffu) != 1u)
-    goto after_3;
-  store8(p0 + 65, (uint8_t)v6);
-  store8(p0 + 64, 1);
-after_3:;
+    goto after_1;
+  store8(p0 + 49, (uint8_t)v6);
+  store8(p0 + 48, 1);
+after_1:;
 }
 
 /* der_view::walk::draw_step::<#927bfe390f535f75> */
-static void der_view_walk_draw_step_6(uint64_t p0, uint64_t p1, uint64_t p2, uint64_t p3,
+static void der_view_walk_draw_step_7(uint64_t p0, uint64_t p1, uint64_t p2, uint64_t p3,
     uint64_t p4, uint64_t p5, uint64_t p6)
 {
-  FRAME(1184)
+  FRAME(816)
   uint32_t v8 = 0, v12 = 0, v13 = 0, v14 = 0, v17 = 0, v18 = 0, t0;
   uint64_t v9 = 0, v10 = 0, v11 = 0, v15 = 0, v16 = 0, v19 = 0, v20 = 0, v21 = 0, v22 = 0,
       v23 = 0, v24 = 0, v25 = 0, v26 = 0, v27 = 0, v28 = 0, v29 = 0, t1, t2;
-  store32(frame + 176, load32(p4 + 25));
-  store32(frame + 179, load32(p4 + 28));
+  store32(frame + 184, load32(p4 + 25));
+  store32(frame + 187, load32(p4 + 28));
   v8 = load8(p4 + 24);
   v9 = load64(p4 + 16);
   v10 = load64(p4 + 8);
   p4 = load64(p4);
   v11 = 0;
+  store64(frame + 200, 0);
   store64(frame + 192, 0);
-  store64(frame + 184, 0);
   v12 = 0;
-  store32(frame + 168, 0);
-  store32(frame + 171, 0);
-  store64(frame + 128, 0);
+  store32(frame + 176, 0);
+  store32(frame + 179, 0);
   store64(frame + 136, 0);
   store64(frame + 144, 0);
   store64(frame + 152, 0);
   store64(frame + 160, 0);
-  store64(frame + 104, 0);
+  store64(frame + 168, 0);
   store64(frame + 112, 0);
   store64(frame + 120, 0);
-  store64(frame + 80, 0);
+  store64(frame + 128, 0);
   store64(frame + 88, 0);
   store64(frame + 96, 0);
+  store64(frame + 104, 0);
+  store64(frame + 80, 0);
   store64(frame + 72, 0);
   store64(frame + 64, 0);
   store64(frame + 56, 0);
   store64(frame + 48, 0);
   store64(frame + 40, 0);
-  store64(frame + 32, 0);
   v13 = 1;
   v14 = v8 & 1u;
   v15 = v10 + 1;
@@ -22349,30 +22731,30 @@ after_2:;
   v20 = load64(p6 + 96);
   v12 = load8(p6 + 59);
   v17 = 0;
-  store32(frame + 401, 0);
-  store8(frame + 400, (uint8_t)v14);
-  store64(frame + 392, v9);
-  store64(frame + 384, v15);
-  store64(frame + 376, v16);
-  store32(frame + 404, 0);
+  store32(frame + 233, 0);
+  store8(frame + 232, (uint8_t)v14);
+  store64(frame + 224, v9);
+  store64(frame + 216, v15);
+  store64(frame + 208, v16);
+  store32(frame + 236, 0);
   v11 = 0;
-  store64(frame + 776, 0);
-  store64(frame + 200, 0);
-  store64(frame + 336, 0);
+  store64(frame + 408, 0);
   store64(frame + 344, 0);
-  store64(frame + 352, 0);
-  der_view_grammar_Structure_components(frame + 16, v12);
-  store64(frame + 808, v20);
-  store64(frame + 800, v19);
-  store16(frame + 776, 256);
-  store8(frame + 200, 0);
-  store64(frame + 792, load64(frame + 24));
-  store64(frame + 784, load64(frame + 16));
-  store64(frame + 208, load64(p2 + 8));
-  store64(frame + 216, load64(p2 + 16));
-  store8(frame + 201, (uint8_t)(uint32_t)load8(p2 + 1));
-  der_view_walk_walk_6(frame + 336, p1, frame + 200, p3, frame + 376, frame + 776);
-  v13 = (uint32_t)(load8(frame + 336) == 1u);
+  store64(frame + 784, 0);
+  store64(frame + 792, 0);
+  store64(frame + 800, 0);
+  der_view_grammar_Structure_components(frame + 24, v12);
+  store64(frame + 440, v20);
+  store64(frame + 432, v19);
+  store16(frame + 408, 256);
+  store8(frame + 344, 0);
+  store64(frame + 424, load64(frame + 32));
+  store64(frame + 416, load64(frame + 24));
+  store64(frame + 352, load64(p2 + 8));
+  store64(frame + 360, load64(p2 + 16));
+  store8(frame + 345, (uint8_t)(uint32_t)load8(p2 + 1));
+  der_view_walk_walk_7(frame + 784, p1, frame + 344, p3, frame + 208, frame + 408);
+  v13 = (uint32_t)(load8(frame + 784) == 1u);
   v12 = v13 ? v12 : 0u;
   goto after_5;
 after_3:;
@@ -22391,13 +22773,13 @@ after_3:;
 after_8:;
   v12 = load8(p6 + 59);
   v17 = 0;
-  store32(frame + 801, 0);
-  store8(frame + 800, (uint8_t)v14);
-  store64(frame + 792, v9);
-  store64(frame + 784, v15);
-  store64(frame + 776, v16);
-  store32(frame + 804, 0);
-  t0 = der_view_walk_follows_6(p1, p2, p3, frame + 776, v12, v20 + 1, v19);
+  store32(frame + 433, 0);
+  store8(frame + 432, (uint8_t)v14);
+  store64(frame + 424, v9);
+  store64(frame + 416, v15);
+  store64(frame + 408, v16);
+  store32(frame + 436, 0);
+  t0 = der_view_walk_follows_7(p1, p2, p3, frame + 408, v12, v20 + 1, v19);
   v13 = t0;
   v12 = v13 ? v12 : 0u;
   v11 = v13;
@@ -22422,18 +22804,18 @@ after_6:;
   v13 = 0;
   v17 = 0;
 after_5:;
-  v19 = (frame + 200) + 56;
+  v19 = (frame + 208) + 56;
   fill(v19, 0, 80);
   if (load8(p5 + 1))
     goto after_10;
-  store64(frame + 368, load64(p6 + 32));
-  store64(frame + 360, load64(p6 + 24));
-  store64(frame + 352, load64(p6 + 16));
-  store64(frame + 344, load64(p6 + 8));
-  store64(frame + 336, load64(p6));
+  store64(frame + 376, load64(p6 + 32));
+  store64(frame + 368, load64(p6 + 24));
+  store64(frame + 360, load64(p6 + 16));
+  store64(frame + 352, load64(p6 + 8));
+  store64(frame + 344, load64(p6));
   v21 = load64(p6 + 88);
   v20 = load64(p6 + 96);
-  t1 = der_view_content_shown_len(load8(p2 + 1), frame + 336, load8(p6 + 58), load8(p6 + 59),
+  t1 = der_view_content_shown_len(load8(p2 + 1), frame + 344, load8(p6 + 58), load8(p6 + 59),
       v21, v20);
   v22 = t1;
   v23 = CONSTANT(0);
@@ -22448,11 +22830,11 @@ after_5:;
 after_11:;
   v27 = p6 + 40;
   v28 = p6 + 56;
-  v29 = (load8(frame + 360) == 1u) ? v20 : 0ull;
+  v29 = (load8(frame + 368) == 1u) ? v20 : 0ull;
   if (v13)
     goto after_12;
   v23 = load64(p2 + 16);
-  v24 = load64(frame + 352) + p4;
+  v24 = load64(frame + 360) + p4;
   t2 = v23;
   v23 = (v23 < v24) ? v23 : v24;
   v24 = t2 - v23;
@@ -22461,66 +22843,65 @@ after_11:;
 after_12:;
   store32(v19, load32(v28));
   store8(v19 + 4, (uint8_t)(uint32_t)load8(v28 + 4));
-  store64(frame + 232, load64(p6 + 32));
-  store64(frame + 224, load64(p6 + 24));
-  store64(frame + 216, load64(p6 + 16));
-  store64(frame + 208, load64(p6 + 8));
-  store64(frame + 200, load64(p6));
-  store64(frame + 240, load64(v27));
-  store64(frame + 248, load64(v27 + 8));
-  store8(frame + 328, (uint8_t)v13);
-  store64(frame + 320, v24);
-  store64(frame + 312, v23);
-  store64(frame + 304, v22);
-  store64(frame + 296, v21);
-  store64(frame + 288, v29);
-  store8(frame + 280, (uint8_t)v18);
-  store64(frame + 272, v25);
-  store64(frame + 264, v26);
-  store8(frame + 1176, (uint8_t)v8);
-  store64(frame + 1168, v9);
-  store64(frame + 1160, v10);
-  store64(frame + 1152, p4);
-  store32(frame + 1177, load32(frame + 176));
-  store32(frame + 1180, load32(frame + 179));
-  fill(frame + 776, 0, 376);
-  store64(frame + 768, load64(p1 + 24));
-  store64(frame + 760, load64(p1 + 16));
-  store64(frame + 752, load64(p1 + 8));
-  der_view_facts_RowFacts_of_element(frame + 776, frame + 752, load8(p1 + 32), frame + 1152,
-      frame + 200);
-  move(frame + 376, frame + 776, 376);
-  der_view_printer_Printer_tell(p1, frame + 376);
+  store64(frame + 240, load64(p6 + 32));
+  store64(frame + 232, load64(p6 + 24));
+  store64(frame + 224, load64(p6 + 16));
+  store64(frame + 216, load64(p6 + 8));
+  store64(frame + 208, load64(p6));
+  store64(frame + 248, load64(v27));
+  store64(frame + 256, load64(v27 + 8));
+  store8(frame + 336, (uint8_t)v13);
+  store64(frame + 328, v24);
+  store64(frame + 320, v23);
+  store64(frame + 312, v22);
+  store64(frame + 304, v21);
+  store64(frame + 296, v29);
+  store8(frame + 288, (uint8_t)v18);
+  store64(frame + 280, v25);
+  store64(frame + 272, v26);
+  store8(frame + 808, (uint8_t)v8);
+  store64(frame + 800, v9);
+  store64(frame + 792, v10);
+  store64(frame + 784, p4);
+  store32(frame + 809, load32(frame + 184));
+  store32(frame + 812, load32(frame + 187));
+  fill(frame + 408, 0, 376);
+  store64(frame + 400, load64(p1 + 24));
+  store64(frame + 392, load64(p1 + 16));
+  store64(frame + 384, load64(p1 + 8));
+  der_view_facts_RowFacts_of_element(frame + 408, frame + 384, load8(p1 + 32), frame + 784,
+      frame + 208);
+  der_view_printer_Printer_tell(p1, frame + 408);
 after_10:;
   if (v13 == 0u)
     goto after_13;
   v13 = load8(p6 + 24);
   v8 = load8(p5 + 1);
-  der_view_grammar_Structure_components(frame, v12);
-  store8(frame + 129, (uint8_t)v8);
+  der_view_grammar_Structure_components(frame + 8, v12);
+  store8(frame + 137, (uint8_t)v8);
   v13 = (uint32_t)(v13 != 1u);
-  store8(frame + 128, (uint8_t)v13);
-  store8(frame + 104, (uint8_t)v17);
-  store64(frame + 48, v11 + v16);
-  store64(frame + 56, v15);
-  store64(frame + 64, v9);
-  store8(frame + 72, (uint8_t)v14);
+  store8(frame + 136, (uint8_t)v13);
+  store8(frame + 112, (uint8_t)v17);
+  store64(frame + 56, v11 + v16);
+  store64(frame + 64, v15);
+  store64(frame + 72, v9);
+  store8(frame + 80, (uint8_t)v14);
+  store64(frame + 152, load64(frame + 16));
   store64(frame + 144, load64(frame + 8));
-  store64(frame + 136, load64(frame));
-  store8(frame + 105, (uint8_t)(uint32_t)load8(p2 + 1));
-  store64(frame + 112, load64(p2 + 8));
-  store64(frame + 120, load64(p2 + 16));
-  store64(frame + 160, load64(p6 + 96) - v11);
-  store64(frame + 152, load64(p6 + 88) + v11);
-  store32(frame + 76, load32(frame + 171));
-  store32(frame + 73, load32(frame + 168));
-  der_view_walk_walk_6(frame + 80, p1, frame + 104, p3, frame + 48, frame + 128);
-  if (load8(frame + 80) != 1u)
+  store8(frame + 113, (uint8_t)(uint32_t)load8(p2 + 1));
+  store64(frame + 120, load64(p2 + 8));
+  store64(frame + 128, load64(p2 + 16));
+  store64(frame + 168, load64(p6 + 96) - v11);
+  store64(frame + 160, load64(p6 + 88) + v11);
+  store32(frame + 84, load32(frame + 179));
+  store32(frame + 81, load32(frame + 176));
+  der_view_walk_walk_7(frame + 88, p1, frame + 112, p3, frame + 56, frame + 136);
+  if (load8(frame + 88) != 1u)
     goto after_14;
   if (v13 == 0u)
     goto after_15;
+  store64(frame + 48, load64(frame + 104));
   store64(frame + 40, load64(frame + 96));
-  store64(frame + 32, load64(frame + 88));
   goto after_16;
 after_13:;
   p4 = load64(p6 + 112);
@@ -22528,8 +22909,8 @@ after_13:;
   store64(p0, 1);
   store64(p0 + 8, p6);
   store64(p0 + 16, p4);
-  store64(frame + 192, p4);
-  store64(frame + 184, p6);
+  store64(frame + 200, p4);
+  store64(frame + 192, p6);
   goto after_17;
 after_14:;
   store64(p0 + 16, 0);
@@ -22537,12 +22918,12 @@ after_14:;
   store64(p0, 0);
   goto after_17;
 after_15:;
-  store64(frame + 40, load64(p6 + 112));
-  store64(frame + 32, load64(p6 + 104));
+  store64(frame + 48, load64(p6 + 112));
+  store64(frame + 40, load64(p6 + 104));
 after_16:;
   store64(p0, 1);
-  store64(p0 + 8, load64(frame + 32));
-  store64(p0 + 16, load64(frame + 40));
+  store64(p0 + 8, load64(frame + 40));
+  store64(p0 + 16, load64(frame + 48));
 after_17:;
 }
 
@@ -26337,7 +26718,7 @@ after_5:;
 }
 
 /* der_view::walk::walk::<#927bfe390f535f75> */
-static void der_view_walk_walk_6(uint64_t p0, uint64_t p1, uint64_t p2, uint64_t p3,
+static void der_view_walk_walk_7(uint64_t p0, uint64_t p1, uint64_t p2, uint64_t p3,
     uint64_t p4, uint64_t p5)
 {
   FRAME(592)
@@ -26447,7 +26828,7 @@ after_5:;
   if (v15 != 1u)
     goto after_2;
   p3 = p3 + 0xffffffffffffffff;
-  der_view_walk_draw_step_6(frame, p1, p2, p3, frame + 184, frame + 144, frame + 24);
+  der_view_walk_draw_step_7(frame, p1, p2, p3, frame + 184, frame + 144, frame + 24);
   if (load8(frame) != 1u)
     goto after_14;
   store64(v12, load64(v13));
@@ -26693,6 +27074,287 @@ after_16:;
 }
 
 /* der_view::walk::follows::<#927bfe390f535f75> */
+static uint32_t der_view_walk_follows_7(uint64_t p0, uint64_t p1, uint64_t p2, uint64_t p3,
+    uint32_t p4, uint64_t p5, uint64_t p6)
+{
+  FRAME(144)
+  store64(frame + 136, load64(p3 + 24));
+  store64(frame + 128, load64(p3 + 16));
+  store64(frame + 120, load64(p3 + 8));
+  store64(frame + 112, load64(p3));
+  store64(frame + 48, 0);
+  store64(frame + 72, 0);
+  store64(frame + 24, 0);
+  store64(frame + 32, 0);
+  store64(frame + 40, 0);
+  der_view_grammar_Structure_components(frame + 8, p4);
+  store64(frame + 104, p6);
+  store64(frame + 96, p5);
+  store16(frame + 72, 256);
+  store8(frame + 48, 0);
+  store64(frame + 88, load64(frame + 16));
+  store64(frame + 80, load64(frame + 8));
+  store64(frame + 56, load64(p1 + 8));
+  store64(frame + 64, load64(p1 + 16));
+  store8(frame + 49, (uint8_t)(uint32_t)load8(p1 + 1));
+  der_view_walk_walk_7(frame + 24, p0, frame + 48, p2, frame + 112, frame + 72);
+  p4 = load8(frame + 24);
+  return (uint32_t)(p4 == 1u);
+}
+
+/* der_view::walk::walk::<#058ff82db2a1a4d6> */
+static void der_view_walk_walk_6(uint64_t p0, uint64_t p1, uint64_t p2, uint64_t p3,
+    uint64_t p4, uint64_t p5)
+{
+  FRAME(352)
+  uint32_t v8 = 0, v9 = 0, v15 = 0, v19 = 0, v20 = 0, t0, t1;
+  uint64_t v7 = 0, v10 = 0, v11 = 0, v12 = 0, v13 = 0, v14 = 0, v16 = 0, v17 = 0, v18 = 0;
+  store64(frame + 24, 0);
+  store64(frame + 16, 0);
+  store64(frame + 8, 0);
+  store64(frame + 192, load64(p4));
+  store64(frame + 200, load64(p4 + 8));
+  store64(frame + 208, load64(p4 + 16));
+  store64(frame + 216, load64(p4 + 24));
+  store64(frame + 152, load64(p5));
+  store64(frame + 160, load64(p5 + 8));
+  store64(frame + 168, load64(p5 + 16));
+  store64(frame + 176, load64(p5 + 24));
+  store64(frame + 184, load64(p5 + 32));
+  v7 = load64(frame + 192);
+  if (p3 == 0)
+    goto after_1;
+  v8 = load8(frame + 152);
+  v9 = v8 ^ 1u;
+  p4 = load64(frame + 184);
+  v10 = load64(frame + 200);
+  if (v10 > 63)
+    goto after_2;
+  v11 = (frame + 224) + 8;
+  v12 = (frame + 152) + 8;
+  v13 = frame + 96;
+  v14 = load64(frame + 176);
+again_16:;
+  v15 = load8(p2);
+  v16 = load64(frame + 168);
+  v17 = load64(frame + 160);
+  if (p4 > 1)
+    goto after_3;
+  switch ((uint32_t)p4) {
+  case 1:
+    goto after_4;
+  default:
+    goto after_5;
+  }
+after_5:;
+  if (((v8 | v15) & 0xffu) == 0u)
+    goto after_6;
+  v18 = 0;
+  v19 = v15;
+  goto after_7;
+after_6:;
+  if (v16 == 0)
+    goto after_8;
+  p5 = v17 + 1;
+  v18 = v16;
+again_10:;
+  if (load8(p5) == 0u)
+    goto after_4;
+  p5 = p5 + 5;
+  v18 = v18 + 0xffffffffffffffff;
+  if (v18 == 0)
+    goto after_9;
+  goto again_10;
+after_3:;
+  if (load8(v14))
+    goto after_4;
+  v19 = (uint32_t)(load8(v14 + 1) != 0u) | v9;
+  v20 = v19 & 1u;
+  v18 = v20 ? 0ull : 2ull;
+  v19 = v19 ^ 1u;
+  if (v20)
+    goto after_7;
+  if (v15 & 1u)
+    goto after_7;
+  if (v16 != 0)
+    goto after_11;
+  v18 = 2;
+  goto after_12;
+after_11:;
+  p5 = v17 + 1;
+  v18 = v16;
+again_13:;
+  if (load8(p5) == 0u)
+    goto after_4;
+  p5 = p5 + 5;
+  v18 = v18 + 0xffffffffffffffff;
+  if (v18 != 0)
+    goto again_13;
+  v18 = 2;
+  goto after_14;
+after_7:;
+  if (v19 & 1u)
+    goto after_14;
+after_4:;
+  fill(frame + 224, 0, 128);
+  v15 = v15 & 1u;
+  der_view_step_step_by(frame + 224, v15, v15, v17, v16, v14, p4);
+  v15 = load8(frame + 224);
+  move(frame + 32, v11, 120);
+  if (v15 != 1u)
+    goto after_1;
+  p3 = p3 + 0xffffffffffffffff;
+  der_view_walk_draw_step_6(frame + 8, p1, p2, p3, frame + 192, frame + 152, frame + 32);
+  if (load8(frame + 8) != 1u)
+    goto after_15;
+  store64(v12, load64(v13));
+  store64(v12 + 8, load64(v13 + 8));
+  p5 = load64(frame + 24);
+  store64(frame + 184, p5);
+  v14 = load64(frame + 16);
+  store64(frame + 176, v14);
+  v7 = (p4 - p5) + v7;
+  store64(frame + 192, v7);
+  p4 = p5;
+  if (p3 != 0)
+    goto again_16;
+  goto after_1;
+after_15:;
+  store64(p0 + 16, 0);
+  store64(p0 + 8, 0);
+  store64(p0, 0);
+  goto after_17;
+after_2:;
+  v15 = load8(p2);
+  v14 = load64(frame + 176);
+  v16 = load64(frame + 168);
+  v17 = load64(frame + 160);
+  if (p4 > 1)
+    goto after_18;
+  switch ((uint32_t)p4) {
+  case 1:
+    goto after_1;
+  default:
+    goto after_19;
+  }
+after_19:;
+  if (((v8 | v15) & 0xffu) == 0u)
+    goto after_20;
+  v18 = 0;
+  v8 = v15;
+  goto after_21;
+after_20:;
+  if (v16 != 0)
+    goto after_22;
+after_8:;
+  v18 = 0;
+  p4 = 0;
+  goto after_12;
+after_22:;
+  p5 = v17 + 1;
+  p4 = v16;
+again_23:;
+  if (load8(p5) == 0u)
+    goto after_1;
+  p5 = p5 + 5;
+  p4 = p4 + 0xffffffffffffffff;
+  if (p4 != 0)
+    goto again_23;
+after_9:;
+  p4 = 0;
+  v18 = 0;
+  goto after_14;
+after_18:;
+  if (load8(v14))
+    goto after_1;
+  v8 = (uint32_t)(load8(v14 + 1) != 0u) | v9;
+  v19 = v8 & 1u;
+  v18 = v19 ? 0ull : 2ull;
+  v8 = v8 ^ 1u;
+  if (v19)
+    goto after_21;
+  if (v15 & 1u)
+    goto after_21;
+  if (v16 != 0)
+    goto after_24;
+  v18 = 2;
+  goto after_12;
+after_24:;
+  p5 = v17 + 1;
+  p3 = v16;
+again_25:;
+  if (load8(p5) == 0u)
+    goto after_1;
+  p5 = p5 + 5;
+  v18 = 2;
+  p3 = p3 + 0xffffffffffffffff;
+  if (p3 != 0)
+    goto again_25;
+  goto after_14;
+after_21:;
+  if (v8 & 1u)
+    goto after_14;
+after_1:;
+  if (load8(frame + 153))
+    goto after_26;
+  if (load64(frame + 200) != 0)
+    goto after_27;
+  v15 = 1;
+  if (v7 != 0)
+    goto after_28;
+after_27:;
+  t0 = (uint32_t)(load8(p1) == 1u) & (uint32_t)(((uint32_t)load8(p1 + 6) & 0xffu) == 0u);
+  v15 = t0 & (uint32_t)(((uint32_t)load8(p1 + 10) & 1u) == 0u);
+after_28:;
+  if (load8(p1 + 24) == 1u)
+    goto after_26;
+  if (v15 == 0u)
+    goto after_26;
+  store64(p1 + 32, v7);
+  store64(p1 + 24, 1);
+after_26:;
+  store64(p0 + 16, 0);
+  store64(p0 + 8, 0);
+  store64(p0, 0);
+  goto after_17;
+after_14:;
+  if (load8(frame + 153))
+    goto after_12;
+  if (v16 == 0)
+    goto after_12;
+  p5 = v17 + 1;
+again_30:;
+  if (load8(p5) == 0u)
+    goto after_29;
+  p5 = p5 + 5;
+  v16 = v16 + 0xffffffffffffffff;
+  if (v16 != 0)
+    goto again_30;
+  goto after_12;
+after_29:;
+  if (v10 != 0)
+    goto after_31;
+  v15 = 1;
+  if (v7 != 0)
+    goto after_32;
+after_31:;
+  t1 = (uint32_t)(load8(p1) == 1u) & (uint32_t)(((uint32_t)load8(p1 + 6) & 0xffu) == 0u);
+  v15 = t1 & (uint32_t)(((uint32_t)load8(p1 + 10) & 1u) == 0u);
+after_32:;
+  if (load8(p1 + 24) == 1u)
+    goto after_12;
+  if (v15 == 0u)
+    goto after_12;
+  store64(p1 + 32, v7);
+  store64(p1 + 24, 1);
+after_12:;
+  store64(p0, 1);
+  store64(p0 + 16, p4 - v18);
+  store64(p0 + 8, v14 + v18);
+after_17:;
+}
+
+/* der_view::walk::follows::<#058ff82db2a1a4d6> */
 static uint32_t der_view_walk_follows_6(uint64_t p0, uint64_t p1, uint64_t p2, uint64_t p3,
     uint32_t p4, uint64_t p5, uint64_t p6)
 {

@@ -25647,135 +25647,151 @@ unsafe fn der_view_showing_show_part(p0: u64, mut p1: u64, mut p2: u64, mut p3: 
   let mut v11 = 0u32;
   let mut v12 = 0u32;
   let mut v13 = 0u32;
-  let mut v14 = 0u64;
-  let mut v15 = 0u64;
-  let mut v16 = 0u64;
+  let mut v14 = 0u32;
+  let mut v15 = 0u32;
+  let mut v16 = 0u32;
+  let mut v17 = 0u32;
+  let mut v18 = 0u32;
+  let mut v19 = 0u32;
+  let mut v20 = 0u32;
+  let mut v21 = 0u32;
+  let mut v22 = 0u32;
+  let mut v23 = 0u64;
+  let mut v24 = 0u64;
+  let mut v25 = 0u64;
+  store64(frame.wrapping_add(496), 0);
+  store64(frame.wrapping_add(488), 0);
+  store64(frame.wrapping_add(480), 0);
+  v7 = 0;
+  fill(frame.wrapping_add(312), 0, 168);
+  store64(frame.wrapping_add(304), 0);
+  store64(frame.wrapping_add(296), 0);
+  store64(frame.wrapping_add(288), 0);
+  store64(frame.wrapping_add(280), 0);
+  store64(frame.wrapping_add(272), 0);
+  store64(frame.wrapping_add(264), 0);
+  store64(frame.wrapping_add(256), 0);
+  fill(frame.wrapping_add(88), 0, 168);
+  der_view_plan_plan_of(frame.wrapping_add(480), p2, p3);
+  store8(frame.wrapping_add(1170), 12);
+  store16(frame.wrapping_add(1168), 48);
+  store64(frame.wrapping_add(520), 0);
   store64(frame.wrapping_add(512), 0);
   store64(frame.wrapping_add(504), 0);
-  store64(frame.wrapping_add(496), 0);
-  v7 = 0;
-  fill(frame.wrapping_add(328), 0, 168);
-  fill(frame.wrapping_add(256), 0, 72);
-  fill(frame.wrapping_add(88), 0, 168);
-  der_view_plan_plan_of(frame.wrapping_add(496), p2, p3);
-  store8(frame.wrapping_add(1058), 12);
-  store16(frame.wrapping_add(1056), 48);
-  store64(frame.wrapping_add(1184), 0);
-  store64(frame.wrapping_add(1176), 0);
-  store64(frame.wrapping_add(1168), 0);
-  der_view_faults_walk_check(frame.wrapping_add(1168), 64, frame.wrapping_add(1056), 1, p3, p2, p3);
-  v8 = load8(frame.wrapping_add(1168)) as u32;
-  der_view_drawing_known_of(frame.wrapping_add(88), frame.wrapping_add(496), p2, p3);
-  move_(frame.wrapping_add(328), frame.wrapping_add(88), 168);
+  der_view_faults_walk_check(frame.wrapping_add(504), 64, frame.wrapping_add(1168), 1, p3, p2, p3);
+  v8 = load8(frame.wrapping_add(504)) as u32;
+  der_view_drawing_known_of(frame.wrapping_add(88), frame.wrapping_add(480), p2, p3);
+  move_(frame.wrapping_add(312), frame.wrapping_add(88), 168);
   'after_4: {
   'after_1: {
-  if p3 == 0 {
+  v9 = u32::from(p3 == 0);
+  if v9 != 0 {
     break 'after_1;
   }
   if p3 < 3 {
     break 'after_1;
   }
-  v9 = load8(p2) as u32;
-  v10 = load8(p2.wrapping_add(2)) as u32;
-  v11 = load8(p2.wrapping_add(1)) as u32;
+  v10 = load8(p2) as u32;
+  v11 = load8(p2.wrapping_add(2)) as u32;
+  v12 = load8(p2.wrapping_add(1)) as u32;
   'after_5: {
   'after_2: {
   if p3 == 3 {
     break 'after_2;
   }
-  v12 = load8(p2.wrapping_add(3)) as u32;
-  v13 = 1;
+  v13 = load8(p2.wrapping_add(3)) as u32;
+  v14 = 1;
   'after_3: {
-  if v9 != 254 {
-    break 'after_3;
-  }
-  if (v11 & 255) != 237 {
-    break 'after_3;
-  }
-  if (v10 & 255) != 254 {
+  if v10 != 254 {
     break 'after_3;
   }
   if (v12 & 255) != 237 {
     break 'after_3;
   }
+  if (v11 & 255) != 254 {
+    break 'after_3;
+  }
+  if (v13 & 255) != 237 {
+    break 'after_3;
+  }
   v7 = 16;
   break 'after_4;
   }
-  if v9 != 206 {
-    break 'after_5;
-  }
-  if (v11 & 255) != 206 {
-    break 'after_5;
-  }
-  if (v10 & 255) != 206 {
+  if v10 != 206 {
     break 'after_5;
   }
   if (v12 & 255) != 206 {
     break 'after_5;
   }
+  if (v11 & 255) != 206 {
+    break 'after_5;
+  }
+  if (v13 & 255) != 206 {
+    break 'after_5;
+  }
   v7 = 16;
   break 'after_4;
   }
-  if v9 != 31 {
+  if v10 != 31 {
     break 'after_1;
   }
-  if (v11 & 255) != 139 {
+  if (v12 & 255) != 139 {
     break 'after_1;
   }
-  if (v10 & 255) != 8 {
+  if (v11 & 255) != 8 {
     break 'after_1;
   }
-  v13 = 1;
+  v14 = 1;
   v7 = 17;
   break 'after_4;
   }
   'after_6: {
-  if v9 != 31 {
+  if v10 != 31 {
     break 'after_6;
   }
-  if (v11 & 255) != 139 {
+  if (v12 & 255) != 139 {
     break 'after_6;
   }
-  if (v10 & 255) != 8 {
+  if (v11 & 255) != 8 {
     break 'after_6;
   }
   v7 = 17;
   break 'after_4;
   }
   'after_7: {
-  if v9 != 30 {
+  if v10 != 30 {
     break 'after_7;
   }
-  if (v11 & 255) != 241 {
+  if (v12 & 255) != 241 {
     break 'after_7;
   }
-  if (v10 & 255) != 181 {
+  if (v11 & 255) != 181 {
     break 'after_7;
   }
-  if (v12 & 255) != 176 {
+  if (v13 & 255) != 176 {
     break 'after_7;
   }
   v7 = 18;
   break 'after_4;
   }
   'after_8: {
-  if v9 != 3 {
+  if v10 != 3 {
     break 'after_8;
   }
-  if (v11 & 255) != 217 {
+  if (v12 & 255) != 217 {
     break 'after_8;
   }
-  if (v10 & 255) != 162 {
+  if (v11 & 255) != 162 {
     break 'after_8;
   }
-  if (v12 & 255) != 154 {
+  if (v13 & 255) != 154 {
     break 'after_8;
   }
   v7 = 19;
   break 'after_4;
   }
   'after_9: {
-  match v9.wrapping_add(0xffffff6b) {
+  match v10.wrapping_add(0xffffff6b) {
   0 | 4 => {
     break 'after_9;
   }
@@ -25784,10 +25800,10 @@ unsafe fn der_view_showing_show_part(p0: u64, mut p1: u64, mut p2: u64, mut p3: 
   }
   }
   }
-  if (v12 & 255) != 4 {
+  if (v13 & 255) != 4 {
     break 'after_1;
   }
-  let t0 = u32::from(((((v11 as u64) & 255) << 8) | ((v10 as u64) & 255)) >
+  let t0 = u32::from(((((v12 as u64) & 255) << 8) | ((v11 as u64) & 255)) >
       (p3.wrapping_add(0xfffffffffffffffd)));
   if t0 != 0 {
     break 'after_1;
@@ -25795,11 +25811,11 @@ unsafe fn der_view_showing_show_part(p0: u64, mut p1: u64, mut p2: u64, mut p3: 
   v7 = 20;
   break 'after_4;
   }
-  v13 = 0;
+  v14 = 0;
   }
-  v10 = u32::from(v8 == 0);
-  'after_14: {
-  'after_29: {
+  v12 = u32::from(v8 == 0);
+  'after_23: {
+  'after_38: {
   'after_10: {
   if (load8(p5.wrapping_add(1)) as u32) != 1 {
     break 'after_10;
@@ -25807,471 +25823,605 @@ unsafe fn der_view_showing_show_part(p0: u64, mut p1: u64, mut p2: u64, mut p3: 
   store64(frame.wrapping_add(290), 0);
   store64(frame.wrapping_add(298), 0);
   store64(frame.wrapping_add(256), p1);
-  store64(frame.wrapping_add(264), load64(frame.wrapping_add(496)));
-  store64(frame.wrapping_add(272), load64(frame.wrapping_add(504)));
-  store64(frame.wrapping_add(280), load64(frame.wrapping_add(512)));
-  store64(frame.wrapping_add(306), 0);
-  store64(frame.wrapping_add(314), 0);
-  store64(frame.wrapping_add(320), 0);
+  store64(frame.wrapping_add(264), load64(frame.wrapping_add(480)));
+  store64(frame.wrapping_add(272), load64(frame.wrapping_add(488)));
+  store64(frame.wrapping_add(280), load64(frame.wrapping_add(496)));
   store8(frame.wrapping_add(289), 1);
-  v9 = load8(p5) as u32;
-  store8(frame.wrapping_add(288), v9 as u8);
+  v10 = load8(p5) as u32;
+  store8(frame.wrapping_add(288), v10 as u8);
   store64(frame.wrapping_add(296), load64(p5.wrapping_add(8)));
-  der_view_form_draw_rows(frame.wrapping_add(256), frame.wrapping_add(496), p2, p3, v9);
+  der_view_form_draw_rows(frame.wrapping_add(256), frame.wrapping_add(480), p2, p3, v10);
   'after_11: {
-  v9 = load8(frame.wrapping_add(320)) as u32;
-  if v9 != 0 {
+  v11 = load8(frame.wrapping_add(304)) as u32;
+  if v11 != 0 {
     break 'after_11;
   }
-  p5 = load64(frame.wrapping_add(312));
-  v11 = load8(frame.wrapping_add(304)) as u32;
-  fill(frame.wrapping_add(944), 0, 112);
-  store64(frame.wrapping_add(896), 0);
-  store64(frame.wrapping_add(888), 0);
-  store64(frame.wrapping_add(880), 0);
-  fill(frame.wrapping_add(768), 0, 112);
+  v15 = load8(frame.wrapping_add(488)) as u32;
+  store8(frame.wrapping_add(1064), v15 as u8);
+  v10 = load8(frame.wrapping_add(487)) as u32;
+  store8(frame.wrapping_add(1063), v10 as u8);
+  v16 = load8(frame.wrapping_add(486)) as u32;
+  store8(frame.wrapping_add(1062), v16 as u8);
+  v17 = load8(frame.wrapping_add(485)) as u32;
+  store8(frame.wrapping_add(1061), v17 as u8);
+  v18 = load8(frame.wrapping_add(484)) as u32;
+  store8(frame.wrapping_add(1060), v18 as u8);
+  v19 = load8(frame.wrapping_add(483)) as u32;
+  store8(frame.wrapping_add(1059), v19 as u8);
+  v20 = load8(frame.wrapping_add(482)) as u32;
+  store8(frame.wrapping_add(1058), v20 as u8);
+  v21 = load8(frame.wrapping_add(481)) as u32;
+  store8(frame.wrapping_add(1057), v21 as u8);
+  v13 = load8(frame.wrapping_add(480)) as u32;
+  store8(frame.wrapping_add(1056), v13 as u8);
+  v11 = load8(frame.wrapping_add(489)) as u32;
+  store8(frame.wrapping_add(1065), v11 as u8);
+  store64(frame.wrapping_add(1080), 0);
+  store64(frame.wrapping_add(1088), 0);
+  store64(frame.wrapping_add(1072), load64(frame.wrapping_add(496)));
+  store64(frame.wrapping_add(1066), load64(frame.wrapping_add(490)));
+  store64(frame.wrapping_add(632), 0);
+  store64(frame.wrapping_add(648), 0);
+  store64(frame.wrapping_add(640), constant(0));
+  v22 = u32::from(v10 == 1);
+  store8(frame.wrapping_add(632), v22 as u8);
+  store8(frame.wrapping_add(633), (v22 & v11) as u8);
+  v22 = 2;
+  'after_14: {
+  'after_12: {
+  if v10 != 2 {
+    break 'after_12;
+  }
+  p5 = 0;
+  'after_13: {
+  if v9 == 0 {
+    break 'after_13;
+  }
+  v10 = 0;
+  break 'after_14;
+  }
+  let t1 = ((u32::from((v13 & 255) == 1)) & (u32::from((v16 & 255) == 0))) &
+      (u32::from(((load8(frame.wrapping_add(1066)) as u32) & 1) == 0));
+  v10 = t1;
+  break 'after_14;
+  }
+  'after_16: {
+  'after_15: {
+  if (v13 & 255) == 1 {
+    break 'after_15;
+  }
+  v19 = 9;
+  v21 = 0;
+  v18 = 0;
+  v17 = 0;
+  v9 = 0;
+  break 'after_16;
+  }
+  'after_17: {
+  if (v16 & 255) == 2 {
+    break 'after_17;
+  }
+  v22 = v20;
+  v9 = 0;
+  break 'after_16;
+  }
+  v9 = v15 & v11;
+  v22 = v20;
+  }
+  store64(frame.wrapping_add(904), 0);
+  store64(frame.wrapping_add(1168), 0);
+  fill(frame.wrapping_add(504), 0, 128);
   store64(frame.wrapping_add(760), 0);
   store64(frame.wrapping_add(752), 0);
   store64(frame.wrapping_add(744), 0);
+  store64(frame.wrapping_add(880), 0);
+  store64(frame.wrapping_add(888), 0);
+  store8(frame.wrapping_add(904), (v9 & 1) as u8);
+  store64(frame.wrapping_add(896), p3);
+  store8(frame.wrapping_add(1036), v17 as u8);
+  store8(frame.wrapping_add(1035), v18 as u8);
+  store8(frame.wrapping_add(1034), v19 as u8);
+  store8(frame.wrapping_add(1033), v22 as u8);
+  store8(frame.wrapping_add(1032), v21 as u8);
+  der_view_step_step_by(frame.wrapping_add(504), 1, 0, frame.wrapping_add(1032), 1, p2, p3);
+  'after_19: {
+  'after_18: {
+  if (load8(frame.wrapping_add(504)) as u32) != 1 {
+    break 'after_18;
+  }
+  store64(frame.wrapping_add(1200), p3);
+  store64(frame.wrapping_add(1192), p2);
+  store64(frame.wrapping_add(1184), 1);
+  store64(frame.wrapping_add(1176), frame.wrapping_add(1032));
+  der_view_walk_draw_step_6(frame.wrapping_add(744), frame.wrapping_add(1056),
+      frame.wrapping_add(632), p3, frame.wrapping_add(880), frame.wrapping_add(1168),
+      frame.wrapping_add(512));
+  if (load8(frame.wrapping_add(744)) as u32) == 0 {
+    break 'after_19;
+  }
+  p2 = load64(frame.wrapping_add(760));
+  if p2 == 0 {
+    break 'after_19;
+  }
+  v9 = 1;
+  'after_20: {
+  if p3 != p2 {
+    break 'after_20;
+  }
+  let t2 = (u32::from((load8(frame.wrapping_add(1056)) as u32) == 1)) &
+      (u32::from(((load8(frame.wrapping_add(1062)) as u32) & 255) == 0));
+  v9 = t2 & (u32::from(((load8(frame.wrapping_add(1066)) as u32) & 1) == 0));
+  }
+  if (load8(frame.wrapping_add(1080)) as u32) == 1 {
+    break 'after_19;
+  }
+  if v9 == 0 {
+    break 'after_19;
+  }
+  store64(frame.wrapping_add(1088), p3.wrapping_sub(p2));
+  store64(frame.wrapping_add(1080), 1);
+  break 'after_19;
+  }
+  if (v13 & 255) != 1 {
+    break 'after_19;
+  }
+  if (v16 & 255) != 0 {
+    break 'after_19;
+  }
+  if ((load8(frame.wrapping_add(1066)) as u32) & 1) != 0 {
+    break 'after_19;
+  }
+  store64(frame.wrapping_add(1088), 0);
+  store64(frame.wrapping_add(1080), 1);
+  }
+  v10 = u32::from((load8(frame.wrapping_add(1080)) as u32) == 1);
+  p5 = load64(frame.wrapping_add(1088));
+  }
+  fill(frame.wrapping_add(1056), 0, 112);
+  store64(frame.wrapping_add(1008), 0);
+  store64(frame.wrapping_add(1000), 0);
+  store64(frame.wrapping_add(992), 0);
+  fill(frame.wrapping_add(880), 0, 112);
+  store64(frame.wrapping_add(872), 0);
+  store64(frame.wrapping_add(864), 0);
+  store64(frame.wrapping_add(856), 0);
+  fill(frame.wrapping_add(744), 0, 112);
   fill(frame.wrapping_add(632), 0, 112);
-  fill(frame.wrapping_add(520), 0, 112);
-  v12 = u32::from(v8 == 0);
-  let t1 = der_view_said_advice_of(v12, p4, frame.wrapping_add(328));
-  v9 = t1;
-  store32(frame.wrapping_add(913), 0);
-  store8(frame.wrapping_add(912), 123);
-  store64(frame.wrapping_add(904), p1);
-  store32(frame.wrapping_add(916), 0);
-  'after_12: {
+  v11 = u32::from(v8 == 0);
+  let t3 = der_view_said_advice_of(v11, p4, frame.wrapping_add(312));
+  v9 = t3;
+  store32(frame.wrapping_add(1025), 0);
+  store8(frame.wrapping_add(1024), 123);
+  store64(frame.wrapping_add(1016), p1);
+  store32(frame.wrapping_add(1028), 0);
+  'after_21: {
   p3 = ((v9 & 255) as u64) << 5;
   p2 = load64(p3.wrapping_add(constant(23672)));
   if p2 == 0 {
-    break 'after_12;
+    break 'after_21;
   }
   p1 = load64(p3.wrapping_add(constant(23664)));
-  der_view_json_Object_write_member(frame.wrapping_add(80), frame.wrapping_add(904),
+  der_view_json_Object_write_member(frame.wrapping_add(80), frame.wrapping_add(1016),
       constant(28101), 6, constant(1928), 1);
-  'after_13: {
+  'after_22: {
   if (load8(frame.wrapping_add(80)) as u32) == 0 {
-    break 'after_13;
+    break 'after_22;
   }
   v9 = load8(frame.wrapping_add(81)) as u32;
-  v11 = 1;
-  break 'after_14;
+  v10 = 1;
+  break 'after_23;
   }
-  store64(frame.wrapping_add(1184), p2);
-  store64(frame.wrapping_add(1176), p1);
-  store64(frame.wrapping_add(1168), 2);
-  p2 = load64(frame.wrapping_add(904));
-  der_view_json_write_characters(frame.wrapping_add(72), p2, frame.wrapping_add(1168));
-  'after_15: {
+  store64(frame.wrapping_add(520), p2);
+  store64(frame.wrapping_add(512), p1);
+  store64(frame.wrapping_add(504), 2);
+  p2 = load64(frame.wrapping_add(1016));
+  der_view_json_write_characters(frame.wrapping_add(72), p2, frame.wrapping_add(504));
+  'after_24: {
   if (load8(frame.wrapping_add(72)) as u32) == 0 {
-    break 'after_15;
+    break 'after_24;
   }
   v9 = load8(frame.wrapping_add(73)) as u32;
-  v11 = 1;
-  break 'after_14;
+  v10 = 1;
+  break 'after_23;
   }
-  'after_17: {
-  'after_16: {
+  'after_26: {
+  'after_25: {
   p1 = load64(p2.wrapping_add(16));
   if (load64(p2.wrapping_add(8))) <= p1 {
-    break 'after_16;
+    break 'after_25;
   }
   store8(load64(p2).wrapping_add(p1), 34);
   p1 = p1.wrapping_add(1);
-  break 'after_17;
+  break 'after_26;
   }
   p1 = p1.wrapping_add(1);
   p1 = if p1 == 0 { 0xffffffffffffffffu64 } else { p1 };
   }
   store64(p2.wrapping_add(16), p1);
   }
-  'after_19: {
-  'after_18: {
+  'after_28: {
+  'after_27: {
   if v8 != 0 {
-    break 'after_18;
+    break 'after_27;
   }
-  der_view_json_Object_write_member(frame.wrapping_add(56), frame.wrapping_add(904),
+  der_view_json_Object_write_member(frame.wrapping_add(56), frame.wrapping_add(1016),
       constant(28107), 3, constant(28115), 4);
   v9 = load8(frame.wrapping_add(57)) as u32;
   v8 = load8(frame.wrapping_add(56)) as u32;
-  break 'after_19;
+  break 'after_28;
   }
-  der_view_json_Object_write_member(frame.wrapping_add(64), frame.wrapping_add(904),
+  der_view_json_Object_write_member(frame.wrapping_add(64), frame.wrapping_add(1016),
       constant(28107), 3, constant(28119), 5);
   v9 = load8(frame.wrapping_add(65)) as u32;
   v8 = load8(frame.wrapping_add(64)) as u32;
   }
-  'after_21: {
-  'after_20: {
+  'after_30: {
+  'after_29: {
   if (v8 & 255) != 0 {
-    break 'after_20;
+    break 'after_29;
   }
-  if (v11 & 255) != 1 {
-    break 'after_21;
+  if v10 == 0 {
+    break 'after_30;
   }
-  store64(frame.wrapping_add(1200), 0);
-  store64(frame.wrapping_add(1192), 0);
-  store64(frame.wrapping_add(1184), 0);
-  store64(frame.wrapping_add(1176), 0);
-  store64(frame.wrapping_add(1168), 0);
-  let t2 = itoa_integer_write_unsigned(p5, frame.wrapping_add(1168));
-  p2 = t2;
-  der_view_json_Object_write_member(frame.wrapping_add(48), frame.wrapping_add(904),
-      constant(33998), 4, (frame.wrapping_add(1168)).wrapping_add(p2), 40u64.wrapping_sub(p2));
+  store64(frame.wrapping_add(536), 0);
+  store64(frame.wrapping_add(528), 0);
+  store64(frame.wrapping_add(520), 0);
+  store64(frame.wrapping_add(512), 0);
+  store64(frame.wrapping_add(504), 0);
+  let t4 = itoa_integer_write_unsigned(p5, frame.wrapping_add(504));
+  p2 = t4;
+  der_view_json_Object_write_member(frame.wrapping_add(48), frame.wrapping_add(1016),
+      constant(33998), 4, (frame.wrapping_add(504)).wrapping_add(p2), 40u64.wrapping_sub(p2));
   if (load8(frame.wrapping_add(48)) as u32) == 0 {
-    break 'after_21;
+    break 'after_30;
   }
   v9 = load8(frame.wrapping_add(49)) as u32;
   }
-  v11 = 1;
-  break 'after_14;
+  v10 = 1;
+  break 'after_23;
   }
-  der_view_json_Object_write_member(frame.wrapping_add(40), frame.wrapping_add(904),
+  der_view_json_Object_write_member(frame.wrapping_add(40), frame.wrapping_add(1016),
       constant(28110), 5, constant(1928), 1);
-  'after_22: {
+  'after_31: {
   if (load8(frame.wrapping_add(40)) as u32) == 0 {
-    break 'after_22;
+    break 'after_31;
   }
   v9 = load8(frame.wrapping_add(41)) as u32;
-  v11 = 1;
-  break 'after_14;
+  v10 = 1;
+  break 'after_23;
   }
-  der_view_said_first_line(frame.wrapping_add(944), v12, p4, v13, v7, frame.wrapping_add(328));
-  p2 = load64(frame.wrapping_add(904));
-  fill(frame.wrapping_add(1056), 0, 112);
-  der_view_line_Line_finish(frame.wrapping_add(1056), frame.wrapping_add(944));
-  move_(frame.wrapping_add(1168), frame.wrapping_add(1056), 112);
-  store64(frame.wrapping_add(920), 2);
-  store64(frame.wrapping_add(936), load64(frame.wrapping_add(1272)));
-  store64(frame.wrapping_add(928), frame.wrapping_add(1168));
-  der_view_json_write_characters(frame.wrapping_add(32), p2, frame.wrapping_add(920));
-  'after_23: {
+  der_view_said_first_line(frame.wrapping_add(1056), v11, p4, v14, v7, frame.wrapping_add(312));
+  p2 = load64(frame.wrapping_add(1016));
+  fill(frame.wrapping_add(1168), 0, 112);
+  der_view_line_Line_finish(frame.wrapping_add(1168), frame.wrapping_add(1056));
+  move_(frame.wrapping_add(504), frame.wrapping_add(1168), 112);
+  store64(frame.wrapping_add(1032), 2);
+  store64(frame.wrapping_add(1048), load64(frame.wrapping_add(608)));
+  store64(frame.wrapping_add(1040), frame.wrapping_add(504));
+  der_view_json_write_characters(frame.wrapping_add(32), p2, frame.wrapping_add(1032));
+  'after_32: {
   if (load8(frame.wrapping_add(32)) as u32) == 0 {
-    break 'after_23;
+    break 'after_32;
   }
   v9 = load8(frame.wrapping_add(33)) as u32;
-  v11 = 1;
-  break 'after_14;
+  v10 = 1;
+  break 'after_23;
   }
-  p1 = load64(frame.wrapping_add(416));
-  der_view_said_key_misfit(frame.wrapping_add(880), frame.wrapping_add(328));
-  p5 = frame.wrapping_add(400);
-  'after_24: {
-  if (load8(frame.wrapping_add(880)) as u32) != 1 {
-    break 'after_24;
+  p1 = load64(frame.wrapping_add(400));
+  der_view_said_key_misfit(frame.wrapping_add(992), frame.wrapping_add(312));
+  p5 = frame.wrapping_add(384);
+  'after_33: {
+  if (load8(frame.wrapping_add(992)) as u32) != 1 {
+    break 'after_33;
   }
-  der_view_said_misfit_line(frame.wrapping_add(768), constant(34003), 20, p5, p1,
-      load64(frame.wrapping_add(888)), load64(frame.wrapping_add(896)));
+  der_view_said_misfit_line(frame.wrapping_add(880), constant(34003), 20, p5, p1,
+      load64(frame.wrapping_add(1000)), load64(frame.wrapping_add(1008)));
   der_view_json_Object_write_line(frame.wrapping_add(24), p2, constant(34002), 1,
-      frame.wrapping_add(768));
+      frame.wrapping_add(880));
   if (load8(frame.wrapping_add(24)) as u32) == 0 {
-    break 'after_24;
+    break 'after_33;
   }
   v9 = load8(frame.wrapping_add(25)) as u32;
-  v11 = 1;
-  break 'after_14;
+  v10 = 1;
+  break 'after_23;
   }
-  der_view_said_point_misfit(frame.wrapping_add(744), frame.wrapping_add(328));
-  'after_25: {
-  if (load8(frame.wrapping_add(744)) as u32) != 1 {
-    break 'after_25;
+  der_view_said_point_misfit(frame.wrapping_add(856), frame.wrapping_add(312));
+  'after_34: {
+  if (load8(frame.wrapping_add(856)) as u32) != 1 {
+    break 'after_34;
   }
-  der_view_said_misfit_line(frame.wrapping_add(632), constant(34023), 14, p5, p1,
-      load64(frame.wrapping_add(752)), load64(frame.wrapping_add(760)));
+  der_view_said_misfit_line(frame.wrapping_add(744), constant(34023), 14, p5, p1,
+      load64(frame.wrapping_add(864)), load64(frame.wrapping_add(872)));
   der_view_json_Object_write_line(frame.wrapping_add(16), p2, constant(34002), 1,
-      frame.wrapping_add(632));
+      frame.wrapping_add(744));
   if (load8(frame.wrapping_add(16)) as u32) == 0 {
-    break 'after_25;
+    break 'after_34;
   }
   v9 = load8(frame.wrapping_add(17)) as u32;
-  v11 = 1;
-  break 'after_14;
+  v10 = 1;
+  break 'after_23;
   }
-  'after_26: {
+  'after_35: {
   p1 = load64(p3.wrapping_add(constant(23656)));
   if p1 == 0 {
-    break 'after_26;
+    break 'after_35;
   }
-  'after_27: {
+  'after_36: {
   p1 = if p1 < 101 { p1 } else { 101u64 };
   p5 = 112u64.wrapping_sub(p1);
   if p5 == 0 {
-    break 'after_27;
+    break 'after_36;
   }
-  fill((frame.wrapping_add(1168)).wrapping_add(p1), 0, p5);
+  fill((frame.wrapping_add(504)).wrapping_add(p1), 0, p5);
   }
-  'after_28: {
+  'after_37: {
   if p1 == 0 {
-    break 'after_28;
+    break 'after_37;
   }
-  move_(frame.wrapping_add(1168), load64(p3.wrapping_add(constant(23648))), p1);
+  move_(frame.wrapping_add(504), load64(p3.wrapping_add(constant(23648))), p1);
   }
-  store64(frame.wrapping_add(1272), p1);
-  move_(frame.wrapping_add(520), frame.wrapping_add(1168), 112);
+  store64(frame.wrapping_add(608), p1);
+  move_(frame.wrapping_add(632), frame.wrapping_add(504), 112);
   der_view_json_Object_write_line(frame.wrapping_add(8), p2, constant(34002), 1,
-      frame.wrapping_add(520));
+      frame.wrapping_add(632));
   if (load8(frame.wrapping_add(8)) as u32) == 0 {
-    break 'after_26;
+    break 'after_35;
   }
   v9 = load8(frame.wrapping_add(9)) as u32;
-  v11 = 1;
-  break 'after_14;
+  v10 = 1;
+  break 'after_23;
   }
   sec1_c_picture_text_TextOutput_push(p2, constant(1928), 1);
   der_view_json_Object_end(p2);
-  break 'after_29;
+  break 'after_38;
   }
-  v11 = 1;
-  v9 = if v9 == 1 { load8(frame.wrapping_add(321)) as u32 } else { 0u32 };
-  break 'after_14;
+  v10 = 1;
+  v9 = if v11 == 1 { load8(frame.wrapping_add(305)) as u32 } else { 0u32 };
+  break 'after_23;
   }
+  v23 = load64(p5.wrapping_add(8));
+  store64(frame.wrapping_add(1216), 0);
   v9 = load8(p5) as u32;
-  'after_31: {
-  'after_30: {
-  p5 = load64(p5.wrapping_add(8));
-  if p5 != 0 {
-    break 'after_30;
-  }
-  store64(frame.wrapping_add(1192), load64(frame.wrapping_add(512)));
-  store64(frame.wrapping_add(1184), load64(frame.wrapping_add(504)));
-  store64(frame.wrapping_add(1176), load64(frame.wrapping_add(496)));
-  store64(frame.wrapping_add(1201), 0);
-  store64(frame.wrapping_add(1168), p1);
-  store64(frame.wrapping_add(1209), 0);
-  store64(frame.wrapping_add(1217), 0);
-  store64(frame.wrapping_add(1225), 0);
-  store64(frame.wrapping_add(1232), 0);
-  store8(frame.wrapping_add(1200), v9 as u8);
-  der_view_form_draw_rows(frame.wrapping_add(1168), frame.wrapping_add(496), p2, p3, v9 & 1);
-  v12 = load8(frame.wrapping_add(1232)) as u32;
-  v9 = if v12 == 1 { load8(frame.wrapping_add(1233)) as u32 } else { 0u32 };
-  break 'after_31;
-  }
-  store64(frame.wrapping_add(1201), 0);
-  store64(frame.wrapping_add(1209), 0);
-  store64(frame.wrapping_add(1168), p1);
-  store64(frame.wrapping_add(1176), load64(frame.wrapping_add(496)));
-  store64(frame.wrapping_add(1184), load64(frame.wrapping_add(504)));
-  store64(frame.wrapping_add(1192), load64(frame.wrapping_add(512)));
-  store64(frame.wrapping_add(1217), 0);
-  store64(frame.wrapping_add(1225), 0);
-  store64(frame.wrapping_add(1232), 0);
-  store64(frame.wrapping_add(1208), p5);
-  store8(frame.wrapping_add(1200), v9 as u8);
-  der_view_form_draw_rows(frame.wrapping_add(1168), frame.wrapping_add(496), p2, p3, v9 & 1);
-  v12 = load8(frame.wrapping_add(1232)) as u32;
-  v9 = if v12 == 1 { load8(frame.wrapping_add(1233)) as u32 } else { 0u32 };
-  }
-  v11 = 1;
-  if v12 != 0 {
-    break 'after_14;
-  }
-  fill(frame.wrapping_add(944), 0, 112);
-  store64(frame.wrapping_add(784), 0);
-  store64(frame.wrapping_add(776), 0);
-  store64(frame.wrapping_add(768), 0);
-  v8 = u32::from(v8 == 0);
-  der_view_said_first_line(frame.wrapping_add(944), v8, p4, v13, v7, frame.wrapping_add(328));
-  fill(frame.wrapping_add(1168), 0, 112);
-  der_view_line_Line_finish(frame.wrapping_add(1168), frame.wrapping_add(944));
-  p3 = load64(frame.wrapping_add(1272));
-  'after_34: {
-  'after_32: {
-  p2 = load64(p1.wrapping_add(8));
-  p5 = load64(p1.wrapping_add(16));
-  if p2 < p5 {
-    break 'after_32;
-  }
-  if p3 > (p2.wrapping_sub(p5)) {
-    break 'after_32;
-  }
-  'after_33: {
-  if p3 == 0 {
-    break 'after_33;
-  }
-  move_(load64(p1).wrapping_add(p5), frame.wrapping_add(1168), p3);
-  }
-  p3 = p5.wrapping_add(p3);
-  p2 = load64(p1.wrapping_add(8));
-  break 'after_34;
-  }
-  p5 = p3.wrapping_add(p5);
-  p3 = if p5 < p3 { 0xffffffffffffffffu64 } else { p5 };
-  }
-  'after_36: {
-  'after_35: {
-  if p2 <= p3 {
-    break 'after_35;
-  }
-  store8(load64(p1).wrapping_add(p3), 10);
-  p3 = p3.wrapping_add(1);
-  break 'after_36;
-  }
-  p3 = p3.wrapping_add(1);
-  p3 = if p3 == 0 { 0xffffffffffffffffu64 } else { p3 };
-  }
-  v14 = p1.wrapping_add(16);
-  store64(v14, p3);
-  p2 = load64(frame.wrapping_add(416));
-  der_view_said_key_misfit(frame.wrapping_add(768), frame.wrapping_add(328));
-  v15 = load64(frame.wrapping_add(776));
-  v16 = load64(frame.wrapping_add(784));
-  v9 = load8(frame.wrapping_add(768)) as u32;
-  fill(frame.wrapping_add(1056), 0, 112);
-  p5 = frame.wrapping_add(400);
-  'after_37: {
-  if v9 != 1 {
-    break 'after_37;
-  }
-  der_view_said_misfit_line(frame.wrapping_add(1056), constant(34003), 20, p5, p2, v15, v16);
-  fill(frame.wrapping_add(1168), 0, 112);
-  der_view_line_Line_finish(frame.wrapping_add(1168), frame.wrapping_add(1056));
-  p3 = load64(frame.wrapping_add(1272));
   'after_40: {
-  'after_38: {
-  v15 = load64(p1.wrapping_add(8));
-  v14 = load64(v14);
-  if v15 < v14 {
-    break 'after_38;
-  }
-  if p3 > (v15.wrapping_sub(v14)) {
-    break 'after_38;
-  }
   'after_39: {
-  if p3 == 0 {
+  if v23 != 0 {
     break 'after_39;
   }
-  move_(load64(p1).wrapping_add(v14), frame.wrapping_add(1168), p3);
-  }
-  p3 = v14.wrapping_add(p3);
-  v15 = load64(p1.wrapping_add(8));
+  store64(frame.wrapping_add(552), 0);
+  store64(frame.wrapping_add(512), load64(frame.wrapping_add(480)));
+  store64(frame.wrapping_add(520), load64(frame.wrapping_add(488)));
+  store64(frame.wrapping_add(528), load64(frame.wrapping_add(496)));
+  store64(frame.wrapping_add(537), 0);
+  store64(frame.wrapping_add(504), p1);
+  store64(frame.wrapping_add(545), 0);
+  store8(frame.wrapping_add(536), v9 as u8);
+  store8(frame.wrapping_add(553), 0);
+  der_view_form_draw_rows(frame.wrapping_add(504), frame.wrapping_add(480), p2, p3, v9 & 1);
+  v11 = load8(frame.wrapping_add(552)) as u32;
+  v9 = if v11 == 1 { load8(frame.wrapping_add(553)) as u32 } else { 0u32 };
   break 'after_40;
   }
-  v14 = p3.wrapping_add(v14);
-  p3 = if v14 < p3 { 0xffffffffffffffffu64 } else { v14 };
+  store64(frame.wrapping_add(1201), 0);
+  store64(frame.wrapping_add(1209), 0);
+  store64(frame.wrapping_add(1168), p1);
+  store64(frame.wrapping_add(1176), load64(frame.wrapping_add(480)));
+  store64(frame.wrapping_add(1184), load64(frame.wrapping_add(488)));
+  store64(frame.wrapping_add(1192), load64(frame.wrapping_add(496)));
+  store64(frame.wrapping_add(1208), v23);
+  store8(frame.wrapping_add(1200), v9 as u8);
+  store8(frame.wrapping_add(1217), 0);
+  der_view_form_draw_rows(frame.wrapping_add(1168), frame.wrapping_add(480), p2, p3, v9 & 1);
+  v11 = load8(frame.wrapping_add(1216)) as u32;
+  v9 = if v11 == 1 { load8(frame.wrapping_add(1217)) as u32 } else { 0u32 };
   }
-  'after_42: {
-  'after_41: {
-  if v15 <= p3 {
-    break 'after_41;
+  v10 = 1;
+  if v11 != 0 {
+    break 'after_23;
   }
-  store8(load64(p1).wrapping_add(p3), 10);
-  p3 = p3.wrapping_add(1);
-  break 'after_42;
-  }
-  p3 = p3.wrapping_add(1);
-  p3 = if p3 == 0 { 0xffffffffffffffffu64 } else { p3 };
-  }
-  store64(p1.wrapping_add(16), p3);
-  }
-  der_view_said_point_misfit(frame.wrapping_add(768), frame.wrapping_add(328));
-  v15 = load64(frame.wrapping_add(776));
-  v14 = load64(frame.wrapping_add(784));
-  v9 = load8(frame.wrapping_add(768)) as u32;
   fill(frame.wrapping_add(1056), 0, 112);
+  store64(frame.wrapping_add(896), 0);
+  store64(frame.wrapping_add(888), 0);
+  store64(frame.wrapping_add(880), 0);
+  v8 = u32::from(v8 == 0);
+  der_view_said_first_line(frame.wrapping_add(1056), v8, p4, v14, v7, frame.wrapping_add(312));
+  fill(frame.wrapping_add(504), 0, 112);
+  der_view_line_Line_finish(frame.wrapping_add(504), frame.wrapping_add(1056));
+  p3 = load64(frame.wrapping_add(608));
   'after_43: {
-  if v9 != 1 {
-    break 'after_43;
-  }
-  der_view_said_misfit_line(frame.wrapping_add(1056), constant(34023), 14, p5, p2, v15, v14);
-  fill(frame.wrapping_add(1168), 0, 112);
-  der_view_line_Line_finish(frame.wrapping_add(1168), frame.wrapping_add(1056));
-  p3 = load64(frame.wrapping_add(1272));
-  'after_46: {
-  'after_44: {
+  'after_41: {
   p2 = load64(p1.wrapping_add(8));
   p5 = load64(p1.wrapping_add(16));
   if p2 < p5 {
-    break 'after_44;
+    break 'after_41;
   }
   if p3 > (p2.wrapping_sub(p5)) {
-    break 'after_44;
+    break 'after_41;
   }
-  'after_45: {
+  'after_42: {
   if p3 == 0 {
-    break 'after_45;
+    break 'after_42;
   }
-  move_(load64(p1).wrapping_add(p5), frame.wrapping_add(1168), p3);
+  move_(load64(p1).wrapping_add(p5), frame.wrapping_add(504), p3);
   }
   p3 = p5.wrapping_add(p3);
   p2 = load64(p1.wrapping_add(8));
-  break 'after_46;
+  break 'after_43;
   }
   p5 = p3.wrapping_add(p5);
   p3 = if p5 < p3 { 0xffffffffffffffffu64 } else { p5 };
   }
-  'after_48: {
-  'after_47: {
+  'after_45: {
+  'after_44: {
   if p2 <= p3 {
-    break 'after_47;
+    break 'after_44;
   }
   store8(load64(p1).wrapping_add(p3), 10);
   p3 = p3.wrapping_add(1);
-  break 'after_48;
+  break 'after_45;
+  }
+  p3 = p3.wrapping_add(1);
+  p3 = if p3 == 0 { 0xffffffffffffffffu64 } else { p3 };
+  }
+  v24 = p1.wrapping_add(16);
+  store64(v24, p3);
+  p2 = load64(frame.wrapping_add(400));
+  der_view_said_key_misfit(frame.wrapping_add(880), frame.wrapping_add(312));
+  v23 = load64(frame.wrapping_add(888));
+  v25 = load64(frame.wrapping_add(896));
+  v9 = load8(frame.wrapping_add(880)) as u32;
+  fill(frame.wrapping_add(1168), 0, 112);
+  p5 = frame.wrapping_add(384);
+  'after_46: {
+  if v9 != 1 {
+    break 'after_46;
+  }
+  der_view_said_misfit_line(frame.wrapping_add(1168), constant(34003), 20, p5, p2, v23, v25);
+  fill(frame.wrapping_add(504), 0, 112);
+  der_view_line_Line_finish(frame.wrapping_add(504), frame.wrapping_add(1168));
+  p3 = load64(frame.wrapping_add(608));
+  'after_49: {
+  'after_47: {
+  v23 = load64(p1.wrapping_add(8));
+  v24 = load64(v24);
+  if v23 < v24 {
+    break 'after_47;
+  }
+  if p3 > (v23.wrapping_sub(v24)) {
+    break 'after_47;
+  }
+  'after_48: {
+  if p3 == 0 {
+    break 'after_48;
+  }
+  move_(load64(p1).wrapping_add(v24), frame.wrapping_add(504), p3);
+  }
+  p3 = v24.wrapping_add(p3);
+  v23 = load64(p1.wrapping_add(8));
+  break 'after_49;
+  }
+  v24 = p3.wrapping_add(v24);
+  p3 = if v24 < p3 { 0xffffffffffffffffu64 } else { v24 };
+  }
+  'after_51: {
+  'after_50: {
+  if v23 <= p3 {
+    break 'after_50;
+  }
+  store8(load64(p1).wrapping_add(p3), 10);
+  p3 = p3.wrapping_add(1);
+  break 'after_51;
   }
   p3 = p3.wrapping_add(1);
   p3 = if p3 == 0 { 0xffffffffffffffffu64 } else { p3 };
   }
   store64(p1.wrapping_add(16), p3);
   }
-  'after_49: {
-  let t3 = der_view_said_advice_of(v8, p4, frame.wrapping_add(328));
-  p2 = ((t3 & 255) as u64) << 5;
-  p5 = load64(constant(23656).wrapping_add(p2));
-  if p5 == 0 {
-    break 'after_49;
-  }
-  v15 = load64(constant(23648).wrapping_add(p2));
-  'after_50: {
-  p5 = if p5 < 101 { p5 } else { 101u64 };
-  v14 = 104u64.wrapping_sub(p5);
-  if v14 == 0 {
-    break 'after_50;
-  }
-  fill((frame.wrapping_add(1056)).wrapping_add(p5), 0, v14);
-  }
-  'after_51: {
-  if p5 == 0 {
-    break 'after_51;
-  }
-  move_(frame.wrapping_add(1056), v15, p5);
-  }
-  store64(frame.wrapping_add(1160), p5);
+  der_view_said_point_misfit(frame.wrapping_add(880), frame.wrapping_add(312));
+  v23 = load64(frame.wrapping_add(888));
+  v24 = load64(frame.wrapping_add(896));
+  v9 = load8(frame.wrapping_add(880)) as u32;
   fill(frame.wrapping_add(1168), 0, 112);
-  der_view_line_Line_finish(frame.wrapping_add(1168), frame.wrapping_add(1056));
-  p5 = load64(frame.wrapping_add(1272));
-  'after_54: {
   'after_52: {
-  v15 = load64(p1.wrapping_add(8));
-  if v15 < p3 {
+  if v9 != 1 {
     break 'after_52;
   }
-  if p5 > (v15.wrapping_sub(p3)) {
-    break 'after_52;
-  }
+  der_view_said_misfit_line(frame.wrapping_add(1168), constant(34023), 14, p5, p2, v23, v24);
+  fill(frame.wrapping_add(504), 0, 112);
+  der_view_line_Line_finish(frame.wrapping_add(504), frame.wrapping_add(1168));
+  p3 = load64(frame.wrapping_add(608));
+  'after_55: {
   'after_53: {
-  if p5 == 0 {
+  p2 = load64(p1.wrapping_add(8));
+  p5 = load64(p1.wrapping_add(16));
+  if p2 < p5 {
     break 'after_53;
   }
-  move_(load64(p1).wrapping_add(p3), frame.wrapping_add(1168), p5);
+  if p3 > (p2.wrapping_sub(p5)) {
+    break 'after_53;
+  }
+  'after_54: {
+  if p3 == 0 {
+    break 'after_54;
+  }
+  move_(load64(p1).wrapping_add(p5), frame.wrapping_add(504), p3);
+  }
+  p3 = p5.wrapping_add(p3);
+  p2 = load64(p1.wrapping_add(8));
+  break 'after_55;
+  }
+  p5 = p3.wrapping_add(p5);
+  p3 = if p5 < p3 { 0xffffffffffffffffu64 } else { p5 };
+  }
+  'after_57: {
+  'after_56: {
+  if p2 <= p3 {
+    break 'after_56;
+  }
+  store8(load64(p1).wrapping_add(p3), 10);
+  p3 = p3.wrapping_add(1);
+  break 'after_57;
+  }
+  p3 = p3.wrapping_add(1);
+  p3 = if p3 == 0 { 0xffffffffffffffffu64 } else { p3 };
+  }
+  store64(p1.wrapping_add(16), p3);
+  }
+  'after_58: {
+  let t5 = der_view_said_advice_of(v8, p4, frame.wrapping_add(312));
+  p2 = ((t5 & 255) as u64) << 5;
+  p5 = load64(constant(23656).wrapping_add(p2));
+  if p5 == 0 {
+    break 'after_58;
+  }
+  v23 = load64(constant(23648).wrapping_add(p2));
+  'after_59: {
+  p5 = if p5 < 101 { p5 } else { 101u64 };
+  v24 = 104u64.wrapping_sub(p5);
+  if v24 == 0 {
+    break 'after_59;
+  }
+  fill((frame.wrapping_add(1168)).wrapping_add(p5), 0, v24);
+  }
+  'after_60: {
+  if p5 == 0 {
+    break 'after_60;
+  }
+  move_(frame.wrapping_add(1168), v23, p5);
+  }
+  store64(frame.wrapping_add(1272), p5);
+  fill(frame.wrapping_add(504), 0, 112);
+  der_view_line_Line_finish(frame.wrapping_add(504), frame.wrapping_add(1168));
+  p5 = load64(frame.wrapping_add(608));
+  'after_63: {
+  'after_61: {
+  v23 = load64(p1.wrapping_add(8));
+  if v23 < p3 {
+    break 'after_61;
+  }
+  if p5 > (v23.wrapping_sub(p3)) {
+    break 'after_61;
+  }
+  'after_62: {
+  if p5 == 0 {
+    break 'after_62;
+  }
+  move_(load64(p1).wrapping_add(p3), frame.wrapping_add(504), p5);
   }
   p3 = p3.wrapping_add(p5);
-  v15 = load64(p1.wrapping_add(8));
-  break 'after_54;
+  v23 = load64(p1.wrapping_add(8));
+  break 'after_63;
   }
   p3 = p5.wrapping_add(p3);
   p3 = if p3 < p5 { 0xffffffffffffffffu64 } else { p3 };
   }
-  'after_56: {
-  'after_55: {
-  if v15 <= p3 {
-    break 'after_55;
+  'after_65: {
+  'after_64: {
+  if v23 <= p3 {
+    break 'after_64;
   }
   store8(load64(p1).wrapping_add(p3), 10);
   p3 = p3.wrapping_add(1);
-  break 'after_56;
+  break 'after_65;
   }
   p3 = p3.wrapping_add(1);
   p3 = if p3 == 0 { 0xffffffffffffffffu64 } else { p3 };
@@ -26280,64 +26430,64 @@ unsafe fn der_view_showing_show_part(p0: u64, mut p1: u64, mut p2: u64, mut p3: 
   }
   p5 = load64(p2.wrapping_add(constant(23672)));
   if p5 == 0 {
-    break 'after_29;
+    break 'after_38;
   }
-  v15 = load64(p2.wrapping_add(constant(23664)));
-  v14 = (frame.wrapping_add(1056)) | 2;
-  fill(v14, 0, 102);
-  store16(frame.wrapping_add(1056), 8224);
-  'after_57: {
+  v23 = load64(p2.wrapping_add(constant(23664)));
+  v24 = (frame.wrapping_add(1168)) | 2;
+  fill(v24, 0, 102);
+  store16(frame.wrapping_add(1168), 8224);
+  'after_66: {
   p2 = if p5 < 99 { p5 } else { 99u64 };
   if p2 == 0 {
-    break 'after_57;
+    break 'after_66;
   }
-  move_(v14, v15, p2);
+  move_(v24, v23, p2);
   }
-  store64(frame.wrapping_add(1160), p2.wrapping_add(2));
-  fill(frame.wrapping_add(1168), 0, 112);
-  der_view_line_Line_finish(frame.wrapping_add(1168), frame.wrapping_add(1056));
-  p2 = load64(frame.wrapping_add(1272));
-  'after_60: {
-  'after_58: {
+  store64(frame.wrapping_add(1272), p2.wrapping_add(2));
+  fill(frame.wrapping_add(504), 0, 112);
+  der_view_line_Line_finish(frame.wrapping_add(504), frame.wrapping_add(1168));
+  p2 = load64(frame.wrapping_add(608));
+  'after_69: {
+  'after_67: {
   p5 = load64(p1.wrapping_add(8));
   if p5 < p3 {
-    break 'after_58;
+    break 'after_67;
   }
   if p2 > (p5.wrapping_sub(p3)) {
-    break 'after_58;
+    break 'after_67;
   }
-  'after_59: {
+  'after_68: {
   if p2 == 0 {
-    break 'after_59;
+    break 'after_68;
   }
-  move_(load64(p1).wrapping_add(p3), frame.wrapping_add(1168), p2);
+  move_(load64(p1).wrapping_add(p3), frame.wrapping_add(504), p2);
   }
   p3 = p3.wrapping_add(p2);
   p5 = load64(p1.wrapping_add(8));
-  break 'after_60;
+  break 'after_69;
   }
   p3 = p2.wrapping_add(p3);
   p3 = if p3 < p2 { 0xffffffffffffffffu64 } else { p3 };
   }
-  'after_62: {
-  'after_61: {
+  'after_71: {
+  'after_70: {
   if p5 <= p3 {
-    break 'after_61;
+    break 'after_70;
   }
   store8(load64(p1).wrapping_add(p3), 10);
   p3 = p3.wrapping_add(1);
-  break 'after_62;
+  break 'after_71;
   }
   p3 = p3.wrapping_add(1);
   p3 = if p3 == 0 { 0xffffffffffffffffu64 } else { p3 };
   }
   store64(p1.wrapping_add(16), p3);
   }
-  v11 = 0;
-  v9 = v10;
+  v10 = 0;
+  v9 = v12;
   }
   store8(p0.wrapping_add(1), v9 as u8);
-  store8(p0, v11 as u8);
+  store8(p0, v10 as u8);
   return;
 }
 
@@ -26990,7 +27140,7 @@ unsafe fn der_view_form_draw_rows(p0: u64, mut p1: u64, mut p2: u64, p3: u64, mu
   store64(frame.wrapping_add(208), p2);
   store64(frame.wrapping_add(200), 1);
   store64(frame.wrapping_add(192), frame.wrapping_add(227));
-  der_view_walk_draw_step_6(frame.wrapping_add(32), p0, frame.wrapping_add(8), p3,
+  der_view_walk_draw_step_7(frame.wrapping_add(32), p0, frame.wrapping_add(8), p3,
       frame.wrapping_add(232), frame.wrapping_add(184), frame.wrapping_add(64));
   if (load8(frame.wrapping_add(32)) as u32) == 0 {
     break 'after_2;
@@ -27080,6 +27230,343 @@ unsafe fn der_view_form_draw_rows(p0: u64, mut p1: u64, mut p2: u64, p3: u64, mu
   store64(frame.wrapping_add(616), 1);
   store64(frame.wrapping_add(608), frame.wrapping_add(227));
   der_view_printer_Printer_tell(p0, frame.wrapping_add(264));
+  }
+}
+
+// der_view::walk::draw_step::<#058ff82db2a1a4d6>
+unsafe fn der_view_walk_draw_step_6(p0: u64, p1: u64, p2: u64, p3: u64, mut p4: u64, p5: u64,
+    mut p6: u64) {
+  let mut array = Frame::<816>::new();
+  let frame = address(&raw mut array);
+  let mut v8 = 0u32;
+  let mut v9 = 0u64;
+  let mut v10 = 0u64;
+  let mut v11 = 0u64;
+  let mut v12 = 0u32;
+  let mut v13 = 0u32;
+  let mut v14 = 0u32;
+  let mut v15 = 0u64;
+  let mut v16 = 0u64;
+  let mut v17 = 0u32;
+  let mut v18 = 0u32;
+  let mut v19 = 0u64;
+  let mut v20 = 0u64;
+  let mut v21 = 0u64;
+  let mut v22 = 0u64;
+  let mut v23 = 0u64;
+  let mut v24 = 0u64;
+  let mut v25 = 0u64;
+  let mut v26 = 0u64;
+  let mut v27 = 0u64;
+  let mut v28 = 0u64;
+  let mut v29 = 0u64;
+  store32(frame.wrapping_add(184), load32(p4.wrapping_add(25)));
+  store32(frame.wrapping_add(187), load32(p4.wrapping_add(28)));
+  'after_5: {
+  'after_6: {
+  'after_7: {
+  v8 = load8(p4.wrapping_add(24)) as u32;
+  v9 = load64(p4.wrapping_add(16));
+  v10 = load64(p4.wrapping_add(8));
+  p4 = load64(p4);
+  v11 = 0;
+  store64(frame.wrapping_add(200), 0);
+  store64(frame.wrapping_add(192), 0);
+  v12 = 0;
+  store32(frame.wrapping_add(176), 0);
+  store32(frame.wrapping_add(179), 0);
+  store64(frame.wrapping_add(136), 0);
+  store64(frame.wrapping_add(144), 0);
+  store64(frame.wrapping_add(152), 0);
+  store64(frame.wrapping_add(160), 0);
+  store64(frame.wrapping_add(168), 0);
+  store64(frame.wrapping_add(112), 0);
+  store64(frame.wrapping_add(120), 0);
+  store64(frame.wrapping_add(128), 0);
+  store64(frame.wrapping_add(88), 0);
+  store64(frame.wrapping_add(96), 0);
+  store64(frame.wrapping_add(104), 0);
+  store64(frame.wrapping_add(80), 0);
+  store64(frame.wrapping_add(72), 0);
+  store64(frame.wrapping_add(64), 0);
+  store64(frame.wrapping_add(56), 0);
+  store64(frame.wrapping_add(48), 0);
+  store64(frame.wrapping_add(40), 0);
+  v13 = 1;
+  v14 = v8 & 1;
+  v15 = v10.wrapping_add(1);
+  v16 = p4.wrapping_add(load64(p6.wrapping_add(16)));
+  v17 = load8(p2) as u32;
+  'after_4: {
+  'after_3: {
+  'after_2: {
+  'after_1: {
+  v18 = load8(p6.wrapping_add(58)) as u32;
+  match ((v18 as u64) & 255) as u32 {
+  6 => {
+    break 'after_1;
+  }
+  7 => {
+    break 'after_2;
+  }
+  8 => {
+    break 'after_3;
+  }
+  _ => {
+    break 'after_4;
+  }
+  }
+  }
+  v12 = load8(p6.wrapping_add(59)) as u32;
+  break 'after_5;
+  }
+  v19 = load64(p6.wrapping_add(88));
+  v20 = load64(p6.wrapping_add(96));
+  v12 = load8(p6.wrapping_add(59)) as u32;
+  v17 = 0;
+  store32(frame.wrapping_add(233), 0);
+  store8(frame.wrapping_add(232), v14 as u8);
+  store64(frame.wrapping_add(224), v9);
+  store64(frame.wrapping_add(216), v15);
+  store64(frame.wrapping_add(208), v16);
+  store32(frame.wrapping_add(236), 0);
+  v11 = 0;
+  store64(frame.wrapping_add(408), 0);
+  store64(frame.wrapping_add(344), 0);
+  store64(frame.wrapping_add(784), 0);
+  store64(frame.wrapping_add(792), 0);
+  store64(frame.wrapping_add(800), 0);
+  der_view_grammar_Structure_components(frame.wrapping_add(24), v12);
+  store64(frame.wrapping_add(440), v20);
+  store64(frame.wrapping_add(432), v19);
+  store16(frame.wrapping_add(408), 256);
+  store8(frame.wrapping_add(344), 0);
+  store64(frame.wrapping_add(424), load64(frame.wrapping_add(32)));
+  store64(frame.wrapping_add(416), load64(frame.wrapping_add(24)));
+  store64(frame.wrapping_add(352), load64(p2.wrapping_add(8)));
+  store64(frame.wrapping_add(360), load64(p2.wrapping_add(16)));
+  store8(frame.wrapping_add(345), (load8(p2.wrapping_add(1)) as u32) as u8);
+  der_view_walk_walk_6(frame.wrapping_add(784), p1, frame.wrapping_add(344), p3,
+      frame.wrapping_add(208), frame.wrapping_add(408));
+  v13 = u32::from((load8(frame.wrapping_add(784)) as u32) == 1);
+  v12 = if v13 != 0 { v12 } else { 0u32 };
+  break 'after_5;
+  }
+  v19 = load64(p6.wrapping_add(96));
+  if v19 == 0 {
+    break 'after_6;
+  }
+  v13 = 0;
+  v20 = load64(p6.wrapping_add(88));
+  if (load8(v20) as u32) != 0 {
+    break 'after_7;
+  }
+  'after_8: {
+  v19 = v19.wrapping_add(0xffffffffffffffff);
+  if v19 != 0 {
+    break 'after_8;
+  }
+  v13 = 0;
+  break 'after_7;
+  }
+  v12 = load8(p6.wrapping_add(59)) as u32;
+  v17 = 0;
+  store32(frame.wrapping_add(433), 0);
+  store8(frame.wrapping_add(432), v14 as u8);
+  store64(frame.wrapping_add(424), v9);
+  store64(frame.wrapping_add(416), v15);
+  store64(frame.wrapping_add(408), v16);
+  store32(frame.wrapping_add(436), 0);
+  let t0 = der_view_walk_follows_6(p1, p2, p3, frame.wrapping_add(408), v12,
+      v20.wrapping_add(1), v19);
+  v13 = t0;
+  v12 = if v13 != 0 { v12 } else { 0u32 };
+  v11 = v13 as u64;
+  break 'after_5;
+  }
+  v13 = 1;
+  'after_9: {
+  if (load8(p6.wrapping_add(24)) as u32) != 1 {
+    break 'after_9;
+  }
+  v12 = 0;
+  if (load8(p6.wrapping_add(1)) as u32) != 1 {
+    break 'after_6;
+  }
+  if (((u32::from((v18 & 255) == 9)) | v17) & 1) == 0 {
+    break 'after_6;
+  }
+  }
+  v12 = 84;
+  break 'after_5;
+  }
+  v12 = 0;
+  v17 = 0;
+  break 'after_5;
+  }
+  v13 = 0;
+  v17 = 0;
+  }
+  v19 = (frame.wrapping_add(208)).wrapping_add(56);
+  fill(v19, 0, 80);
+  'after_10: {
+  if (load8(p5.wrapping_add(1)) as u32) != 0 {
+    break 'after_10;
+  }
+  store64(frame.wrapping_add(376), load64(p6.wrapping_add(32)));
+  store64(frame.wrapping_add(368), load64(p6.wrapping_add(24)));
+  store64(frame.wrapping_add(360), load64(p6.wrapping_add(16)));
+  store64(frame.wrapping_add(352), load64(p6.wrapping_add(8)));
+  store64(frame.wrapping_add(344), load64(p6));
+  v21 = load64(p6.wrapping_add(88));
+  v20 = load64(p6.wrapping_add(96));
+  let t1 = der_view_content_shown_len(load8(p2.wrapping_add(1)) as u32, frame.wrapping_add(344),
+      load8(p6.wrapping_add(58)) as u32, load8(p6.wrapping_add(59)) as u32, v21, v20);
+  v22 = t1;
+  v23 = constant(0);
+  v24 = 0;
+  v25 = 0;
+  v26 = constant(0);
+  'after_11: {
+  v18 = load8(p6.wrapping_add(80)) as u32;
+  if v18 != 0 {
+    break 'after_11;
+  }
+  v25 = load64(p5.wrapping_add(16));
+  v26 = load64(p5.wrapping_add(8));
+  }
+  v27 = p6.wrapping_add(40);
+  v28 = p6.wrapping_add(56);
+  v29 = if (load8(frame.wrapping_add(368)) as u32) == 1 { v20 } else { 0u64 };
+  'after_12: {
+  if v13 != 0 {
+    break 'after_12;
+  }
+  v23 = load64(p2.wrapping_add(16));
+  v24 = (load64(frame.wrapping_add(360))).wrapping_add(p4);
+  let t2 = v23;
+  v23 = if v23 < v24 { v23 } else { v24 };
+  v24 = t2.wrapping_sub(v23);
+  v24 = if v24 < v20 { v24 } else { v20 };
+  v23 = (load64(p2.wrapping_add(8))).wrapping_add(v23);
+  }
+  store32(v19, load32(v28));
+  store8(v19.wrapping_add(4), (load8(v28.wrapping_add(4)) as u32) as u8);
+  store64(frame.wrapping_add(240), load64(p6.wrapping_add(32)));
+  store64(frame.wrapping_add(232), load64(p6.wrapping_add(24)));
+  store64(frame.wrapping_add(224), load64(p6.wrapping_add(16)));
+  store64(frame.wrapping_add(216), load64(p6.wrapping_add(8)));
+  store64(frame.wrapping_add(208), load64(p6));
+  store64(frame.wrapping_add(248), load64(v27));
+  store64(frame.wrapping_add(256), load64(v27.wrapping_add(8)));
+  store8(frame.wrapping_add(336), v13 as u8);
+  store64(frame.wrapping_add(328), v24);
+  store64(frame.wrapping_add(320), v23);
+  store64(frame.wrapping_add(312), v22);
+  store64(frame.wrapping_add(304), v21);
+  store64(frame.wrapping_add(296), v29);
+  store8(frame.wrapping_add(288), v18 as u8);
+  store64(frame.wrapping_add(280), v25);
+  store64(frame.wrapping_add(272), v26);
+  store8(frame.wrapping_add(808), v8 as u8);
+  store64(frame.wrapping_add(800), v9);
+  store64(frame.wrapping_add(792), v10);
+  store64(frame.wrapping_add(784), p4);
+  store32(frame.wrapping_add(809), load32(frame.wrapping_add(184)));
+  store32(frame.wrapping_add(812), load32(frame.wrapping_add(187)));
+  fill(frame.wrapping_add(408), 0, 376);
+  store64(frame.wrapping_add(400), load64(p1.wrapping_add(16)));
+  store64(frame.wrapping_add(392), load64(p1.wrapping_add(8)));
+  store64(frame.wrapping_add(384), load64(p1));
+  der_view_facts_RowFacts_of_element(frame.wrapping_add(408), frame.wrapping_add(384), 0,
+      frame.wrapping_add(784), frame.wrapping_add(208));
+  if (load8(p1.wrapping_add(24)) as u32) == 1 {
+    break 'after_10;
+  }
+  p4 = load64(frame.wrapping_add(408));
+  'after_13: {
+  if (load8(frame.wrapping_add(560)) as u32) == 1 {
+    break 'after_13;
+  }
+  if ((load8(frame.wrapping_add(592)) as u32) & 255) == 1 {
+    break 'after_13;
+  }
+  if ((load8(frame.wrapping_add(624)) as u32) & 255) == 1 {
+    break 'after_13;
+  }
+  if ((load8(frame.wrapping_add(656)) as u32) & 255) == 1 {
+    break 'after_13;
+  }
+  if ((load8(frame.wrapping_add(688)) as u32) & 255) == 1 {
+    break 'after_13;
+  }
+  if ((load8(frame.wrapping_add(720)) as u32) & 255) != 1 {
+    break 'after_10;
+  }
+  }
+  store64(p1.wrapping_add(32), p4);
+  store64(p1.wrapping_add(24), 1);
+  }
+  'after_18: {
+  'after_17: {
+  'after_16: {
+  'after_15: {
+  'after_14: {
+  if v13 == 0 {
+    break 'after_14;
+  }
+  v13 = load8(p6.wrapping_add(24)) as u32;
+  v8 = load8(p5.wrapping_add(1)) as u32;
+  der_view_grammar_Structure_components(frame.wrapping_add(8), v12);
+  store8(frame.wrapping_add(137), v8 as u8);
+  v13 = u32::from(v13 != 1);
+  store8(frame.wrapping_add(136), v13 as u8);
+  store8(frame.wrapping_add(112), v17 as u8);
+  store64(frame.wrapping_add(56), v11.wrapping_add(v16));
+  store64(frame.wrapping_add(64), v15);
+  store64(frame.wrapping_add(72), v9);
+  store8(frame.wrapping_add(80), v14 as u8);
+  store64(frame.wrapping_add(152), load64(frame.wrapping_add(16)));
+  store64(frame.wrapping_add(144), load64(frame.wrapping_add(8)));
+  store8(frame.wrapping_add(113), (load8(p2.wrapping_add(1)) as u32) as u8);
+  store64(frame.wrapping_add(120), load64(p2.wrapping_add(8)));
+  store64(frame.wrapping_add(128), load64(p2.wrapping_add(16)));
+  store64(frame.wrapping_add(168), (load64(p6.wrapping_add(96))).wrapping_sub(v11));
+  store64(frame.wrapping_add(160), (load64(p6.wrapping_add(88))).wrapping_add(v11));
+  store32(frame.wrapping_add(84), load32(frame.wrapping_add(179)));
+  store32(frame.wrapping_add(81), load32(frame.wrapping_add(176)));
+  der_view_walk_walk_6(frame.wrapping_add(88), p1, frame.wrapping_add(112), p3,
+      frame.wrapping_add(56), frame.wrapping_add(136));
+  if (load8(frame.wrapping_add(88)) as u32) != 1 {
+    break 'after_15;
+  }
+  if v13 == 0 {
+    break 'after_16;
+  }
+  store64(frame.wrapping_add(48), load64(frame.wrapping_add(104)));
+  store64(frame.wrapping_add(40), load64(frame.wrapping_add(96)));
+  break 'after_17;
+  }
+  p4 = load64(p6.wrapping_add(112));
+  p6 = load64(p6.wrapping_add(104));
+  store64(p0, 1);
+  store64(p0.wrapping_add(8), p6);
+  store64(p0.wrapping_add(16), p4);
+  store64(frame.wrapping_add(200), p4);
+  store64(frame.wrapping_add(192), p6);
+  break 'after_18;
+  }
+  store64(p0.wrapping_add(16), 0);
+  store64(p0.wrapping_add(8), 0);
+  store64(p0, 0);
+  break 'after_18;
+  }
+  store64(frame.wrapping_add(48), load64(p6.wrapping_add(112)));
+  store64(frame.wrapping_add(40), load64(p6.wrapping_add(104)));
+  }
+  store64(p0, 1);
+  store64(p0.wrapping_add(8), load64(frame.wrapping_add(40)));
+  store64(p0.wrapping_add(16), load64(frame.wrapping_add(48)));
   }
 }
 
@@ -27822,99 +28309,72 @@ unsafe fn der_view_printer_Printer_tell(p0: u64, p1: u64) {
   let mut v17 = 0u64;
   let mut v18 = 0u64;
   let mut v19 = 0u64;
-  'after_3: {
-  'after_8: {
   'after_1: {
+  'after_6: {
   if (load8(p0.wrapping_add(48)) as u32) == 1 {
     break 'after_1;
   }
+  v3 = load8(p0.wrapping_add(33)) as u32;
   'after_2: {
-  if (load8(p1.wrapping_add(152)) as u32) == 1 {
+  v4 = load64(p0.wrapping_add(40));
+  if v4 == 0 {
     break 'after_2;
   }
-  if (load8(p1.wrapping_add(184)) as u32) == 1 {
-    break 'after_2;
-  }
-  if (load8(p1.wrapping_add(216)) as u32) == 1 {
-    break 'after_2;
-  }
-  if (load8(p1.wrapping_add(248)) as u32) == 1 {
-    break 'after_2;
-  }
-  if (load8(p1.wrapping_add(280)) as u32) == 1 {
-    break 'after_2;
-  }
-  if (load8(p1.wrapping_add(312)) as u32) != 1 {
+  if v4 <= (load64(p1.wrapping_add(8))) {
     break 'after_1;
   }
   }
-  store64(p0.wrapping_add(56), load64(p1));
-  store64(p0.wrapping_add(48), 1);
-  }
-  if (load8(p0.wrapping_add(64)) as u32) == 1 {
-    break 'after_3;
-  }
-  v3 = load8(p0.wrapping_add(33)) as u32;
-  'after_4: {
-  v4 = load64(p0.wrapping_add(40));
-  if v4 == 0 {
-    break 'after_4;
-  }
-  if v4 <= (load64(p1.wrapping_add(8))) {
-    break 'after_3;
-  }
-  }
   v5 = load64(p0);
-  'after_56: {
-  'after_55: {
-  'after_52: {
-  'after_25: {
-  'after_19: {
-  'after_5: {
+  'after_54: {
+  'after_53: {
+  'after_50: {
+  'after_23: {
+  'after_17: {
+  'after_3: {
   if (v3 & 1) == 0 {
-    break 'after_5;
+    break 'after_3;
   }
   store64(frame.wrapping_add(648), 0);
   store64(frame.wrapping_add(640), 0);
-  'after_17: {
-  'after_9: {
-  'after_6: {
+  'after_15: {
+  'after_7: {
+  'after_4: {
   v3 = load8(p1.wrapping_add(32)) as u32;
   if v3 != 2 {
-    break 'after_6;
+    break 'after_4;
   }
-  'after_7: {
+  'after_5: {
   if (load64(p1.wrapping_add(80))) != 0 {
-    break 'after_7;
+    break 'after_5;
   }
   v6 = 0;
   v3 = 0;
   if ((load8(p1.wrapping_add(152)) as u32) & 255) != 1 {
-    break 'after_8;
+    break 'after_6;
   }
   }
   store32(frame.wrapping_add(649), 0);
   store8(frame.wrapping_add(648), 123);
   store64(frame.wrapping_add(640), v5);
   store32(frame.wrapping_add(652), 0);
-  break 'after_9;
+  break 'after_7;
   }
   store32(frame.wrapping_add(649), 0);
   store8(frame.wrapping_add(648), 123);
   store64(frame.wrapping_add(640), v5);
   store32(frame.wrapping_add(652), 0);
   if v3 != 0 {
-    break 'after_9;
+    break 'after_7;
   }
   v3 = load8(p1.wrapping_add(37)) as u32;
   v4 = load8(p1.wrapping_add(36)) as u64;
-  'after_10: {
+  'after_8: {
   if (load8(p1.wrapping_add(64)) as u32) != 1 {
-    break 'after_10;
+    break 'after_8;
   }
   v7 = load64(p1.wrapping_add(72));
   if v7 == (load64(p1.wrapping_add(80))) {
-    break 'after_10;
+    break 'after_8;
   }
   store64(frame.wrapping_add(192), 0);
   store64(frame.wrapping_add(184), 0);
@@ -27926,21 +28386,21 @@ unsafe fn der_view_printer_Printer_tell(p0: u64, p1: u64) {
   der_view_json_Object_write_member(frame.wrapping_add(136), frame.wrapping_add(640),
       constant(28152), 9, (frame.wrapping_add(160)).wrapping_add(v7), 40u64.wrapping_sub(v7));
   if (load8(frame.wrapping_add(136)) as u32) == 0 {
-    break 'after_10;
+    break 'after_8;
   }
   v6 = load8(frame.wrapping_add(137)) as u32;
   v3 = 1;
-  break 'after_8;
+  break 'after_6;
   }
   der_view_json_Object_write_member(frame.wrapping_add(128), frame.wrapping_add(640),
       constant(28161), 5, constant(1928), 1);
-  'after_11: {
+  'after_9: {
   if (load8(frame.wrapping_add(128)) as u32) == 0 {
-    break 'after_11;
+    break 'after_9;
   }
   v6 = load8(frame.wrapping_add(129)) as u32;
   v3 = 1;
-  break 'after_8;
+  break 'after_6;
   }
   v4 = v4 << 3;
   v7 = load64(constant(39336).wrapping_add(v4));
@@ -27949,38 +28409,38 @@ unsafe fn der_view_printer_Printer_tell(p0: u64, p1: u64) {
   store64(frame.wrapping_add(160), 2);
   v4 = load64(frame.wrapping_add(640));
   der_view_json_write_characters(frame.wrapping_add(120), v4, frame.wrapping_add(160));
-  'after_12: {
+  'after_10: {
   if (load8(frame.wrapping_add(120)) as u32) == 0 {
-    break 'after_12;
+    break 'after_10;
   }
   v6 = load8(frame.wrapping_add(121)) as u32;
   v3 = 1;
-  break 'after_8;
+  break 'after_6;
   }
-  'after_14: {
-  'after_13: {
+  'after_12: {
+  'after_11: {
   v7 = load64(v4.wrapping_add(16));
   if (load64(v4.wrapping_add(8))) <= v7 {
-    break 'after_13;
+    break 'after_11;
   }
   store8(load64(v4).wrapping_add(v7), 34);
   v7 = v7.wrapping_add(1);
-  break 'after_14;
+  break 'after_12;
   }
   v7 = v7.wrapping_add(1);
   v7 = if v7 == 0 { 0xffffffffffffffffu64 } else { v7 };
   }
   store64(v4.wrapping_add(16), v7);
-  'after_16: {
-  'after_15: {
+  'after_14: {
+  'after_13: {
   if (v3 & 1) == 0 {
-    break 'after_15;
+    break 'after_13;
   }
   der_view_json_Object_write_member(frame.wrapping_add(104), frame.wrapping_add(640),
       constant(28166), 11, constant(28115), 4);
   v6 = load8(frame.wrapping_add(105)) as u32;
   v3 = load8(frame.wrapping_add(104)) as u32;
-  break 'after_16;
+  break 'after_14;
   }
   der_view_json_Object_write_member(frame.wrapping_add(112), frame.wrapping_add(640),
       constant(28166), 11, constant(28119), 5);
@@ -27988,38 +28448,38 @@ unsafe fn der_view_printer_Printer_tell(p0: u64, p1: u64) {
   v3 = load8(frame.wrapping_add(112)) as u32;
   }
   if (v3 & 255) != 0 {
-    break 'after_17;
+    break 'after_15;
   }
   }
-  'after_18: {
+  'after_16: {
   v8 = load64(p1.wrapping_add(368));
   if v8 == 0 {
-    break 'after_18;
+    break 'after_16;
   }
   v9 = load64(p1.wrapping_add(360));
   der_view_json_Object_write_member(frame.wrapping_add(96), frame.wrapping_add(640),
       constant(28177), 7, constant(1928), 1);
   if (load8(frame.wrapping_add(96)) as u32) != 0 {
-    break 'after_19;
+    break 'after_17;
   }
   v7 = load64(frame.wrapping_add(640));
   v4 = load64(v7.wrapping_add(16));
-  'again_22: loop {
-  'after_21: {
-  'after_20: {
+  'again_20: loop {
+  'after_19: {
+  'after_18: {
   v10 = load64(v7.wrapping_add(8));
   if v10 < v4 {
-    break 'after_20;
+    break 'after_18;
   }
   if (v10.wrapping_sub(v4)) < 2 {
-    break 'after_20;
+    break 'after_18;
   }
   v10 = load8(v9) as u64;
   let t1 = ((load8(constant(28246).wrapping_add(v10 & 15)) as u32) << 8) |
       (load8(constant(28246).wrapping_add(v10 >> 4)) as u32);
   store16(load64(v7).wrapping_add(v4), t1 as u16);
   v4 = v4.wrapping_add(2);
-  break 'after_21;
+  break 'after_19;
   }
   v10 = v4.wrapping_add(2);
   v4 = if v10 < v4 { 0xffffffffffffffffu64 } else { v10 };
@@ -28028,18 +28488,18 @@ unsafe fn der_view_printer_Printer_tell(p0: u64, p1: u64) {
   v9 = v9.wrapping_add(1);
   v8 = v8.wrapping_add(0xffffffffffffffff);
   if v8 != 0 {
-    continue 'again_22;
+    continue 'again_20;
   }
   break;
   }
-  'after_24: {
-  'after_23: {
+  'after_22: {
+  'after_21: {
   if (load64(v7.wrapping_add(8))) <= v4 {
-    break 'after_23;
+    break 'after_21;
   }
   store8(load64(v7).wrapping_add(v4), 34);
   v4 = v4.wrapping_add(1);
-  break 'after_24;
+  break 'after_22;
   }
   v4 = v4.wrapping_add(1);
   v4 = if v4 == 0 { 0xffffffffffffffffu64 } else { v4 };
@@ -28058,53 +28518,53 @@ unsafe fn der_view_printer_Printer_tell(p0: u64, p1: u64) {
   der_view_json_Object_write_member(frame.wrapping_add(88), frame.wrapping_add(640),
       constant(28184), 5, (frame.wrapping_add(160)).wrapping_add(v4), 40u64.wrapping_sub(v4));
   if (load8(frame.wrapping_add(88)) as u32) != 0 {
-    break 'after_25;
+    break 'after_23;
   }
   move_(frame.wrapping_add(160), p1.wrapping_add(152), 192);
   v8 = frame.wrapping_add(569);
   v3 = 1;
-  'after_49: {
   'after_47: {
-  'again_46: loop {
+  'after_45: {
+  'again_44: loop {
   v4 = (frame.wrapping_add(160)).wrapping_add(v7 << 5);
   v7 = v7.wrapping_add(1);
-  'again_48: loop {
-  'after_26: {
+  'again_46: loop {
+  'after_24: {
   if (load8(v4) as u32) != 1 {
-    break 'after_26;
+    break 'after_24;
   }
   v6 = load8(v4.wrapping_add(8)) as u32;
   v9 = load64(v4.wrapping_add(16));
   v10 = load64(v4.wrapping_add(24));
   v11 = load8(v4.wrapping_add(12)) as u32;
-  'after_29: {
   'after_27: {
+  'after_25: {
   if (v3 & 1) == 0 {
-    break 'after_27;
+    break 'after_25;
   }
   der_view_json_Object_write_member(frame.wrapping_add(80), frame.wrapping_add(640),
       constant(28262), 6, constant(28268), 1);
-  'after_28: {
+  'after_26: {
   if (load8(frame.wrapping_add(80)) as u32) == 0 {
-    break 'after_28;
+    break 'after_26;
   }
   v6 = load8(frame.wrapping_add(81)) as u32;
   v3 = 1;
-  break 'after_8;
+  break 'after_6;
   }
   v4 = load64(frame.wrapping_add(640));
-  break 'after_29;
+  break 'after_27;
   }
-  'after_31: {
-  'after_30: {
+  'after_29: {
+  'after_28: {
   v4 = load64(frame.wrapping_add(640));
   v5 = load64(v4.wrapping_add(16));
   if (load64(v4.wrapping_add(8))) <= v5 {
-    break 'after_30;
+    break 'after_28;
   }
   store8(load64(v4).wrapping_add(v5), 44);
   v5 = v5.wrapping_add(1);
-  break 'after_31;
+  break 'after_29;
   }
   v5 = v5.wrapping_add(1);
   v5 = if v5 == 0 { 0xffffffffffffffffu64 } else { v5 };
@@ -28124,32 +28584,32 @@ unsafe fn der_view_printer_Printer_tell(p0: u64, p1: u64) {
   store64(frame.wrapping_add(560), v4);
   v9 = 7;
   v10 = constant(29976);
-  'after_35: {
-  'after_34: {
   'after_33: {
   'after_32: {
+  'after_31: {
+  'after_30: {
   match v6 {
   2 => {
-    break 'after_32;
+    break 'after_30;
   }
   3 => {
-    break 'after_33;
+    break 'after_31;
   }
   1 => {
-    break 'after_34;
+    break 'after_32;
   }
   _ => {
-    break 'after_35;
+    break 'after_33;
   }
   }
   }
   v9 = 8;
   v10 = constant(29983);
-  break 'after_35;
+  break 'after_33;
   }
   v9 = 4;
   v10 = constant(29991);
-  break 'after_35;
+  break 'after_33;
   }
   v10 = (v11 as u64) << 3;
   v9 = load64(constant(39504).wrapping_add(v10));
@@ -28157,36 +28617,36 @@ unsafe fn der_view_printer_Printer_tell(p0: u64, p1: u64) {
   }
   der_view_json_Object_write_member(frame.wrapping_add(72), frame.wrapping_add(560),
       constant(28270), 4, constant(1928), 1);
-  'after_36: {
+  'after_34: {
   if (load8(frame.wrapping_add(72)) as u32) == 0 {
-    break 'after_36;
+    break 'after_34;
   }
   v6 = load8(frame.wrapping_add(73)) as u32;
   v3 = 1;
-  break 'after_8;
+  break 'after_6;
   }
   store64(frame.wrapping_add(368), v9);
   store64(frame.wrapping_add(360), v10);
   store64(frame.wrapping_add(352), 2);
   v9 = load64(frame.wrapping_add(560));
   der_view_json_write_characters(frame.wrapping_add(64), v9, frame.wrapping_add(352));
-  'after_37: {
+  'after_35: {
   if (load8(frame.wrapping_add(64)) as u32) == 0 {
-    break 'after_37;
+    break 'after_35;
   }
   v6 = load8(frame.wrapping_add(65)) as u32;
   v3 = 1;
-  break 'after_8;
+  break 'after_6;
   }
-  'after_39: {
-  'after_38: {
+  'after_37: {
+  'after_36: {
   v10 = load64(v9.wrapping_add(16));
   if (load64(v9.wrapping_add(8))) <= v10 {
-    break 'after_38;
+    break 'after_36;
   }
   store8(load64(v9).wrapping_add(v10), 34);
   v10 = v10.wrapping_add(1);
-  break 'after_39;
+  break 'after_37;
   }
   v10 = v10.wrapping_add(1);
   v10 = if v10 == 0 { 0xffffffffffffffffu64 } else { v10 };
@@ -28195,51 +28655,51 @@ unsafe fn der_view_printer_Printer_tell(p0: u64, p1: u64) {
   v9 = load64(frame.wrapping_add(776));
   der_view_json_Object_write_member(frame.wrapping_add(56), frame.wrapping_add(560),
       constant(28110), 5, constant(1928), 1);
-  'after_40: {
+  'after_38: {
   if (load8(frame.wrapping_add(56)) as u32) == 0 {
-    break 'after_40;
+    break 'after_38;
   }
   v6 = load8(frame.wrapping_add(57)) as u32;
   v3 = 1;
-  break 'after_8;
+  break 'after_6;
   }
   store64(frame.wrapping_add(368), v9);
   store64(frame.wrapping_add(352), 2);
   store64(frame.wrapping_add(360), frame.wrapping_add(672));
   v9 = load64(frame.wrapping_add(560));
   der_view_json_write_characters(frame.wrapping_add(48), v9, frame.wrapping_add(352));
-  'after_41: {
+  'after_39: {
   if (load8(frame.wrapping_add(48)) as u32) == 0 {
-    break 'after_41;
+    break 'after_39;
   }
   v6 = load8(frame.wrapping_add(49)) as u32;
   v3 = 1;
-  break 'after_8;
+  break 'after_6;
   }
-  'after_43: {
-  'after_42: {
+  'after_41: {
+  'after_40: {
   v12 = v9.wrapping_add(8);
   v5 = load64(v12);
   v10 = load64(v9.wrapping_add(16));
   if v5 <= v10 {
-    break 'after_42;
+    break 'after_40;
   }
   store8(load64(v9).wrapping_add(v10), 34);
   v10 = v10.wrapping_add(1);
   v5 = load64(v12);
-  break 'after_43;
+  break 'after_41;
   }
   v10 = v10.wrapping_add(1);
   v10 = if v10 == 0 { 0xffffffffffffffffu64 } else { v10 };
   }
-  'after_45: {
-  'after_44: {
+  'after_43: {
+  'after_42: {
   if v5 <= v10 {
-    break 'after_44;
+    break 'after_42;
   }
   store8(load64(v9).wrapping_add(v10), 125);
   v10 = v10.wrapping_add(1);
-  break 'after_45;
+  break 'after_43;
   }
   v10 = v10.wrapping_add(1);
   v10 = if v10 == 0 { 0xffffffffffffffffu64 } else { v10 };
@@ -28247,33 +28707,33 @@ unsafe fn der_view_printer_Printer_tell(p0: u64, p1: u64) {
   store64(v9.wrapping_add(16), v10);
   v3 = 0;
   if v7 != 6 {
-    continue 'again_46;
+    continue 'again_44;
   }
-  break 'after_47;
+  break 'after_45;
   }
   v4 = v4.wrapping_add(32);
   v7 = v7.wrapping_add(1);
   if v7 != 7 {
-    continue 'again_48;
+    continue 'again_46;
   }
   break;
   }
   break;
   }
   if (v3 & 1) != 0 {
-    break 'after_49;
+    break 'after_47;
   }
   v4 = load64(frame.wrapping_add(640));
   }
-  'after_51: {
-  'after_50: {
+  'after_49: {
+  'after_48: {
   v7 = load64(v4.wrapping_add(16));
   if (load64(v4.wrapping_add(8))) <= v7 {
-    break 'after_50;
+    break 'after_48;
   }
   store8(load64(v4).wrapping_add(v7), 93);
   v7 = v7.wrapping_add(1);
-  break 'after_51;
+  break 'after_49;
   }
   v7 = v7.wrapping_add(1);
   v7 = if v7 == 0 { 0xffffffffffffffffu64 } else { v7 };
@@ -28283,68 +28743,68 @@ unsafe fn der_view_printer_Printer_tell(p0: u64, p1: u64) {
   der_view_json_Object_write_number(frame.wrapping_add(40), frame.wrapping_add(640),
       constant(28189), 10, load64(p1.wrapping_add(56)));
   if (load8(frame.wrapping_add(40)) as u32) != 0 {
-    break 'after_52;
+    break 'after_50;
   }
-  'after_54: {
-  'after_53: {
+  'after_52: {
+  'after_51: {
   if (load8(p1.wrapping_add(32)) as u32) != 0 {
-    break 'after_53;
+    break 'after_51;
   }
   if (load8(p1.wrapping_add(64)) as u32) == 0 {
-    break 'after_54;
+    break 'after_52;
   }
   }
   der_view_json_Object_write_number(frame.wrapping_add(32), frame.wrapping_add(640),
       constant(28199), 3, load64(p1.wrapping_add(80)));
   if (load8(frame.wrapping_add(32)) as u32) == 0 {
-    break 'after_54;
+    break 'after_52;
   }
   v6 = load8(frame.wrapping_add(33)) as u32;
   v3 = 1;
-  break 'after_8;
+  break 'after_6;
   }
   v4 = (load8(p1.wrapping_add(104)) as u64) << 4;
   der_view_json_Object_write_text_if(frame.wrapping_add(24), frame.wrapping_add(640),
       constant(28202), 4, load64(constant(30024).wrapping_add(v4)),
       load64(constant(30032).wrapping_add(v4)));
   if (load8(frame.wrapping_add(24)) as u32) != 0 {
-    break 'after_55;
+    break 'after_53;
   }
   der_view_json_Object_write_number(frame.wrapping_add(16), frame.wrapping_add(640),
       constant(28206), 6, load64(p1));
   if (load8(frame.wrapping_add(16)) as u32) != 0 {
-    break 'after_56;
+    break 'after_54;
   }
   der_view_json_Object_write_back(frame.wrapping_add(8), frame.wrapping_add(640), p1);
-  'after_57: {
+  'after_55: {
   if (load8(frame.wrapping_add(8)) as u32) != 0 {
-    break 'after_57;
+    break 'after_55;
   }
   der_view_json_Object_end(load64(frame.wrapping_add(640)));
   v6 = 0;
   v3 = 0;
-  break 'after_8;
+  break 'after_6;
   }
   v6 = load8(frame.wrapping_add(9)) as u32;
   }
   v3 = 1;
-  break 'after_8;
+  break 'after_6;
   }
   v6 = 0;
   fill(frame.wrapping_add(352), 0, 112);
-  'after_58: {
+  'after_56: {
   v3 = load8(p1.wrapping_add(32)) as u32;
   if v3 != 2 {
-    break 'after_58;
+    break 'after_56;
   }
   if (load64(p1.wrapping_add(80))) != 0 {
-    break 'after_58;
+    break 'after_56;
   }
   if ((load8(p1.wrapping_add(152)) as u32) & 255) == 1 {
-    break 'after_58;
+    break 'after_56;
   }
   v3 = 0;
-  break 'after_8;
+  break 'after_6;
   }
   fill(frame.wrapping_add(672), 0, 112);
   fill(frame.wrapping_add(160), 0, 112);
@@ -28353,47 +28813,47 @@ unsafe fn der_view_printer_Printer_tell(p0: u64, p1: u64) {
   store64(frame.wrapping_add(480), 0);
   store64(frame.wrapping_add(488), 0);
   store64(frame.wrapping_add(496), 0);
-  'after_59: {
+  'after_57: {
   let t3 = itoa_integer_write_unsigned(load64(p1), frame.wrapping_add(464));
   v8 = t3;
   v7 = 40u64.wrapping_sub(v8);
   v4 = 4u64.wrapping_sub(v7);
   v4 = if v4 > 4 { 0u64 } else { v4 };
   if v4 == 0 {
-    break 'after_59;
+    break 'after_57;
   }
   fill(frame.wrapping_add(160), 32, v4);
   }
-  'after_60: {
+  'after_58: {
   v9 = 101u64.wrapping_sub(v4);
   v7 = if v7 < v9 { v7 } else { v9 };
   if v7 == 0 {
-    break 'after_60;
+    break 'after_58;
   }
   move_((frame.wrapping_add(160)) | v4, (frame.wrapping_add(464)).wrapping_add(v8), v7);
   }
   v4 = v7.wrapping_add(v4);
-  'after_61: {
+  'after_59: {
   v12 = load64(p1.wrapping_add(56));
   if v12 == 0 {
-    break 'after_61;
+    break 'after_59;
   }
   v7 = load64(p1.wrapping_add(48));
   v8 = v12;
-  'again_65: loop {
+  'again_63: loop {
   store8(frame.wrapping_add(560), 32);
-  'after_63: {
-  'after_62: {
+  'after_61: {
+  'after_60: {
   v10 = (frame.wrapping_add(160)).wrapping_add(v4);
   v9 = (u32::from(v4 != 101)) as u64;
   if (v10.wrapping_sub(frame.wrapping_add(560))) >= v9 {
-    break 'after_62;
+    break 'after_60;
   }
   store8(v10, 32);
-  break 'after_63;
+  break 'after_61;
   }
   if v9 == 0 {
-    break 'after_63;
+    break 'after_61;
   }
   move_(v10, frame.wrapping_add(560), v9);
   }
@@ -28402,11 +28862,11 @@ unsafe fn der_view_printer_Printer_tell(p0: u64, p1: u64) {
   v9 = load8(v7) as u64;
   store8(frame.wrapping_add(561), (load8(constant(28246).wrapping_add(v9 & 15)) as u32) as u8);
   store8(frame.wrapping_add(560), (load8(constant(28246).wrapping_add(v9 >> 4)) as u32) as u8);
-  'after_64: {
+  'after_62: {
   v9 = 101u64.wrapping_sub(v4);
   v9 = if v9 < 2 { v9 } else { 2u64 };
   if v9 == 0 {
-    break 'after_64;
+    break 'after_62;
   }
   move_((frame.wrapping_add(160)).wrapping_add(v4), frame.wrapping_add(560), v9);
   }
@@ -28415,24 +28875,24 @@ unsafe fn der_view_printer_Printer_tell(p0: u64, p1: u64) {
   v7 = v7.wrapping_add(1);
   v8 = v8.wrapping_add(0xffffffffffffffff);
   if v8 != 0 {
-    continue 'again_65;
+    continue 'again_63;
   }
   break;
   }
   }
   store8(frame.wrapping_add(560), 32);
-  'after_67: {
-  'after_66: {
+  'after_65: {
+  'after_64: {
   v7 = (frame.wrapping_add(160)).wrapping_add(v4);
   v9 = (u32::from(v4 != 101)) as u64;
   if (v7.wrapping_sub(frame.wrapping_add(560))) >= v9 {
-    break 'after_66;
+    break 'after_64;
   }
   store8(v7, 32);
-  break 'after_67;
+  break 'after_65;
   }
   if v9 == 0 {
-    break 'after_67;
+    break 'after_65;
   }
   move_(v7, frame.wrapping_add(560), v9);
   }
@@ -28440,17 +28900,17 @@ unsafe fn der_view_printer_Printer_tell(p0: u64, p1: u64) {
       }).wrapping_mul(3));
   v7 = if v7 > 19 { 0u64 } else { v7 };
   v4 = v4.wrapping_add(v9);
-  'after_71: {
-  'after_68: {
+  'after_69: {
+  'after_66: {
   if (load8(p1.wrapping_add(64)) as u32) != 1 {
-    break 'after_68;
+    break 'after_66;
   }
   store64(frame.wrapping_add(560), 0);
   store64(frame.wrapping_add(568), 0);
   store64(frame.wrapping_add(576), 0);
   store64(frame.wrapping_add(584), 0);
   store64(frame.wrapping_add(592), 0);
-  'after_69: {
+  'after_67: {
   let t4 = itoa_integer_write_unsigned(load64(p1.wrapping_add(72)), frame.wrapping_add(560));
   v10 = t4;
   v9 = 40u64.wrapping_sub(v10);
@@ -28459,249 +28919,249 @@ unsafe fn der_view_printer_Printer_tell(p0: u64, p1: u64) {
   v8 = 101u64.wrapping_sub(v4);
   v7 = if v7 < v8 { v7 } else { v8 };
   if v7 == 0 {
-    break 'after_69;
+    break 'after_67;
   }
   fill((frame.wrapping_add(160)).wrapping_add(v4), 32, v7);
   }
-  'after_70: {
+  'after_68: {
   v4 = v7.wrapping_add(v4);
   v7 = 101u64.wrapping_sub(v4);
   v7 = if v9 < v7 { v9 } else { v7 };
   if v7 == 0 {
-    break 'after_70;
+    break 'after_68;
   }
   move_((frame.wrapping_add(160)).wrapping_add(v4), (frame.wrapping_add(560)).wrapping_add(v10),
       v7);
   }
   v4 = v7.wrapping_add(v4);
-  break 'after_71;
+  break 'after_69;
   }
-  'after_72: {
+  'after_70: {
   v7 = v7.wrapping_sub((u32::from(v7 != 0)) as u64);
   v9 = 101u64.wrapping_sub(v4);
   v7 = if v7 < v9 { v7 } else { v9 };
   if v7 == 0 {
-    break 'after_72;
+    break 'after_70;
   }
   fill((frame.wrapping_add(160)).wrapping_add(v4), 32, v7);
   }
-  'after_74: {
-  'after_73: {
+  'after_72: {
+  'after_71: {
   v4 = v7.wrapping_add(v4);
   v9 = (frame.wrapping_add(160)).wrapping_add(v4);
   v7 = (u32::from(v4 != 101)) as u64;
   if (v9.wrapping_sub(constant(33952))) >= v7 {
-    break 'after_73;
+    break 'after_71;
   }
   store8(v9, 63);
-  break 'after_74;
+  break 'after_72;
   }
   if v7 == 0 {
-    break 'after_74;
+    break 'after_72;
   }
   fill(v9, 63, v7);
   }
   v4 = v4.wrapping_add(v7);
   }
-  'after_75: {
+  'after_73: {
   v7 = 101u64.wrapping_sub(v4);
   v9 = if v7 < 2 { v7 } else { 2u64 };
   if v9 == 0 {
-    break 'after_75;
+    break 'after_73;
   }
   fill((frame.wrapping_add(160)).wrapping_add(v4), 32, v9);
   }
-  'after_76: {
+  'after_74: {
   v7 = load64(p1.wrapping_add(8));
   v8 = (if v7 < 16 { v7 } else { 16u64 }) << 1;
   v9 = v9.wrapping_add(v4);
   v4 = 101u64.wrapping_sub(v9);
   v4 = if v8 < v4 { v8 } else { v4 };
   if v4 == 0 {
-    break 'after_76;
+    break 'after_74;
   }
   fill((frame.wrapping_add(160)).wrapping_add(v9), 32, v4);
   }
   v4 = v4.wrapping_add(v9);
   store64(frame.wrapping_add(264), v4);
-  'after_77: {
+  'after_75: {
   if v7 < 17 {
-    break 'after_77;
+    break 'after_75;
   }
   store64(frame.wrapping_add(496), 0);
   store64(frame.wrapping_add(488), 0);
   store64(frame.wrapping_add(480), 0);
   store64(frame.wrapping_add(472), 0);
   store64(frame.wrapping_add(464), 0);
-  'after_78: {
+  'after_76: {
   let t5 = itoa_integer_write_unsigned(v7, frame.wrapping_add(464));
   v10 = t5;
   v7 = 40u64.wrapping_sub(v10);
   v8 = 101u64.wrapping_sub(v4);
   v7 = if v7 < v8 { v7 } else { v8 };
   if v7 == 0 {
-    break 'after_78;
+    break 'after_76;
   }
   move_((frame.wrapping_add(160)).wrapping_add(v4), (frame.wrapping_add(464)).wrapping_add(v10),
       v7);
   }
-  'after_79: {
+  'after_77: {
   v4 = v7.wrapping_add(v4);
   v7 = 101u64.wrapping_sub(v4);
   v7 = if v7 < 2 { v7 } else { 2u64 };
   if v7 == 0 {
-    break 'after_79;
+    break 'after_77;
   }
   move_((frame.wrapping_add(160)).wrapping_add(v4), constant(24798), v7);
   }
   v4 = v7.wrapping_add(v4);
   store64(frame.wrapping_add(264), v4);
   }
-  'after_90: {
-  'after_81: {
+  'after_88: {
+  'after_79: {
+  'after_78: {
   'after_80: {
-  'after_82: {
   match v3 {
   1 => {
-    break 'after_80;
+    break 'after_78;
   }
   2 => {
-    break 'after_81;
+    break 'after_79;
   }
   _ => {
-    break 'after_82;
+    break 'after_80;
   }
   }
   }
   der_view_line_Line_push_type(frame.wrapping_add(160), load64(p1.wrapping_add(36)));
   fill(frame.wrapping_add(464), 0, 96);
   der_view_facts_RowFacts_value(frame.wrapping_add(464), p1);
-  'after_83: {
+  'after_81: {
   if (load8(frame.wrapping_add(464)) as u32) != 1 {
-    break 'after_83;
+    break 'after_81;
   }
   v4 = load8(frame.wrapping_add(480)) as u64;
   move_(frame.wrapping_add(560), frame.wrapping_add(481), 79);
-  'after_89: {
-  'after_88: {
   'after_87: {
   'after_86: {
   'after_85: {
   'after_84: {
+  'after_83: {
+  'after_82: {
   match v4 as u32 {
   1 => {
-    break 'after_84;
+    break 'after_82;
   }
   2 => {
-    break 'after_85;
+    break 'after_83;
   }
   3 => {
-    break 'after_86;
+    break 'after_84;
   }
   4 => {
-    break 'after_87;
+    break 'after_85;
   }
   5 => {
-    break 'after_88;
+    break 'after_86;
   }
   6 => {
-    break 'after_89;
+    break 'after_87;
   }
   _ => {
-    break 'after_90;
+    break 'after_88;
   }
   }
   }
   der_view_line_Line_push_number_of(frame.wrapping_add(160), load64(frame.wrapping_add(567)),
       constant(25000), 5);
-  break 'after_90;
+  break 'after_88;
   }
   der_view_line_Line_push_number_of(frame.wrapping_add(160), load64(frame.wrapping_add(567)),
       constant(25000), 5);
   v4 = load8(frame.wrapping_add(575)) as u64;
   if v4 == 0 {
-    break 'after_90;
+    break 'after_88;
   }
   der_view_line_Line_push_number_of(frame.wrapping_add(160), v4, constant(33963), 11);
-  break 'after_90;
+  break 'after_88;
   }
   store8(frame.wrapping_add(640), 32);
-  'after_92: {
-  'after_91: {
+  'after_90: {
+  'after_89: {
   v4 = load64(frame.wrapping_add(264));
   v8 = (frame.wrapping_add(160)).wrapping_add(v4);
   v7 = (u32::from(v4 != 101)) as u64;
   if (v8.wrapping_sub(frame.wrapping_add(640))) >= v7 {
-    break 'after_91;
+    break 'after_89;
   }
   store8(v8, 32);
-  break 'after_92;
+  break 'after_90;
   }
   if v7 == 0 {
-    break 'after_92;
+    break 'after_90;
   }
   move_(v8, frame.wrapping_add(640), v7);
   }
-  'after_93: {
+  'after_91: {
   v8 = load64(frame.wrapping_add(607));
   v4 = v4.wrapping_add(v7);
   v7 = 101u64.wrapping_sub(v4);
   v7 = if v8 < v7 { v8 } else { v7 };
   if v7 == 0 {
-    break 'after_93;
+    break 'after_91;
   }
   move_((frame.wrapping_add(160)).wrapping_add(v4), frame.wrapping_add(567), v7);
   }
   store64(frame.wrapping_add(264), v7.wrapping_add(v4));
-  break 'after_90;
+  break 'after_88;
   }
   store8(frame.wrapping_add(640), 32);
-  'after_95: {
-  'after_94: {
+  'after_93: {
+  'after_92: {
   v13 = load64(frame.wrapping_add(264));
   v4 = (frame.wrapping_add(160)).wrapping_add(v13);
   v14 = (u32::from(v13 != 101)) as u64;
   if (v4.wrapping_sub(frame.wrapping_add(640))) >= v14 {
-    break 'after_94;
+    break 'after_92;
   }
   store8(v4, 32);
-  break 'after_95;
+  break 'after_93;
   }
   if v14 == 0 {
-    break 'after_95;
+    break 'after_93;
   }
   move_(v4, frame.wrapping_add(640), v14);
   }
-  'after_96: {
+  'after_94: {
   v4 = v13.wrapping_add(v14);
   v7 = 101u64.wrapping_sub(v4);
   v15 = if v7 < 19 { v7 } else { 19u64 };
   if v15 == 0 {
-    break 'after_96;
+    break 'after_94;
   }
   move_((frame.wrapping_add(160)).wrapping_add(v4), frame.wrapping_add(560), v15);
   }
   v16 = v15.wrapping_add(v4);
   store64(frame.wrapping_add(264), v16);
-  'after_100: {
-  'after_97: {
+  'after_98: {
+  'after_95: {
   v17 = (frame.wrapping_add(160)).wrapping_add(v16);
   v12 = load64(frame.wrapping_add(583));
   v4 = load64(frame.wrapping_add(591));
   v7 = 101u64.wrapping_sub(v16);
   v18 = if v4 < v7 { v4 } else { v7 };
   if (v17.wrapping_sub(v12)) >= v18 {
-    break 'after_97;
+    break 'after_95;
   }
   v10 = v18 & 3;
   v7 = 0;
-  'after_98: {
+  'after_96: {
   if v18 < 4 {
-    break 'after_98;
+    break 'after_96;
   }
   v19 = v18 & 0xfffffffffffffffc;
   v7 = 0;
-  'again_99: loop {
+  'again_97: loop {
   v4 = v17.wrapping_add(v7);
   v8 = v12.wrapping_add(v7);
   store8(v4, (load8(v8) as u32) as u8);
@@ -28710,99 +29170,99 @@ unsafe fn der_view_printer_Printer_tell(p0: u64, p1: u64) {
   store8(v4.wrapping_add(3), (load8(v8.wrapping_add(3)) as u32) as u8);
   v7 = v7.wrapping_add(4);
   if v19 != v7 {
-    continue 'again_99;
+    continue 'again_97;
   }
   break;
   }
   if v10 == 0 {
-    break 'after_100;
+    break 'after_98;
   }
   }
   v4 = v12.wrapping_add(v7);
   v7 =
       (frame.wrapping_add(160)).wrapping_add(((v7.wrapping_add(v13)).wrapping_add(v15)).wrapping_add(v14));
-  'again_101: loop {
+  'again_99: loop {
   store8(v7, (load8(v4) as u32) as u8);
   v7 = v7.wrapping_add(1);
   v4 = v4.wrapping_add(1);
   v10 = v10.wrapping_add(0xffffffffffffffff);
   if v10 != 0 {
-    continue 'again_101;
+    continue 'again_99;
   }
-  break 'after_100;
+  break 'after_98;
   }
   }
   if v18 == 0 {
-    break 'after_100;
+    break 'after_98;
   }
   move_(v17, v12, v18);
   }
   store64(frame.wrapping_add(264), v18.wrapping_add(v16));
-  break 'after_90;
+  break 'after_88;
   }
-  'after_102: {
+  'after_100: {
   if (load8(frame.wrapping_add(567)) as u32) != 0 {
-    break 'after_102;
+    break 'after_100;
   }
   store8(frame.wrapping_add(640), 32);
-  'after_104: {
-  'after_103: {
+  'after_102: {
+  'after_101: {
   v4 = load64(frame.wrapping_add(264));
   v8 = (frame.wrapping_add(160)).wrapping_add(v4);
   v7 = (u32::from(v4 != 101)) as u64;
   if (v8.wrapping_sub(frame.wrapping_add(640))) >= v7 {
-    break 'after_103;
+    break 'after_101;
   }
   store8(v8, 32);
-  break 'after_104;
+  break 'after_102;
   }
   if v7 == 0 {
-    break 'after_104;
+    break 'after_102;
   }
   move_(v8, frame.wrapping_add(640), v7);
   }
   store64(frame.wrapping_add(264), v4.wrapping_add(v7));
   der_view_line_Line_push_arcs(frame.wrapping_add(160), frame.wrapping_add(512));
-  break 'after_90;
+  break 'after_88;
   }
   store8(frame.wrapping_add(640), 32);
-  'after_106: {
-  'after_105: {
+  'after_104: {
+  'after_103: {
   v13 = load64(frame.wrapping_add(264));
   v4 = (frame.wrapping_add(160)).wrapping_add(v13);
   v14 = (u32::from(v13 != 101)) as u64;
   if (v4.wrapping_sub(frame.wrapping_add(640))) >= v14 {
-    break 'after_105;
+    break 'after_103;
   }
   store8(v4, 32);
-  break 'after_106;
+  break 'after_104;
   }
   if v14 == 0 {
-    break 'after_106;
+    break 'after_104;
   }
   move_(v4, frame.wrapping_add(640), v14);
   }
   v16 = v13.wrapping_add(v14);
   store64(frame.wrapping_add(264), v16);
-  'after_110: {
-  'after_107: {
+  'after_108: {
+  'after_105: {
   v17 = (frame.wrapping_add(160)).wrapping_add(v16);
   v12 = load64(frame.wrapping_add(575));
   v4 = load64(frame.wrapping_add(583));
   v7 = 101u64.wrapping_sub(v16);
   v18 = if v4 < v7 { v4 } else { v7 };
   if (v17.wrapping_sub(v12)) >= v18 {
-    break 'after_107;
+    break 'after_105;
   }
   v10 = v18 & 3;
   v7 = 0;
-  'after_108: {
+  'after_106: {
   if v18 < 4 {
-    break 'after_108;
+    break 'after_106;
   }
   v19 = v18 & 0xfffffffffffffffc;
   v7 = 0;
-  'again_109: loop {
+  'again_107: loop {
   v4 = v17.wrapping_add(v7);
   v8 = v12.wrapping_add(v7);
   store8(v4, (load8(v8) as u32) as u8);
@@ -28811,69 +29271,69 @@ unsafe fn der_view_printer_Printer_tell(p0: u64, p1: u64) {
   store8(v4.wrapping_add(3), (load8(v8.wrapping_add(3)) as u32) as u8);
   v7 = v7.wrapping_add(4);
   if v19 != v7 {
-    continue 'again_109;
+    continue 'again_107;
   }
   break;
   }
   if v10 == 0 {
-    break 'after_110;
+    break 'after_108;
   }
   }
   v4 = v12.wrapping_add(v7);
   v7 = (frame.wrapping_add(160)).wrapping_add((v7.wrapping_add(v13)).wrapping_add(v14));
-  'again_111: loop {
+  'again_109: loop {
   store8(v7, (load8(v4) as u32) as u8);
   v7 = v7.wrapping_add(1);
   v4 = v4.wrapping_add(1);
   v10 = v10.wrapping_add(0xffffffffffffffff);
   if v10 != 0 {
-    continue 'again_111;
+    continue 'again_109;
   }
-  break 'after_110;
+  break 'after_108;
   }
   }
   if v18 == 0 {
-    break 'after_110;
+    break 'after_108;
   }
   move_(v17, v12, v18);
   }
-  'after_112: {
+  'after_110: {
   v4 = v18.wrapping_add(v16);
   v7 = 101u64.wrapping_sub(v4);
   v7 = if v7 < 2 { v7 } else { 2u64 };
   if v7 == 0 {
-    break 'after_112;
+    break 'after_110;
   }
   move_((frame.wrapping_add(160)).wrapping_add(v4), constant(29875), v7);
   }
   store64(frame.wrapping_add(264), v7.wrapping_add(v4));
   der_view_line_Line_push_arcs(frame.wrapping_add(160), frame.wrapping_add(512));
   store8(frame.wrapping_add(640), 41);
-  'after_114: {
-  'after_113: {
+  'after_112: {
+  'after_111: {
   v4 = load64(frame.wrapping_add(264));
   v8 = (frame.wrapping_add(160)).wrapping_add(v4);
   v7 = (u32::from(v4 != 101)) as u64;
   if (v8.wrapping_sub(frame.wrapping_add(640))) >= v7 {
-    break 'after_113;
+    break 'after_111;
   }
   store8(v8, 41);
-  break 'after_114;
+  break 'after_112;
   }
   if v7 == 0 {
-    break 'after_114;
+    break 'after_112;
   }
   move_(v8, frame.wrapping_add(640), v7);
   }
   store64(frame.wrapping_add(264), v4.wrapping_add(v7));
-  break 'after_90;
+  break 'after_88;
   }
-  'after_115: {
+  'after_113: {
   v4 = load64(frame.wrapping_add(264));
   v7 = 101u64.wrapping_sub(v4);
   v7 = if v7 < 2 { v7 } else { 2u64 };
   if v7 == 0 {
-    break 'after_115;
+    break 'after_113;
   }
   move_((frame.wrapping_add(160)).wrapping_add(v4), constant(33974), v7);
   }
@@ -28883,71 +29343,71 @@ unsafe fn der_view_printer_Printer_tell(p0: u64, p1: u64) {
   store64(frame.wrapping_add(656), load64(frame.wrapping_add(504)));
   store64(frame.wrapping_add(648), load64(frame.wrapping_add(496)));
   store64(frame.wrapping_add(640), v7);
-  'after_116: {
+  'after_114: {
   if v4 > 100 {
-    break 'after_116;
+    break 'after_114;
   }
-  'again_125: loop {
+  'again_123: loop {
   der_view_characters_Characters_next_character(frame.wrapping_add(152), frame.wrapping_add(640));
   if (load8(frame.wrapping_add(152)) as u32) != 1 {
-    break 'after_116;
+    break 'after_114;
   }
   v3 = load32(frame.wrapping_add(156));
   store16(frame.wrapping_add(668), 92);
-  'after_120: {
   'after_118: {
-  'after_117: {
+  'after_116: {
+  'after_115: {
   if v3 == 92 {
-    break 'after_117;
+    break 'after_115;
   }
   if v3 != 34 {
-    break 'after_118;
+    break 'after_116;
   }
   }
   store8(frame.wrapping_add(669), v3 as u8);
-  'after_119: {
+  'after_117: {
   v7 = 101u64.wrapping_sub(v4);
   v7 = if v7 < 2 { v7 } else { 2u64 };
   if v7 == 0 {
-    break 'after_119;
+    break 'after_117;
   }
   move_((frame.wrapping_add(160)).wrapping_add(v4), frame.wrapping_add(668), v7);
   }
   v4 = v7.wrapping_add(v4);
-  break 'after_120;
+  break 'after_118;
   }
-  'after_121: {
+  'after_119: {
   if (v3.wrapping_add(0xffffffe0)) > 94 {
-    break 'after_121;
+    break 'after_119;
   }
   store8((frame.wrapping_add(160)).wrapping_add(v4), v3 as u8);
   v4 = v4.wrapping_add(1);
-  break 'after_120;
+  break 'after_118;
   }
-  'after_122: {
+  'after_120: {
   v7 = 101u64.wrapping_sub(v4);
   v7 = if v7 < 3 { v7 } else { 3u64 };
   if v7 == 0 {
-    break 'after_122;
+    break 'after_120;
   }
   move_((frame.wrapping_add(160)).wrapping_add(v4), constant(33976), v7);
   }
   store64(frame.wrapping_add(264), v7.wrapping_add(v4));
   der_view_line_Line_push_code(frame.wrapping_add(160), v3);
   store8(frame.wrapping_add(671), 125);
-  'after_124: {
-  'after_123: {
+  'after_122: {
+  'after_121: {
   v4 = load64(frame.wrapping_add(264));
   v8 = (frame.wrapping_add(160)).wrapping_add(v4);
   v7 = (u32::from(v4 != 101)) as u64;
   if (v8.wrapping_sub(frame.wrapping_add(671))) >= v7 {
-    break 'after_123;
+    break 'after_121;
   }
   store8(v8, 125);
-  break 'after_124;
+  break 'after_122;
   }
   if v7 == 0 {
-    break 'after_124;
+    break 'after_122;
   }
   move_(v8, frame.wrapping_add(671), v7);
   }
@@ -28955,80 +29415,80 @@ unsafe fn der_view_printer_Printer_tell(p0: u64, p1: u64) {
   }
   store64(frame.wrapping_add(264), v4);
   if v4 < 101 {
-    continue 'again_125;
+    continue 'again_123;
   }
   break;
   }
   }
   store8(frame.wrapping_add(640), 34);
-  'after_127: {
-  'after_126: {
+  'after_125: {
+  'after_124: {
   v8 = (frame.wrapping_add(160)).wrapping_add(v4);
   v7 = (u32::from(v4 != 101)) as u64;
   if (v8.wrapping_sub(frame.wrapping_add(640))) >= v7 {
-    break 'after_126;
+    break 'after_124;
   }
   store8(v8, 34);
-  break 'after_127;
+  break 'after_125;
   }
   if v7 == 0 {
-    break 'after_127;
+    break 'after_125;
   }
   move_(v8, frame.wrapping_add(640), v7);
   }
   store64(frame.wrapping_add(264), v4.wrapping_add(v7));
-  break 'after_90;
+  break 'after_88;
   }
   v4 = load64(p1.wrapping_add(if (load8(p1.wrapping_add(64)) as u32) == 1 { 72u64 } else { 80u64
       }));
-  'after_128: {
+  'after_126: {
   if (load8(p1.wrapping_add(32)) as u32) != 0 {
-    break 'after_128;
+    break 'after_126;
   }
   if ((load64(p1.wrapping_add(36))) & 0xffffffff000000ff) != 0x300000000 {
-    break 'after_128;
+    break 'after_126;
   }
   v4 = v4.wrapping_sub((u32::from(v4 != 0)) as u64);
   }
-  'after_130: {
-  'after_129: {
+  'after_128: {
+  'after_127: {
   match (load8(p1.wrapping_add(112)) as u64) as u32 {
   2 => {
-    break 'after_129;
+    break 'after_127;
   }
   1 | 3 | 4 => {
-    break 'after_130;
+    break 'after_128;
   }
   _ => {
-    break 'after_90;
+    break 'after_88;
   }
   }
   }
   v3 = load8(p1.wrapping_add(113)) as u32;
   der_view_line_Line_push_number_of(frame.wrapping_add(160), v4, constant(25000), 5);
   if v4 == 0 {
-    break 'after_90;
+    break 'after_88;
   }
   if (v3 & 255) > 7 {
-    break 'after_90;
+    break 'after_88;
   }
   der_view_line_Line_push_number_of(frame.wrapping_add(160), (v3 as u64) & 255, constant(33963),
       11);
-  break 'after_90;
+  break 'after_88;
   }
   der_view_line_Line_push_number_of(frame.wrapping_add(160), v4, constant(25000), 5);
-  break 'after_90;
+  break 'after_88;
   }
-  'after_131: {
+  'after_129: {
   v7 = 101u64.wrapping_sub(v4);
   v7 = if v7 < 15 { v7 } else { 15u64 };
   if v7 == 0 {
-    break 'after_131;
+    break 'after_129;
   }
   move_((frame.wrapping_add(160)).wrapping_add(v4), constant(33827), v7);
   }
   store64(frame.wrapping_add(264), v7.wrapping_add(v4));
-  break 'after_90;
+  break 'after_88;
   }
   v7 = load64(p1.wrapping_add(80));
   store64(frame.wrapping_add(496), 0);
@@ -29036,78 +29496,78 @@ unsafe fn der_view_printer_Printer_tell(p0: u64, p1: u64) {
   store64(frame.wrapping_add(480), 0);
   store64(frame.wrapping_add(472), 0);
   store64(frame.wrapping_add(464), 0);
-  'after_132: {
+  'after_130: {
   let t6 = itoa_integer_write_unsigned(v7, frame.wrapping_add(464));
   v12 = t6;
   v8 = 40u64.wrapping_sub(v12);
   v10 = 101u64.wrapping_sub(v4);
   v8 = if v8 < v10 { v8 } else { v10 };
   if v8 == 0 {
-    break 'after_132;
+    break 'after_130;
   }
   move_((frame.wrapping_add(160)).wrapping_add(v4), (frame.wrapping_add(464)).wrapping_add(v12),
       v8);
   }
-  'after_133: {
+  'after_131: {
   v3 = u32::from(v7 == 1);
   v7 = if v3 != 0 { 5u64 } else { 6u64 };
   v4 = v8.wrapping_add(v4);
   v8 = 101u64.wrapping_sub(v4);
   v7 = if v7 < v8 { v7 } else { v8 };
   if v7 == 0 {
-    break 'after_133;
+    break 'after_131;
   }
   move_((frame.wrapping_add(160)).wrapping_add(v4),
       if v3 != 0 { constant(25000) } else { constant(25005) }, v7);
   }
-  'after_134: {
+  'after_132: {
   v4 = v7.wrapping_add(v4);
   v7 = 101u64.wrapping_sub(v4);
   v7 = if v7 < 10 { v7 } else { 10u64 };
   if v7 == 0 {
-    break 'after_134;
+    break 'after_132;
   }
   move_((frame.wrapping_add(160)).wrapping_add(v4), constant(33953), v7);
   }
   store64(frame.wrapping_add(264), v7.wrapping_add(v4));
   }
   fill(frame.wrapping_add(672), 0, 112);
+  'after_134: {
   'after_136: {
-  'after_138: {
-  'after_137: {
   'after_135: {
+  'after_133: {
   match (load8(p1.wrapping_add(112)) as u64) as u32 {
   3 => {
-    break 'after_135;
+    break 'after_133;
   }
   2 => {
-    break 'after_136;
+    break 'after_134;
   }
   _ => {
-    break 'after_137;
+    break 'after_135;
   }
   }
   }
   der_view_line_Line_push_point(frame.wrapping_add(672), load8(p1.wrapping_add(120)) as u32,
       load64(p1.wrapping_add(128)));
   v4 = load64(frame.wrapping_add(776));
-  break 'after_138;
+  break 'after_136;
   }
-  'after_139: {
+  'after_137: {
   v7 = (load8(p1.wrapping_add(104)) as u64) << 4;
   v4 = load64(constant(30032).wrapping_add(v7));
   v4 = if v4 < 101 { v4 } else { 101u64 };
   if v4 == 0 {
-    break 'after_139;
+    break 'after_137;
   }
   move_(frame.wrapping_add(672), load64(constant(30024).wrapping_add(v7)), v4);
   }
-  'after_140: {
+  'after_138: {
   v7 = 101u64.wrapping_sub(v4);
   v3 = load8(p1.wrapping_add(105)) as u32;
   v7 = if v3 != 0 { if v7 < 11 { v7 } else { 11u64 } } else { 0u64 };
   if v7 == 0 {
-    break 'after_140;
+    break 'after_138;
   }
   move_((frame.wrapping_add(672)).wrapping_add(v4),
       if v3 != 0 { constant(33980) } else { constant(0) }, v7);
@@ -29116,7 +29576,7 @@ unsafe fn der_view_printer_Printer_tell(p0: u64, p1: u64) {
   store64(frame.wrapping_add(776), v4);
   }
   if v4 == 0 {
-    break 'after_136;
+    break 'after_134;
   }
   v7 = load64(frame.wrapping_add(264));
   v9 = v9.wrapping_add(29);
@@ -29124,23 +29584,23 @@ unsafe fn der_view_printer_Printer_tell(p0: u64, p1: u64) {
   v9 = if v8 > v9 { 0u64 } else { v8 };
   v9 = if v9 > 2 { v9 } else { 2u64 };
   if ((v7.wrapping_add(v4)).wrapping_add(v9)) > 100 {
-    break 'after_136;
+    break 'after_134;
   }
-  'after_141: {
+  'after_139: {
   v8 = 101u64.wrapping_sub(v7);
   v9 = if v9 < v8 { v9 } else { v8 };
   v9 = if v9 < 101 { v9 } else { 101u64 };
   if v9 == 0 {
-    break 'after_141;
+    break 'after_139;
   }
   fill((frame.wrapping_add(160)).wrapping_add(v7), 32, v9);
   }
-  'after_142: {
+  'after_140: {
   v7 = v9.wrapping_add(v7);
   v9 = 101u64.wrapping_sub(v7);
   v4 = if v4 < v9 { v4 } else { v9 };
   if v4 == 0 {
-    break 'after_142;
+    break 'after_140;
   }
   move_((frame.wrapping_add(160)).wrapping_add(v7), frame.wrapping_add(672), v4);
   }
@@ -29151,37 +29611,37 @@ unsafe fn der_view_printer_Printer_tell(p0: u64, p1: u64) {
   fill(frame.wrapping_add(160), 0, 112);
   der_view_line_Line_finish(frame.wrapping_add(160), frame.wrapping_add(352));
   v4 = load64(frame.wrapping_add(264));
-  'after_145: {
   'after_143: {
+  'after_141: {
   v7 = load64(v5.wrapping_add(8));
   v9 = load64(v5.wrapping_add(16));
   if v7 < v9 {
-    break 'after_143;
+    break 'after_141;
   }
   if v4 > (v7.wrapping_sub(v9)) {
-    break 'after_143;
+    break 'after_141;
   }
-  'after_144: {
+  'after_142: {
   if v4 == 0 {
-    break 'after_144;
+    break 'after_142;
   }
   move_(load64(v5).wrapping_add(v9), frame.wrapping_add(160), v4);
   }
   v4 = v9.wrapping_add(v4);
   v7 = load64(v5.wrapping_add(8));
-  break 'after_145;
+  break 'after_143;
   }
   v9 = v4.wrapping_add(v9);
   v4 = if v9 < v4 { 0xffffffffffffffffu64 } else { v9 };
   }
-  'after_147: {
-  'after_146: {
+  'after_145: {
+  'after_144: {
   if v7 <= v4 {
-    break 'after_146;
+    break 'after_144;
   }
   store8(load64(v5).wrapping_add(v4), 10);
   v4 = v4.wrapping_add(1);
-  break 'after_147;
+  break 'after_145;
   }
   v4 = v4.wrapping_add(1);
   v4 = if v4 == 0 { 0xffffffffffffffffu64 } else { v4 };
@@ -29189,28 +29649,28 @@ unsafe fn der_view_printer_Printer_tell(p0: u64, p1: u64) {
   store64(v5.wrapping_add(16), v4);
   fill(frame.wrapping_add(160), 0, 96);
   der_view_facts_RowFacts_value(frame.wrapping_add(160), p1);
-  'after_149: {
-  'after_148: {
+  'after_147: {
+  'after_146: {
   if (load8(frame.wrapping_add(160)) as u32) == 0 {
-    break 'after_148;
+    break 'after_146;
   }
   if v8 > 100 {
-    break 'after_148;
+    break 'after_146;
   }
   if (((load8(frame.wrapping_add(176)) as u32).wrapping_add(0xfffffffd)) & 255) < 254 {
-    break 'after_149;
+    break 'after_147;
   }
   }
   v19 = load64(p1.wrapping_add(368));
   if v19 == 0 {
-    break 'after_149;
+    break 'after_147;
   }
   v12 = 0;
   v16 = (v19 >> 4).wrapping_add((u32::from((v19 & 15) != 0)) as u64);
   v13 = load64(p1.wrapping_add(360));
   v18 = frame.wrapping_add(184);
   v17 = 0;
-  'again_160: loop {
+  'again_158: loop {
   fill(v18, 0, 80);
   store8(frame.wrapping_add(184), 32);
   store64(frame.wrapping_add(176), 0x2020202020202020);
@@ -29218,40 +29678,40 @@ unsafe fn der_view_printer_Printer_tell(p0: u64, p1: u64) {
   store64(frame.wrapping_add(160), 0x2020202020202020);
   v4 = 25;
   store64(frame.wrapping_add(264), 25);
-  'after_150: {
+  'after_148: {
   if v19 <= (v17 << 4) {
-    break 'after_150;
+    break 'after_148;
   }
   v7 = if v19 < v12 { v19 } else { v12 };
   v9 = v19.wrapping_sub(v7);
   v8 = if v9 < 16 { v9 } else { 16u64 };
   v7 = v13.wrapping_add(v7);
-  'again_154: loop {
+  'again_152: loop {
   store8(frame.wrapping_add(464), 32);
-  'after_152: {
-  'after_151: {
+  'after_150: {
+  'after_149: {
   v10 = (frame.wrapping_add(160)).wrapping_add(v4);
   v9 = (u32::from(v4 != 101)) as u64;
   if (v10.wrapping_sub(frame.wrapping_add(464))) >= v9 {
-    break 'after_151;
+    break 'after_149;
   }
   store8(v10, 32);
-  break 'after_152;
+  break 'after_150;
   }
   if v9 == 0 {
-    break 'after_152;
+    break 'after_150;
   }
   move_(v10, frame.wrapping_add(464), v9);
   }
   v10 = load8(v7) as u64;
   store8(frame.wrapping_add(465), (load8(constant(28246).wrapping_add(v10 & 15)) as u32) as u8);
   store8(frame.wrapping_add(464), (load8(constant(28246).wrapping_add(v10 >> 4)) as u32) as u8);
-  'after_153: {
+  'after_151: {
   v4 = v4.wrapping_add(v9);
   v9 = 101u64.wrapping_sub(v4);
   v9 = if v9 < 2 { v9 } else { 2u64 };
   if v9 == 0 {
-    break 'after_153;
+    break 'after_151;
   }
   move_((frame.wrapping_add(160)).wrapping_add(v4), frame.wrapping_add(464), v9);
   }
@@ -29260,7 +29720,7 @@ unsafe fn der_view_printer_Printer_tell(p0: u64, p1: u64) {
   v7 = v7.wrapping_add(1);
   v8 = v8.wrapping_add(0xffffffffffffffff);
   if v8 != 0 {
-    continue 'again_154;
+    continue 'again_152;
   }
   break;
   }
@@ -29269,37 +29729,37 @@ unsafe fn der_view_printer_Printer_tell(p0: u64, p1: u64) {
   fill(frame.wrapping_add(160), 0, 112);
   der_view_line_Line_finish(frame.wrapping_add(160), frame.wrapping_add(672));
   v4 = load64(frame.wrapping_add(264));
-  'after_157: {
   'after_155: {
+  'after_153: {
   v7 = load64(v5.wrapping_add(8));
   v9 = load64(v5.wrapping_add(16));
   if v7 < v9 {
-    break 'after_155;
+    break 'after_153;
   }
   if v4 > (v7.wrapping_sub(v9)) {
-    break 'after_155;
+    break 'after_153;
   }
-  'after_156: {
+  'after_154: {
   if v4 == 0 {
-    break 'after_156;
+    break 'after_154;
   }
   move_(load64(v5).wrapping_add(v9), frame.wrapping_add(160), v4);
   }
   v4 = v9.wrapping_add(v4);
   v7 = load64(v5.wrapping_add(8));
-  break 'after_157;
+  break 'after_155;
   }
   v9 = v4.wrapping_add(v9);
   v4 = if v9 < v4 { 0xffffffffffffffffu64 } else { v9 };
   }
-  'after_159: {
-  'after_158: {
+  'after_157: {
+  'after_156: {
   if v7 <= v4 {
-    break 'after_158;
+    break 'after_156;
   }
   store8(load64(v5).wrapping_add(v4), 10);
   v4 = v4.wrapping_add(1);
-  break 'after_159;
+  break 'after_157;
   }
   v4 = v4.wrapping_add(1);
   v4 = if v4 == 0 { 0xffffffffffffffffu64 } else { v4 };
@@ -29308,7 +29768,7 @@ unsafe fn der_view_printer_Printer_tell(p0: u64, p1: u64) {
   v12 = v12.wrapping_add(16);
   v17 = v17.wrapping_add(1);
   if v17 != v16 {
-    continue 'again_160;
+    continue 'again_158;
   }
   break;
   }
@@ -29317,40 +29777,40 @@ unsafe fn der_view_printer_Printer_tell(p0: u64, p1: u64) {
       load64(p1.wrapping_add(344)), load64(p1.wrapping_add(352)));
   v6 = load8(frame.wrapping_add(145)) as u32;
   v3 = load8(frame.wrapping_add(144)) as u32;
-  break 'after_8;
+  break 'after_6;
   }
   v6 = load8(frame.wrapping_add(97)) as u32;
   v3 = 1;
-  break 'after_8;
+  break 'after_6;
   }
   v6 = load8(frame.wrapping_add(89)) as u32;
   v3 = 1;
-  break 'after_8;
+  break 'after_6;
   }
   v6 = load8(frame.wrapping_add(41)) as u32;
   v3 = 1;
-  break 'after_8;
+  break 'after_6;
   }
   v6 = load8(frame.wrapping_add(25)) as u32;
   v3 = 1;
-  break 'after_8;
+  break 'after_6;
   }
   v6 = load8(frame.wrapping_add(17)) as u32;
   v3 = 1;
-  break 'after_8;
+  break 'after_6;
   }
   if (v3 & 255) != 1 {
-    break 'after_3;
+    break 'after_1;
   }
-  store8(p0.wrapping_add(65), v6 as u8);
-  store8(p0.wrapping_add(64), 1);
+  store8(p0.wrapping_add(49), v6 as u8);
+  store8(p0.wrapping_add(48), 1);
   }
 }
 
 // der_view::walk::draw_step::<#927bfe390f535f75>
-unsafe fn der_view_walk_draw_step_6(p0: u64, p1: u64, p2: u64, p3: u64, mut p4: u64, p5: u64,
+unsafe fn der_view_walk_draw_step_7(p0: u64, p1: u64, p2: u64, p3: u64, mut p4: u64, p5: u64,
     mut p6: u64) {
-  let mut array = Frame::<1184>::new();
+  let mut array = Frame::<816>::new();
   let frame = address(&raw mut array);
   let mut v8 = 0u32;
   let mut v9 = 0u64;
@@ -29374,8 +29834,8 @@ unsafe fn der_view_walk_draw_step_6(p0: u64, p1: u64, p2: u64, p3: u64, mut p4: 
   let mut v27 = 0u64;
   let mut v28 = 0u64;
   let mut v29 = 0u64;
-  store32(frame.wrapping_add(176), load32(p4.wrapping_add(25)));
-  store32(frame.wrapping_add(179), load32(p4.wrapping_add(28)));
+  store32(frame.wrapping_add(184), load32(p4.wrapping_add(25)));
+  store32(frame.wrapping_add(187), load32(p4.wrapping_add(28)));
   'after_5: {
   'after_6: {
   'after_7: {
@@ -29384,28 +29844,28 @@ unsafe fn der_view_walk_draw_step_6(p0: u64, p1: u64, p2: u64, p3: u64, mut p4: 
   v10 = load64(p4.wrapping_add(8));
   p4 = load64(p4);
   v11 = 0;
+  store64(frame.wrapping_add(200), 0);
   store64(frame.wrapping_add(192), 0);
-  store64(frame.wrapping_add(184), 0);
   v12 = 0;
-  store32(frame.wrapping_add(168), 0);
-  store32(frame.wrapping_add(171), 0);
-  store64(frame.wrapping_add(128), 0);
+  store32(frame.wrapping_add(176), 0);
+  store32(frame.wrapping_add(179), 0);
   store64(frame.wrapping_add(136), 0);
   store64(frame.wrapping_add(144), 0);
   store64(frame.wrapping_add(152), 0);
   store64(frame.wrapping_add(160), 0);
-  store64(frame.wrapping_add(104), 0);
+  store64(frame.wrapping_add(168), 0);
   store64(frame.wrapping_add(112), 0);
   store64(frame.wrapping_add(120), 0);
-  store64(frame.wrapping_add(80), 0);
+  store64(frame.wrapping_add(128), 0);
   store64(frame.wrapping_add(88), 0);
   store64(frame.wrapping_add(96), 0);
+  store64(frame.wrapping_add(104), 0);
+  store64(frame.wrapping_add(80), 0);
   store64(frame.wrapping_add(72), 0);
   store64(frame.wrapping_add(64), 0);
   store64(frame.wrapping_add(56), 0);
   store64(frame.wrapping_add(48), 0);
   store64(frame.wrapping_add(40), 0);
-  store64(frame.wrapping_add(32), 0);
   v13 = 1;
   v14 = v8 & 1;
   v15 = v10.wrapping_add(1);
@@ -29438,31 +29898,31 @@ unsafe fn der_view_walk_draw_step_6(p0: u64, p1: u64, p2: u64, p3: u64, mut p4: 
   v20 = load64(p6.wrapping_add(96));
   v12 = load8(p6.wrapping_add(59)) as u32;
   v17 = 0;
-  store32(frame.wrapping_add(401), 0);
-  store8(frame.wrapping_add(400), v14 as u8);
-  store64(frame.wrapping_add(392), v9);
-  store64(frame.wrapping_add(384), v15);
-  store64(frame.wrapping_add(376), v16);
-  store32(frame.wrapping_add(404), 0);
+  store32(frame.wrapping_add(233), 0);
+  store8(frame.wrapping_add(232), v14 as u8);
+  store64(frame.wrapping_add(224), v9);
+  store64(frame.wrapping_add(216), v15);
+  store64(frame.wrapping_add(208), v16);
+  store32(frame.wrapping_add(236), 0);
   v11 = 0;
-  store64(frame.wrapping_add(776), 0);
-  store64(frame.wrapping_add(200), 0);
-  store64(frame.wrapping_add(336), 0);
+  store64(frame.wrapping_add(408), 0);
   store64(frame.wrapping_add(344), 0);
-  store64(frame.wrapping_add(352), 0);
-  der_view_grammar_Structure_components(frame.wrapping_add(16), v12);
-  store64(frame.wrapping_add(808), v20);
-  store64(frame.wrapping_add(800), v19);
-  store16(frame.wrapping_add(776), 256);
-  store8(frame.wrapping_add(200), 0);
-  store64(frame.wrapping_add(792), load64(frame.wrapping_add(24)));
-  store64(frame.wrapping_add(784), load64(frame.wrapping_add(16)));
-  store64(frame.wrapping_add(208), load64(p2.wrapping_add(8)));
-  store64(frame.wrapping_add(216), load64(p2.wrapping_add(16)));
-  store8(frame.wrapping_add(201), (load8(p2.wrapping_add(1)) as u32) as u8);
-  der_view_walk_walk_6(frame.wrapping_add(336), p1, frame.wrapping_add(200), p3,
-      frame.wrapping_add(376), frame.wrapping_add(776));
-  v13 = u32::from((load8(frame.wrapping_add(336)) as u32) == 1);
+  store64(frame.wrapping_add(784), 0);
+  store64(frame.wrapping_add(792), 0);
+  store64(frame.wrapping_add(800), 0);
+  der_view_grammar_Structure_components(frame.wrapping_add(24), v12);
+  store64(frame.wrapping_add(440), v20);
+  store64(frame.wrapping_add(432), v19);
+  store16(frame.wrapping_add(408), 256);
+  store8(frame.wrapping_add(344), 0);
+  store64(frame.wrapping_add(424), load64(frame.wrapping_add(32)));
+  store64(frame.wrapping_add(416), load64(frame.wrapping_add(24)));
+  store64(frame.wrapping_add(352), load64(p2.wrapping_add(8)));
+  store64(frame.wrapping_add(360), load64(p2.wrapping_add(16)));
+  store8(frame.wrapping_add(345), (load8(p2.wrapping_add(1)) as u32) as u8);
+  der_view_walk_walk_7(frame.wrapping_add(784), p1, frame.wrapping_add(344), p3,
+      frame.wrapping_add(208), frame.wrapping_add(408));
+  v13 = u32::from((load8(frame.wrapping_add(784)) as u32) == 1);
   v12 = if v13 != 0 { v12 } else { 0u32 };
   break 'after_5;
   }
@@ -29485,13 +29945,13 @@ unsafe fn der_view_walk_draw_step_6(p0: u64, p1: u64, p2: u64, p3: u64, mut p4: 
   }
   v12 = load8(p6.wrapping_add(59)) as u32;
   v17 = 0;
-  store32(frame.wrapping_add(801), 0);
-  store8(frame.wrapping_add(800), v14 as u8);
-  store64(frame.wrapping_add(792), v9);
-  store64(frame.wrapping_add(784), v15);
-  store64(frame.wrapping_add(776), v16);
-  store32(frame.wrapping_add(804), 0);
-  let t0 = der_view_walk_follows_6(p1, p2, p3, frame.wrapping_add(776), v12,
+  store32(frame.wrapping_add(433), 0);
+  store8(frame.wrapping_add(432), v14 as u8);
+  store64(frame.wrapping_add(424), v9);
+  store64(frame.wrapping_add(416), v15);
+  store64(frame.wrapping_add(408), v16);
+  store32(frame.wrapping_add(436), 0);
+  let t0 = der_view_walk_follows_7(p1, p2, p3, frame.wrapping_add(408), v12,
       v20.wrapping_add(1), v19);
   v13 = t0;
   v12 = if v13 != 0 { v12 } else { 0u32 };
@@ -29521,20 +29981,20 @@ unsafe fn der_view_walk_draw_step_6(p0: u64, p1: u64, p2: u64, p3: u64, mut p4: 
   v13 = 0;
   v17 = 0;
   }
-  v19 = (frame.wrapping_add(200)).wrapping_add(56);
+  v19 = (frame.wrapping_add(208)).wrapping_add(56);
   fill(v19, 0, 80);
   'after_10: {
   if (load8(p5.wrapping_add(1)) as u32) != 0 {
     break 'after_10;
   }
-  store64(frame.wrapping_add(368), load64(p6.wrapping_add(32)));
-  store64(frame.wrapping_add(360), load64(p6.wrapping_add(24)));
-  store64(frame.wrapping_add(352), load64(p6.wrapping_add(16)));
-  store64(frame.wrapping_add(344), load64(p6.wrapping_add(8)));
-  store64(frame.wrapping_add(336), load64(p6));
+  store64(frame.wrapping_add(376), load64(p6.wrapping_add(32)));
+  store64(frame.wrapping_add(368), load64(p6.wrapping_add(24)));
+  store64(frame.wrapping_add(360), load64(p6.wrapping_add(16)));
+  store64(frame.wrapping_add(352), load64(p6.wrapping_add(8)));
+  store64(frame.wrapping_add(344), load64(p6));
   v21 = load64(p6.wrapping_add(88));
   v20 = load64(p6.wrapping_add(96));
-  let t1 = der_view_content_shown_len(load8(p2.wrapping_add(1)) as u32, frame.wrapping_add(336),
+  let t1 = der_view_content_shown_len(load8(p2.wrapping_add(1)) as u32, frame.wrapping_add(344),
       load8(p6.wrapping_add(58)) as u32, load8(p6.wrapping_add(59)) as u32, v21, v20);
   v22 = t1;
   v23 = constant(0);
@@ -29551,13 +30011,13 @@ unsafe fn der_view_walk_draw_step_6(p0: u64, p1: u64, p2: u64, p3: u64, mut p4: 
   }
   v27 = p6.wrapping_add(40);
   v28 = p6.wrapping_add(56);
-  v29 = if (load8(frame.wrapping_add(360)) as u32) == 1 { v20 } else { 0u64 };
+  v29 = if (load8(frame.wrapping_add(368)) as u32) == 1 { v20 } else { 0u64 };
   'after_12: {
   if v13 != 0 {
     break 'after_12;
   }
   v23 = load64(p2.wrapping_add(16));
-  v24 = (load64(frame.wrapping_add(352))).wrapping_add(p4);
+  v24 = (load64(frame.wrapping_add(360))).wrapping_add(p4);
   let t2 = v23;
   v23 = if v23 < v24 { v23 } else { v24 };
   v24 = t2.wrapping_sub(v23);
@@ -29566,36 +30026,35 @@ unsafe fn der_view_walk_draw_step_6(p0: u64, p1: u64, p2: u64, p3: u64, mut p4: 
   }
   store32(v19, load32(v28));
   store8(v19.wrapping_add(4), (load8(v28.wrapping_add(4)) as u32) as u8);
-  store64(frame.wrapping_add(232), load64(p6.wrapping_add(32)));
-  store64(frame.wrapping_add(224), load64(p6.wrapping_add(24)));
-  store64(frame.wrapping_add(216), load64(p6.wrapping_add(16)));
-  store64(frame.wrapping_add(208), load64(p6.wrapping_add(8)));
-  store64(frame.wrapping_add(200), load64(p6));
-  store64(frame.wrapping_add(240), load64(v27));
-  store64(frame.wrapping_add(248), load64(v27.wrapping_add(8)));
-  store8(frame.wrapping_add(328), v13 as u8);
-  store64(frame.wrapping_add(320), v24);
-  store64(frame.wrapping_add(312), v23);
-  store64(frame.wrapping_add(304), v22);
-  store64(frame.wrapping_add(296), v21);
-  store64(frame.wrapping_add(288), v29);
-  store8(frame.wrapping_add(280), v18 as u8);
-  store64(frame.wrapping_add(272), v25);
-  store64(frame.wrapping_add(264), v26);
-  store8(frame.wrapping_add(1176), v8 as u8);
-  store64(frame.wrapping_add(1168), v9);
-  store64(frame.wrapping_add(1160), v10);
-  store64(frame.wrapping_add(1152), p4);
-  store32(frame.wrapping_add(1177), load32(frame.wrapping_add(176)));
-  store32(frame.wrapping_add(1180), load32(frame.wrapping_add(179)));
-  fill(frame.wrapping_add(776), 0, 376);
-  store64(frame.wrapping_add(768), load64(p1.wrapping_add(24)));
-  store64(frame.wrapping_add(760), load64(p1.wrapping_add(16)));
-  store64(frame.wrapping_add(752), load64(p1.wrapping_add(8)));
-  der_view_facts_RowFacts_of_element(frame.wrapping_add(776), frame.wrapping_add(752),
-      load8(p1.wrapping_add(32)) as u32, frame.wrapping_add(1152), frame.wrapping_add(200));
-  move_(frame.wrapping_add(376), frame.wrapping_add(776), 376);
-  der_view_printer_Printer_tell(p1, frame.wrapping_add(376));
+  store64(frame.wrapping_add(240), load64(p6.wrapping_add(32)));
+  store64(frame.wrapping_add(232), load64(p6.wrapping_add(24)));
+  store64(frame.wrapping_add(224), load64(p6.wrapping_add(16)));
+  store64(frame.wrapping_add(216), load64(p6.wrapping_add(8)));
+  store64(frame.wrapping_add(208), load64(p6));
+  store64(frame.wrapping_add(248), load64(v27));
+  store64(frame.wrapping_add(256), load64(v27.wrapping_add(8)));
+  store8(frame.wrapping_add(336), v13 as u8);
+  store64(frame.wrapping_add(328), v24);
+  store64(frame.wrapping_add(320), v23);
+  store64(frame.wrapping_add(312), v22);
+  store64(frame.wrapping_add(304), v21);
+  store64(frame.wrapping_add(296), v29);
+  store8(frame.wrapping_add(288), v18 as u8);
+  store64(frame.wrapping_add(280), v25);
+  store64(frame.wrapping_add(272), v26);
+  store8(frame.wrapping_add(808), v8 as u8);
+  store64(frame.wrapping_add(800), v9);
+  store64(frame.wrapping_add(792), v10);
+  store64(frame.wrapping_add(784), p4);
+  store32(frame.wrapping_add(809), load32(frame.wrapping_add(184)));
+  store32(frame.wrapping_add(812), load32(frame.wrapping_add(187)));
+  fill(frame.wrapping_add(408), 0, 376);
+  store64(frame.wrapping_add(400), load64(p1.wrapping_add(24)));
+  store64(frame.wrapping_add(392), load64(p1.wrapping_add(16)));
+  store64(frame.wrapping_add(384), load64(p1.wrapping_add(8)));
+  der_view_facts_RowFacts_of_element(frame.wrapping_add(408), frame.wrapping_add(384),
+      load8(p1.wrapping_add(32)) as u32, frame.wrapping_add(784), frame.wrapping_add(208));
+  der_view_printer_Printer_tell(p1, frame.wrapping_add(408));
   }
   'after_17: {
   'after_16: {
@@ -29607,34 +30066,34 @@ unsafe fn der_view_walk_draw_step_6(p0: u64, p1: u64, p2: u64, p3: u64, mut p4: 
   }
   v13 = load8(p6.wrapping_add(24)) as u32;
   v8 = load8(p5.wrapping_add(1)) as u32;
-  der_view_grammar_Structure_components(frame, v12);
-  store8(frame.wrapping_add(129), v8 as u8);
+  der_view_grammar_Structure_components(frame.wrapping_add(8), v12);
+  store8(frame.wrapping_add(137), v8 as u8);
   v13 = u32::from(v13 != 1);
-  store8(frame.wrapping_add(128), v13 as u8);
-  store8(frame.wrapping_add(104), v17 as u8);
-  store64(frame.wrapping_add(48), v11.wrapping_add(v16));
-  store64(frame.wrapping_add(56), v15);
-  store64(frame.wrapping_add(64), v9);
-  store8(frame.wrapping_add(72), v14 as u8);
+  store8(frame.wrapping_add(136), v13 as u8);
+  store8(frame.wrapping_add(112), v17 as u8);
+  store64(frame.wrapping_add(56), v11.wrapping_add(v16));
+  store64(frame.wrapping_add(64), v15);
+  store64(frame.wrapping_add(72), v9);
+  store8(frame.wrapping_add(80), v14 as u8);
+  store64(frame.wrapping_add(152), load64(frame.wrapping_add(16)));
   store64(frame.wrapping_add(144), load64(frame.wrapping_add(8)));
-  store64(frame.wrapping_add(136), load64(frame));
-  store8(frame.wrapping_add(105), (load8(p2.wrapping_add(1)) as u32) as u8);
-  store64(frame.wrapping_add(112), load64(p2.wrapping_add(8)));
-  store64(frame.wrapping_add(120), load64(p2.wrapping_add(16)));
-  store64(frame.wrapping_add(160), (load64(p6.wrapping_add(96))).wrapping_sub(v11));
-  store64(frame.wrapping_add(152), (load64(p6.wrapping_add(88))).wrapping_add(v11));
-  store32(frame.wrapping_add(76), load32(frame.wrapping_add(171)));
-  store32(frame.wrapping_add(73), load32(frame.wrapping_add(168)));
-  der_view_walk_walk_6(frame.wrapping_add(80), p1, frame.wrapping_add(104), p3,
-      frame.wrapping_add(48), frame.wrapping_add(128));
-  if (load8(frame.wrapping_add(80)) as u32) != 1 {
+  store8(frame.wrapping_add(113), (load8(p2.wrapping_add(1)) as u32) as u8);
+  store64(frame.wrapping_add(120), load64(p2.wrapping_add(8)));
+  store64(frame.wrapping_add(128), load64(p2.wrapping_add(16)));
+  store64(frame.wrapping_add(168), (load64(p6.wrapping_add(96))).wrapping_sub(v11));
+  store64(frame.wrapping_add(160), (load64(p6.wrapping_add(88))).wrapping_add(v11));
+  store32(frame.wrapping_add(84), load32(frame.wrapping_add(179)));
+  store32(frame.wrapping_add(81), load32(frame.wrapping_add(176)));
+  der_view_walk_walk_7(frame.wrapping_add(88), p1, frame.wrapping_add(112), p3,
+      frame.wrapping_add(56), frame.wrapping_add(136));
+  if (load8(frame.wrapping_add(88)) as u32) != 1 {
     break 'after_14;
   }
   if v13 == 0 {
     break 'after_15;
   }
+  store64(frame.wrapping_add(48), load64(frame.wrapping_add(104)));
   store64(frame.wrapping_add(40), load64(frame.wrapping_add(96)));
-  store64(frame.wrapping_add(32), load64(frame.wrapping_add(88)));
   break 'after_16;
   }
   p4 = load64(p6.wrapping_add(112));
@@ -29642,8 +30101,8 @@ unsafe fn der_view_walk_draw_step_6(p0: u64, p1: u64, p2: u64, p3: u64, mut p4: 
   store64(p0, 1);
   store64(p0.wrapping_add(8), p6);
   store64(p0.wrapping_add(16), p4);
-  store64(frame.wrapping_add(192), p4);
-  store64(frame.wrapping_add(184), p6);
+  store64(frame.wrapping_add(200), p4);
+  store64(frame.wrapping_add(192), p6);
   break 'after_17;
   }
   store64(p0.wrapping_add(16), 0);
@@ -29651,12 +30110,12 @@ unsafe fn der_view_walk_draw_step_6(p0: u64, p1: u64, p2: u64, p3: u64, mut p4: 
   store64(p0, 0);
   break 'after_17;
   }
-  store64(frame.wrapping_add(40), load64(p6.wrapping_add(112)));
-  store64(frame.wrapping_add(32), load64(p6.wrapping_add(104)));
+  store64(frame.wrapping_add(48), load64(p6.wrapping_add(112)));
+  store64(frame.wrapping_add(40), load64(p6.wrapping_add(104)));
   }
   store64(p0, 1);
-  store64(p0.wrapping_add(8), load64(frame.wrapping_add(32)));
-  store64(p0.wrapping_add(16), load64(frame.wrapping_add(40)));
+  store64(p0.wrapping_add(8), load64(frame.wrapping_add(40)));
+  store64(p0.wrapping_add(16), load64(frame.wrapping_add(48)));
   }
 }
 
@@ -34589,7 +35048,7 @@ unsafe fn der_view_values_arcs_Arcs_new(p0: u64, mut p1: u64, mut p2: u64) {
 }
 
 // der_view::walk::walk::<#927bfe390f535f75>
-unsafe fn der_view_walk_walk_6(p0: u64, p1: u64, mut p2: u64, mut p3: u64, mut p4: u64,
+unsafe fn der_view_walk_walk_7(p0: u64, p1: u64, mut p2: u64, mut p3: u64, mut p4: u64,
     mut p5: u64) {
   let mut array = Frame::<592>::new();
   let frame = address(&raw mut array);
@@ -34744,7 +35203,7 @@ unsafe fn der_view_walk_walk_6(p0: u64, p1: u64, mut p2: u64, mut p3: u64, mut p
     break 'after_2;
   }
   p3 = p3.wrapping_add(0xffffffffffffffff);
-  der_view_walk_draw_step_6(frame, p1, p2, p3, frame.wrapping_add(184), frame.wrapping_add(144),
+  der_view_walk_draw_step_7(frame, p1, p2, p3, frame.wrapping_add(184), frame.wrapping_add(144),
       frame.wrapping_add(24));
   'after_14: {
   if (load8(frame) as u32) != 1 {
@@ -35040,6 +35499,383 @@ unsafe fn der_view_walk_walk_6(p0: u64, p1: u64, mut p2: u64, mut p3: u64, mut p
 }
 
 // der_view::walk::follows::<#927bfe390f535f75>
+unsafe fn der_view_walk_follows_7(p0: u64, p1: u64, p2: u64, p3: u64, mut p4: u32, p5: u64,
+    p6: u64) -> u32 {
+  let mut array = Frame::<144>::new();
+  let frame = address(&raw mut array);
+  store64(frame.wrapping_add(136), load64(p3.wrapping_add(24)));
+  store64(frame.wrapping_add(128), load64(p3.wrapping_add(16)));
+  store64(frame.wrapping_add(120), load64(p3.wrapping_add(8)));
+  store64(frame.wrapping_add(112), load64(p3));
+  store64(frame.wrapping_add(48), 0);
+  store64(frame.wrapping_add(72), 0);
+  store64(frame.wrapping_add(24), 0);
+  store64(frame.wrapping_add(32), 0);
+  store64(frame.wrapping_add(40), 0);
+  der_view_grammar_Structure_components(frame.wrapping_add(8), p4);
+  store64(frame.wrapping_add(104), p6);
+  store64(frame.wrapping_add(96), p5);
+  store16(frame.wrapping_add(72), 256);
+  store8(frame.wrapping_add(48), 0);
+  store64(frame.wrapping_add(88), load64(frame.wrapping_add(16)));
+  store64(frame.wrapping_add(80), load64(frame.wrapping_add(8)));
+  store64(frame.wrapping_add(56), load64(p1.wrapping_add(8)));
+  store64(frame.wrapping_add(64), load64(p1.wrapping_add(16)));
+  store8(frame.wrapping_add(49), (load8(p1.wrapping_add(1)) as u32) as u8);
+  der_view_walk_walk_7(frame.wrapping_add(24), p0, frame.wrapping_add(48), p2,
+      frame.wrapping_add(112), frame.wrapping_add(72));
+  p4 = load8(frame.wrapping_add(24)) as u32;
+  return u32::from(p4 == 1);
+}
+
+// der_view::walk::walk::<#058ff82db2a1a4d6>
+unsafe fn der_view_walk_walk_6(p0: u64, p1: u64, p2: u64, mut p3: u64, mut p4: u64, mut p5: u64) {
+  let mut array = Frame::<352>::new();
+  let frame = address(&raw mut array);
+  let mut v7 = 0u64;
+  let mut v8 = 0u32;
+  let mut v9 = 0u32;
+  let mut v10 = 0u64;
+  let mut v11 = 0u64;
+  let mut v12 = 0u64;
+  let mut v13 = 0u64;
+  let mut v14 = 0u64;
+  let mut v15 = 0u32;
+  let mut v16 = 0u64;
+  let mut v17 = 0u64;
+  let mut v18 = 0u64;
+  let mut v19 = 0u32;
+  let mut v20 = 0u32;
+  'after_17: {
+  'after_12: {
+  'after_14: {
+  'after_1: {
+  'after_21: {
+  'after_18: {
+  'after_9: {
+  'after_22: {
+  'after_8: {
+  'after_2: {
+  store64(frame.wrapping_add(24), 0);
+  store64(frame.wrapping_add(16), 0);
+  store64(frame.wrapping_add(8), 0);
+  store64(frame.wrapping_add(192), load64(p4));
+  store64(frame.wrapping_add(200), load64(p4.wrapping_add(8)));
+  store64(frame.wrapping_add(208), load64(p4.wrapping_add(16)));
+  store64(frame.wrapping_add(216), load64(p4.wrapping_add(24)));
+  store64(frame.wrapping_add(152), load64(p5));
+  store64(frame.wrapping_add(160), load64(p5.wrapping_add(8)));
+  store64(frame.wrapping_add(168), load64(p5.wrapping_add(16)));
+  store64(frame.wrapping_add(176), load64(p5.wrapping_add(24)));
+  store64(frame.wrapping_add(184), load64(p5.wrapping_add(32)));
+  v7 = load64(frame.wrapping_add(192));
+  if p3 == 0 {
+    break 'after_1;
+  }
+  v8 = load8(frame.wrapping_add(152)) as u32;
+  v9 = v8 ^ 1;
+  p4 = load64(frame.wrapping_add(184));
+  v10 = load64(frame.wrapping_add(200));
+  if v10 > 63 {
+    break 'after_2;
+  }
+  v11 = (frame.wrapping_add(224)).wrapping_add(8);
+  v12 = (frame.wrapping_add(152)).wrapping_add(8);
+  v13 = frame.wrapping_add(96);
+  v14 = load64(frame.wrapping_add(176));
+  'again_16: loop {
+  v15 = load8(p2) as u32;
+  v16 = load64(frame.wrapping_add(168));
+  v17 = load64(frame.wrapping_add(160));
+  'after_4: {
+  'after_7: {
+  'after_3: {
+  if p4 > 1 {
+    break 'after_3;
+  }
+  'after_5: {
+  match p4 as u32 {
+  1 => {
+    break 'after_4;
+  }
+  _ => {
+    break 'after_5;
+  }
+  }
+  }
+  'after_6: {
+  if ((v8 | v15) & 255) == 0 {
+    break 'after_6;
+  }
+  v18 = 0;
+  v19 = v15;
+  break 'after_7;
+  }
+  if v16 == 0 {
+    break 'after_8;
+  }
+  p5 = v17.wrapping_add(1);
+  v18 = v16;
+  'again_10: loop {
+  if (load8(p5) as u32) == 0 {
+    break 'after_4;
+  }
+  p5 = p5.wrapping_add(5);
+  v18 = v18.wrapping_add(0xffffffffffffffff);
+  if v18 == 0 {
+    break 'after_9;
+  }
+  continue 'again_10;
+  }
+  }
+  if (load8(v14) as u32) != 0 {
+    break 'after_4;
+  }
+  v19 = (u32::from((load8(v14.wrapping_add(1)) as u32) != 0)) | v9;
+  v20 = v19 & 1;
+  v18 = if v20 != 0 { 0u64 } else { 2u64 };
+  v19 = v19 ^ 1;
+  if v20 != 0 {
+    break 'after_7;
+  }
+  if (v15 & 1) != 0 {
+    break 'after_7;
+  }
+  'after_11: {
+  if v16 != 0 {
+    break 'after_11;
+  }
+  v18 = 2;
+  break 'after_12;
+  }
+  p5 = v17.wrapping_add(1);
+  v18 = v16;
+  'again_13: loop {
+  if (load8(p5) as u32) == 0 {
+    break 'after_4;
+  }
+  p5 = p5.wrapping_add(5);
+  v18 = v18.wrapping_add(0xffffffffffffffff);
+  if v18 != 0 {
+    continue 'again_13;
+  }
+  break;
+  }
+  v18 = 2;
+  break 'after_14;
+  }
+  if (v19 & 1) != 0 {
+    break 'after_14;
+  }
+  }
+  fill(frame.wrapping_add(224), 0, 128);
+  v15 = v15 & 1;
+  der_view_step_step_by(frame.wrapping_add(224), v15, v15, v17, v16, v14, p4);
+  v15 = load8(frame.wrapping_add(224)) as u32;
+  move_(frame.wrapping_add(32), v11, 120);
+  if v15 != 1 {
+    break 'after_1;
+  }
+  p3 = p3.wrapping_add(0xffffffffffffffff);
+  der_view_walk_draw_step_6(frame.wrapping_add(8), p1, p2, p3, frame.wrapping_add(192),
+      frame.wrapping_add(152), frame.wrapping_add(32));
+  'after_15: {
+  if (load8(frame.wrapping_add(8)) as u32) != 1 {
+    break 'after_15;
+  }
+  store64(v12, load64(v13));
+  store64(v12.wrapping_add(8), load64(v13.wrapping_add(8)));
+  p5 = load64(frame.wrapping_add(24));
+  store64(frame.wrapping_add(184), p5);
+  v14 = load64(frame.wrapping_add(16));
+  store64(frame.wrapping_add(176), v14);
+  v7 = (p4.wrapping_sub(p5)).wrapping_add(v7);
+  store64(frame.wrapping_add(192), v7);
+  p4 = p5;
+  if p3 != 0 {
+    continue 'again_16;
+  }
+  break 'after_1;
+  }
+  break;
+  }
+  store64(p0.wrapping_add(16), 0);
+  store64(p0.wrapping_add(8), 0);
+  store64(p0, 0);
+  break 'after_17;
+  }
+  v15 = load8(p2) as u32;
+  v14 = load64(frame.wrapping_add(176));
+  v16 = load64(frame.wrapping_add(168));
+  v17 = load64(frame.wrapping_add(160));
+  if p4 > 1 {
+    break 'after_18;
+  }
+  'after_19: {
+  match p4 as u32 {
+  1 => {
+    break 'after_1;
+  }
+  _ => {
+    break 'after_19;
+  }
+  }
+  }
+  'after_20: {
+  if ((v8 | v15) & 255) == 0 {
+    break 'after_20;
+  }
+  v18 = 0;
+  v8 = v15;
+  break 'after_21;
+  }
+  if v16 != 0 {
+    break 'after_22;
+  }
+  }
+  v18 = 0;
+  p4 = 0;
+  break 'after_12;
+  }
+  p5 = v17.wrapping_add(1);
+  p4 = v16;
+  'again_23: loop {
+  if (load8(p5) as u32) == 0 {
+    break 'after_1;
+  }
+  p5 = p5.wrapping_add(5);
+  p4 = p4.wrapping_add(0xffffffffffffffff);
+  if p4 != 0 {
+    continue 'again_23;
+  }
+  break;
+  }
+  }
+  p4 = 0;
+  v18 = 0;
+  break 'after_14;
+  }
+  if (load8(v14) as u32) != 0 {
+    break 'after_1;
+  }
+  v8 = (u32::from((load8(v14.wrapping_add(1)) as u32) != 0)) | v9;
+  v19 = v8 & 1;
+  v18 = if v19 != 0 { 0u64 } else { 2u64 };
+  v8 = v8 ^ 1;
+  if v19 != 0 {
+    break 'after_21;
+  }
+  if (v15 & 1) != 0 {
+    break 'after_21;
+  }
+  'after_24: {
+  if v16 != 0 {
+    break 'after_24;
+  }
+  v18 = 2;
+  break 'after_12;
+  }
+  p5 = v17.wrapping_add(1);
+  p3 = v16;
+  'again_25: loop {
+  if (load8(p5) as u32) == 0 {
+    break 'after_1;
+  }
+  p5 = p5.wrapping_add(5);
+  v18 = 2;
+  p3 = p3.wrapping_add(0xffffffffffffffff);
+  if p3 != 0 {
+    continue 'again_25;
+  }
+  break 'after_14;
+  }
+  }
+  if (v8 & 1) != 0 {
+    break 'after_14;
+  }
+  }
+  'after_26: {
+  if (load8(frame.wrapping_add(153)) as u32) != 0 {
+    break 'after_26;
+  }
+  'after_28: {
+  'after_27: {
+  if (load64(frame.wrapping_add(200))) != 0 {
+    break 'after_27;
+  }
+  v15 = 1;
+  if v7 != 0 {
+    break 'after_28;
+  }
+  }
+  let t0 = (u32::from((load8(p1) as u32) == 1)) & (u32::from(((load8(p1.wrapping_add(6)) as u32)
+      & 255) == 0));
+  v15 = t0 & (u32::from(((load8(p1.wrapping_add(10)) as u32) & 1) == 0));
+  }
+  if (load8(p1.wrapping_add(24)) as u32) == 1 {
+    break 'after_26;
+  }
+  if v15 == 0 {
+    break 'after_26;
+  }
+  store64(p1.wrapping_add(32), v7);
+  store64(p1.wrapping_add(24), 1);
+  }
+  store64(p0.wrapping_add(16), 0);
+  store64(p0.wrapping_add(8), 0);
+  store64(p0, 0);
+  break 'after_17;
+  }
+  if (load8(frame.wrapping_add(153)) as u32) != 0 {
+    break 'after_12;
+  }
+  if v16 == 0 {
+    break 'after_12;
+  }
+  p5 = v17.wrapping_add(1);
+  'after_29: {
+  'again_30: loop {
+  if (load8(p5) as u32) == 0 {
+    break 'after_29;
+  }
+  p5 = p5.wrapping_add(5);
+  v16 = v16.wrapping_add(0xffffffffffffffff);
+  if v16 != 0 {
+    continue 'again_30;
+  }
+  break 'after_12;
+  }
+  }
+  'after_32: {
+  'after_31: {
+  if v10 != 0 {
+    break 'after_31;
+  }
+  v15 = 1;
+  if v7 != 0 {
+    break 'after_32;
+  }
+  }
+  let t1 = (u32::from((load8(p1) as u32) == 1)) & (u32::from(((load8(p1.wrapping_add(6)) as u32)
+      & 255) == 0));
+  v15 = t1 & (u32::from(((load8(p1.wrapping_add(10)) as u32) & 1) == 0));
+  }
+  if (load8(p1.wrapping_add(24)) as u32) == 1 {
+    break 'after_12;
+  }
+  if v15 == 0 {
+    break 'after_12;
+  }
+  store64(p1.wrapping_add(32), v7);
+  store64(p1.wrapping_add(24), 1);
+  }
+  store64(p0, 1);
+  store64(p0.wrapping_add(16), p4.wrapping_sub(v18));
+  store64(p0.wrapping_add(8), v14.wrapping_add(v18));
+  }
+}
+
+// der_view::walk::follows::<#058ff82db2a1a4d6>
 unsafe fn der_view_walk_follows_6(p0: u64, p1: u64, p2: u64, p3: u64, mut p4: u32, p5: u64,
     p6: u64) -> u32 {
   let mut array = Frame::<144>::new();
