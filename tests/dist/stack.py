@@ -19,12 +19,13 @@ LEVELS = {
     # levels 1 to 64, which their contracts limit
     "der_view::walk::walk": 64,
     "der_view::walk::draw_step": 64,
-    "der_view::walk::rest_of": 64,
     "der_view::walk::opened_of": 64,
+    "der_view::walk::follows": 64,
     # a structure has at most ten components
     "der_view::step::fitting": 11,
-    # the identifiers of one length that have a name
-    "der_view::names::find": 275,
+    "der_view::line::Line::push_expected": 11,
+    # the rows of the table of names
+    "der_view::names::names_after": 170,
     # a row has room for six marks
     "der_view::printer::write_marks": 7,
     # the forms, of which one comes first
@@ -37,8 +38,8 @@ LEVELS = {
     "der_view::values::arcs::split_subidentifier": 20,
     # five digits of 7 bits in 32, and then 0
     "sec1_der::object_identifier::builder::Content::push_marked": 6,
-    # it has no part of its own
-    "der_view::line::Line::push_code": 0,
+    # eight hexadecimal digits in 32 bits
+    "der_view::line::Line::push_code": 8,
 }
 # A level is walked, or looked into from one above it: together they are as many.
 WALKS = {"der_view::walk::walk", "der_view::walk::draw_step"}

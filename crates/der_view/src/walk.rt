@@ -170,6 +170,8 @@ fn walk<'a, R: Rows>(
 }
 
 /// Tells the rows where a level ends, by so many bytes.
+// Its part of the stack isn't one of each level.
+#[inline(never)]
 fn draw_end<R: Rows>(rows: &mut R, place: Place, level: &Level, len: usize)
     ensures { R.tells rows.old rows.new
         (told level.now.is_trial (end_rows place level.now.components.now len)) }
@@ -190,6 +192,8 @@ fn draw_end<R: Rows>(rows: &mut R, place: Place, level: &Level, len: usize)
 }
 
 /// Tells the row of the bytes of a level that aren't drawn: all up to the end.
+// Its part of the stack isn't one of each level.
+#[inline(never)]
 fn draw_left<R: Rows>(rows: &mut R, rules: &Rules, place: Place, level: &Level)
     requires within { place.offset ≤ place.end }
     ensures { R.tells rows.old rows.new
@@ -247,6 +251,8 @@ pub(crate) fn draw_step<'a, R: Rows>(
 }
 
 /// Tells the row of an element, whose content is rows or not.
+// Its part of the stack isn't one of each level.
+#[inline(never)]
 fn draw_element<R: Rows>(
     rows: &mut R,
     rules: &Rules,
@@ -294,6 +300,7 @@ fn draw_element<R: Rows>(
 /// content is rows because they do. Where it has no structure, it is any elements if it has an
 /// indefinite length, or is constructed and has no component or is drawn loosely.
 #[cycle(walks)]
+#[inline(never)]
 #[tactic(auto, unfolding(crate::specs::Rows::opened_in))]
 fn opened_of<R: Rows>(
     rows: &mut R,
