@@ -19,8 +19,9 @@ LEVELS = {
     # levels 1 to 64, which their contracts limit
     "der_view::walk::walk": 64,
     "der_view::walk::draw_step": 64,
-    "der_view::walk::opened_of": 64,
-    "der_view::walk::follows": 64,
+    # a content that is rows if it follows its structure has no such content inside it
+    "der_view::walk::opened_of": 3,
+    "der_view::walk::follows": 3,
     # a structure has at most ten components
     "der_view::step::fitting": 11,
     "der_view::line::Line::push_expected": 11,
@@ -41,9 +42,6 @@ LEVELS = {
     # eight hexadecimal digits in 32 bits
     "der_view::line::Line::push_code": 8,
 }
-# A level is walked, or looked into from one above it: together they are as many.
-WALKS = {"der_view::walk::walk", "der_view::walk::draw_step"}
-LOOKS = {"der_view::walk::opened_of", "der_view::walk::rest_of"}
 # Instructions on the one global, which is the stack pointer, and on locals.
 GET, SET, POINTER, CONSTANT, TEE = 0x23, 0x24, (0,), 0x42, 0x22
 
@@ -90,23 +88,13 @@ class Stack:
         if index not in self.known:
             cycle, own = self.own(index)
             outside = set().union(*(self.calls[it] for it in cycle or {index})) - cycle
-            walks = self.name(index) in WALKS
-            below = (self.left(it, own) if walks else self.used(it) for it in outside)
-            self.known[index] = own + max(below, default=0)
+            self.known[index] = own + max(map(self.used, outside), default=0)
         return self.known[index]
 
     def own(self, index):
         """Returns the functions that call each other with one, and what these use at most."""
         cycle = {it for it in self.reached[index] if index in self.reached[it]}
         return cycle, sum(self.levels(it) * self.frames[it] for it in cycle) or self.frames[index]
-
-    def left(self, index, walked):
-        """Returns what a call of a function by one that walks uses at most beside what that does.
-        One that looks uses a level at the last one that is walked, or more levels before it."""
-        if self.name(index) not in LOOKS:
-            return self.used(index)
-        _, own = self.own(index)
-        return self.used(index) - own + own // LEVELS[self.name(index)] + max(0, own - walked)
 
     def name(self, index):
         """Returns a function's name, without the types that it is for."""
