@@ -3164,23 +3164,35 @@ static void der_view_plan_best(uint64_t p0, uint64_t p1, uint64_t p2, uint64_t p
 static void der_view_step_step_by(uint64_t p0, uint32_t p1, uint32_t p2, uint64_t p3,
     uint64_t p4, uint64_t p5, uint64_t p6);
 static void der_view_walk_draw_step(uint64_t p0, uint64_t p1, uint64_t p2, uint64_t p3,
-    uint64_t p4, uint32_t p5, uint64_t p6);
+    uint64_t p4, uint64_t p5, uint64_t p6);
 static void der_view_walk_draw_step_4(uint64_t p0, uint64_t p1, uint64_t p2, uint64_t p3,
-    uint64_t p4, uint32_t p5, uint64_t p6);
+    uint64_t p4, uint64_t p5, uint64_t p6);
 static void der_view_header_Header_read(uint64_t p0, uint64_t p1, uint64_t p2);
 static void der_view_step_fitting(uint64_t p0, uint32_t p1, uint64_t p2, uint64_t p3);
 static uint32_t der_view_content_is_valid(uint32_t p0, uint32_t p1, uint64_t p2, uint64_t p3);
 static void der_view_grammar_Structure_components(uint64_t p0, uint32_t p1);
 static uint64_t der_view_content_shown_len(uint32_t p0, uint64_t p1, uint32_t p2, uint32_t p3,
     uint64_t p4, uint64_t p5);
+static void der_view_walk_opened_of_4(uint64_t p0, uint64_t p1, uint64_t p2, uint64_t p3,
+    uint64_t p4, uint64_t p5);
+static void der_view_walk_draw_element_4(uint64_t p0, uint64_t p1, uint64_t p2, uint64_t p3,
+    uint64_t p4);
 static void der_view_walk_walk_4(uint64_t p0, uint64_t p1, uint64_t p2, uint64_t p3,
     uint64_t p4, uint64_t p5);
 static uint32_t der_view_walk_follows_4(uint64_t p0, uint64_t p1, uint64_t p2, uint64_t p3,
     uint32_t p4, uint64_t p5, uint64_t p6);
+static void der_view_walk_draw_left_4(uint64_t p0, uint64_t p1, uint32_t p2);
+static void der_view_walk_draw_end_4(void);
+static void der_view_walk_opened_of(uint64_t p0, uint64_t p1, uint64_t p2, uint64_t p3,
+    uint64_t p4, uint64_t p5);
+static void der_view_walk_draw_element(uint64_t p0, uint64_t p1, uint64_t p2, uint64_t p3,
+    uint64_t p4);
 static void der_view_walk_walk(uint64_t p0, uint64_t p1, uint64_t p2, uint64_t p3, uint64_t p4,
     uint64_t p5);
 static uint32_t der_view_walk_follows(uint64_t p0, uint64_t p1, uint64_t p2, uint64_t p3,
     uint32_t p4, uint64_t p5, uint64_t p6);
+static void der_view_walk_draw_left(void);
+static void der_view_walk_draw_end(void);
 static void der_view_text_Sources_next_source(uint64_t p0, uint64_t p1);
 static void der_view_text_pem_label_of(uint64_t p0, uint64_t p1, uint64_t p2);
 static void der_view_text_pem_Block_new(uint64_t p0, uint64_t p1, uint64_t p2, uint64_t p3,
@@ -3213,6 +3225,10 @@ static void der_view_faults_walk_check(uint64_t p0, uint64_t p1, uint64_t p2, ui
 static uint32_t der_view_said_advice_of(uint32_t p0, uint32_t p1, uint64_t p2);
 static void der_view_said_key_misfit(uint64_t p0, uint64_t p1);
 static void der_view_said_point_misfit(uint64_t p0, uint64_t p1);
+static void der_view_walk_opened_of_2(uint64_t p0, uint64_t p1, uint64_t p2, uint64_t p3,
+    uint64_t p4, uint64_t p5);
+static void der_view_walk_draw_element_2(uint64_t p0, uint64_t p1, uint64_t p2, uint64_t p3,
+    uint32_t p4, uint64_t p5);
 static void der_view_walk_walk_2(uint64_t p0, uint64_t p1, uint64_t p2, uint64_t p3,
     uint64_t p4, uint64_t p5);
 static uint32_t der_view_walk_follows_2(uint64_t p0, uint64_t p1, uint64_t p2, uint64_t p3,
@@ -3220,13 +3236,21 @@ static uint32_t der_view_walk_follows_2(uint64_t p0, uint64_t p1, uint64_t p2, u
 static void der_view_facts_RowFacts_of_element(uint64_t p0, uint64_t p1, uint32_t p2,
     uint64_t p3, uint64_t p4);
 static uint32_t der_view_characters_are_characters(uint32_t p0, uint64_t p1, uint64_t p2);
+static void der_view_walk_draw_left_2(uint64_t p0, uint64_t p1, uint64_t p2, uint64_t p3);
+static void der_view_walk_draw_end_2(uint64_t p0, uint64_t p1, uint64_t p2, uint64_t p3);
 static void der_view_known_Known_see(uint64_t p0, uint32_t p1, uint64_t p2);
 static void der_view_walk_draw_step_5(uint64_t p0, uint64_t p1, uint64_t p2, uint64_t p3,
     uint64_t p4, uint64_t p5, uint64_t p6);
+static void der_view_walk_opened_of_5(uint64_t p0, uint64_t p1, uint64_t p2, uint64_t p3,
+    uint64_t p4, uint64_t p5);
+static void der_view_walk_draw_element_5(uint64_t p0, uint64_t p1, uint64_t p2, uint64_t p3,
+    uint32_t p4, uint64_t p5);
 static void der_view_walk_walk_5(uint64_t p0, uint64_t p1, uint64_t p2, uint64_t p3,
     uint64_t p4, uint64_t p5);
 static uint32_t der_view_walk_follows_5(uint64_t p0, uint64_t p1, uint64_t p2, uint64_t p3,
     uint32_t p4, uint64_t p5, uint64_t p6);
+static void der_view_walk_draw_left_5(uint64_t p0, uint64_t p1, uint64_t p2, uint64_t p3);
+static void der_view_walk_draw_end_5(uint64_t p0, uint64_t p1, uint64_t p2, uint64_t p3);
 static void der_view_names_names_after(uint64_t p0, uint64_t p1, uint64_t p2, uint64_t p3,
     uint64_t p4, uint64_t p5);
 static void der_view_text_Source_heading(uint64_t p0, uint64_t p1, uint64_t p2);
@@ -3264,11 +3288,17 @@ static void der_view_json_Object_end(uint64_t p0);
 static void der_view_showing_show_part(uint64_t p0, uint64_t p1, uint64_t p2, uint64_t p3,
     uint32_t p4, uint64_t p5);
 static void der_view_walk_draw_step_3(uint64_t p0, uint64_t p1, uint64_t p2, uint64_t p3,
-    uint64_t p4, uint32_t p5, uint64_t p6);
+    uint64_t p4, uint64_t p5, uint64_t p6);
+static void der_view_walk_opened_of_3(uint64_t p0, uint64_t p1, uint64_t p2, uint64_t p3,
+    uint64_t p4, uint64_t p5);
+static void der_view_walk_draw_element_3(uint64_t p0, uint64_t p1, uint64_t p2, uint64_t p3,
+    uint64_t p4);
 static void der_view_walk_walk_3(uint64_t p0, uint64_t p1, uint64_t p2, uint64_t p3,
     uint64_t p4, uint64_t p5);
 static uint32_t der_view_walk_follows_3(uint64_t p0, uint64_t p1, uint64_t p2, uint64_t p3,
     uint32_t p4, uint64_t p5, uint64_t p6);
+static void der_view_walk_draw_left_3(void);
+static void der_view_walk_draw_end_3(void);
 static void der_view_form_draw_rows(uint64_t p0, uint64_t p1, uint64_t p2, uint64_t p3,
     uint32_t p4);
 static void der_view_walk_draw_step_6(uint64_t p0, uint64_t p1, uint64_t p2, uint64_t p3,
@@ -3297,14 +3327,26 @@ static void itoa_Buffer_format(uint64_t p0, uint64_t p1, uint64_t p2, uint64_t p
 static void der_view_values_arcs_split_subidentifier(uint64_t p0, uint64_t p1, uint64_t p2,
     uint64_t p3, uint64_t p4);
 static void der_view_values_arcs_Arcs_new(uint64_t p0, uint64_t p1, uint64_t p2);
+static void der_view_walk_opened_of_7(uint64_t p0, uint64_t p1, uint64_t p2, uint64_t p3,
+    uint64_t p4, uint64_t p5);
+static void der_view_walk_draw_element_7(uint64_t p0, uint64_t p1, uint64_t p2, uint64_t p3,
+    uint32_t p4, uint64_t p5);
 static void der_view_walk_walk_7(uint64_t p0, uint64_t p1, uint64_t p2, uint64_t p3,
     uint64_t p4, uint64_t p5);
 static uint32_t der_view_walk_follows_7(uint64_t p0, uint64_t p1, uint64_t p2, uint64_t p3,
     uint32_t p4, uint64_t p5, uint64_t p6);
+static void der_view_walk_draw_left_7(uint64_t p0, uint64_t p1, uint64_t p2, uint64_t p3);
+static void der_view_walk_draw_end_7(uint64_t p0, uint64_t p1, uint64_t p2, uint64_t p3);
+static void der_view_walk_opened_of_6(uint64_t p0, uint64_t p1, uint64_t p2, uint64_t p3,
+    uint64_t p4, uint64_t p5);
+static void der_view_walk_draw_element_6(uint64_t p0, uint64_t p1, uint64_t p2, uint64_t p3,
+    uint32_t p4, uint64_t p5);
 static void der_view_walk_walk_6(uint64_t p0, uint64_t p1, uint64_t p2, uint64_t p3,
     uint64_t p4, uint64_t p5);
 static uint32_t der_view_walk_follows_6(uint64_t p0, uint64_t p1, uint64_t p2, uint64_t p3,
     uint32_t p4, uint64_t p5, uint64_t p6);
+static void der_view_walk_draw_left_6(uint64_t p0, uint64_t p1, uint64_t p2);
+static void der_view_walk_draw_end_6(uint64_t p0, uint64_t p1, uint64_t p2);
 static void der_view_line_Line_push_identified(uint64_t p0, uint64_t p1, uint64_t p2,
     uint64_t p3, uint64_t p4, uint64_t p5, uint64_t p6, uint64_t p7, uint64_t p8, uint64_t p9,
     uint64_t p10, uint64_t p11, uint64_t p12);
@@ -6255,38 +6297,38 @@ after_5:;
 /* der_view::plan::plan_of */
 static void der_view_plan_plan_of(uint64_t p0, uint64_t p1, uint64_t p2)
 {
-  FRAME(320)
+  FRAME(352)
   uint32_t v5 = 0, v6 = 0, v7 = 0, v8 = 0, v9 = 0, v10 = 0, v11 = 0, v12 = 0, v13 = 0, v14 = 0,
       v15 = 0, t0;
   uint64_t v4 = 0;
-  store8(frame + 84, 0);
-  store32(frame + 80, 0);
+  store8(frame + 76, 0);
+  store32(frame + 72, 0);
+  store64(frame + 40, 0);
   store64(frame + 48, 0);
   store64(frame + 56, 0);
   store64(frame + 64, 0);
-  store64(frame + 72, 0);
+  store64(frame + 8, 0);
   store64(frame + 16, 0);
   store64(frame + 24, 0);
-  store64(frame + 32, 0);
-  store16(frame + 46, 10);
-  store32(frame + 42, 0x60030);
-  store8(frame + 15, 10);
-  store32(frame + 11, 0x60030);
-  der_view_plan_shape_as(frame + 16, frame + 11, p1, p2);
-  der_view_plan_best(frame + 48, p1, p2, frame + 42, frame + 16, CONSTANT(292), 35);
-  store8(frame + 15, 0);
-  store32(frame + 11, 0x90200);
-  v4 = load64(frame + 64);
-  v5 = load8(frame + 53);
-  v6 = load8(frame + 52);
-  v7 = load8(frame + 51);
-  v8 = load8(frame + 50);
-  v9 = load8(frame + 49);
-  v10 = load8(frame + 48);
-  v11 = load8(frame + 72);
-  der_view_plan_shape_as(frame + 16, frame + 11, p1, p2);
+  store16(frame + 38, 10);
+  store32(frame + 34, 0x60030);
+  store8(frame + 7, 10);
+  store32(frame + 3, 0x60030);
+  der_view_plan_shape_as(frame + 8, frame + 3, p1, p2);
+  der_view_plan_best(frame + 40, p1, p2, frame + 34, frame + 8, CONSTANT(292), 35);
+  store8(frame + 7, 0);
+  store32(frame + 3, 0x90200);
+  v4 = load64(frame + 56);
+  v5 = load8(frame + 45);
+  v6 = load8(frame + 44);
+  v7 = load8(frame + 43);
+  v8 = load8(frame + 42);
+  v9 = load8(frame + 41);
+  v10 = load8(frame + 40);
+  v11 = load8(frame + 64);
+  der_view_plan_shape_as(frame + 8, frame + 3, p1, p2);
   v12 = 1;
-  v13 = load8(frame + 32);
+  v13 = load8(frame + 24);
   if (v11 & 1u)
     goto after_1;
   if (v4 > 1)
@@ -6303,23 +6345,29 @@ static void der_view_plan_plan_of(uint64_t p0, uint64_t p1, uint64_t p2)
   v12 = 0;
   goto after_3;
 after_2:;
-  store64(frame + 120, 0);
   store64(frame + 112, 0);
-  store64(frame + 88, 0);
   store64(frame + 104, 0);
-  store64(frame + 96, CONSTANT(0));
-  store64(frame + 184, 0);
-  fill(frame + 192, 0, 128);
-  store64(frame + 168, 0);
-  store64(frame + 160, 0);
-  store64(frame + 176, p2);
-  store8(frame + 159, 0);
-  store32(frame + 155, 0x90200);
-  der_view_step_step_by(frame + 192, 1, 0, frame + 155, 1, p1, p2);
-  if (load8(frame + 192) != 1u)
+  store64(frame + 80, 0);
+  store64(frame + 96, 0);
+  store64(frame + 88, CONSTANT(0));
+  store64(frame + 216, 0);
+  store64(frame + 144, 0);
+  fill(frame + 224, 0, 128);
+  store64(frame + 200, 0);
+  store64(frame + 192, 0);
+  store64(frame + 208, p2);
+  store8(frame + 191, 0);
+  store32(frame + 187, 0x90200);
+  der_view_step_step_by(frame + 224, 1, 0, frame + 187, 1, p1, p2);
+  if (load8(frame + 224) != 1u)
     goto after_4;
-  der_view_walk_draw_step(frame + 128, frame + 112, frame + 88, p2, frame + 160, 0, frame + 200);
-  v5 = 1u << ((uint32_t)load8(frame + 112) & 0x1fu);
+  store64(frame + 176, p2);
+  store64(frame + 168, p1);
+  store64(frame + 160, 1);
+  store64(frame + 152, frame + 187);
+  der_view_walk_draw_step(frame + 120, frame + 104, frame + 80, p2, frame + 192, frame + 144,
+      frame + 232);
+  v5 = 1u << ((uint32_t)load8(frame + 104) & 0x1fu);
   if (v5 & 0x23u)
     goto after_4;
   if ((v5 & 0x18u) == 0u)
@@ -6330,7 +6378,7 @@ after_2:;
   goto after_6;
 after_5:;
   v7 = 0;
-  v4 = load64(frame + 120) + 0xffffffffffffffe4;
+  v4 = load64(frame + 112) + 0xffffffffffffffe4;
   if (v4 > 38)
     goto after_7;
   if (((1ull << (v4 & 0x3f)) & 0x4000100011) == 0)
@@ -6389,12 +6437,12 @@ after_11:;
   v14 = 1;
 after_3:;
   v15 = 0;
-  fill(frame + 192, 0, 128);
-  der_view_step_step_by(frame + 192, 1, 0, CONSTANT(1762), 1, p1, p2);
-  if (load8(frame + 192) != 1u)
+  fill(frame + 224, 0, 128);
+  der_view_step_step_by(frame + 224, 1, 0, CONSTANT(1762), 1, p1, p2);
+  if (load8(frame + 224) != 1u)
     goto after_14;
-  t0 = (uint32_t)(load8(frame + 224) == 1u) & (uint32_t)(load64(frame + 232) != load64(frame +
-      296));
+  t0 = (uint32_t)(load8(frame + 256) == 1u) & (uint32_t)(load64(frame + 264) != load64(frame +
+      328));
   v15 = t0;
 after_14:;
   store8(p0 + 10, (uint8_t)v15);
@@ -6408,8 +6456,8 @@ after_14:;
   store8(p0 + 2, (uint8_t)v9);
   store8(p0 + 1, (uint8_t)v10);
   store8(p0, (uint8_t)v12);
-  store32(p0 + 11, load32(frame + 80));
-  store8(p0 + 15, (uint8_t)(uint32_t)load8(frame + 84));
+  store32(p0 + 11, load32(frame + 72));
+  store8(p0 + 15, (uint8_t)(uint32_t)load8(frame + 76));
   store64(p0 + 16, p2);
 }
 
@@ -6691,53 +6739,58 @@ after_3:;
 /* der_view::plan::shape_as */
 static void der_view_plan_shape_as(uint64_t p0, uint64_t p1, uint64_t p2, uint64_t p3)
 {
-  FRAME(240)
+  FRAME(288)
   uint32_t v5 = 0, v6 = 0;
-  store64(frame, 0);
+  store64(frame + 8, 0);
+  store64(frame + 48, 0);
+  store64(frame + 32, 0);
   store64(frame + 40, 0);
   store64(frame + 24, 0);
-  store64(frame + 32, 0);
-  store64(frame + 16, 0);
-  store64(frame + 8, CONSTANT(0));
+  store64(frame + 16, CONSTANT(0));
   v5 = 0;
-  store8(frame + 1, 0);
-  store8(frame + 40, 0);
-  store64(frame + 232, 0);
-  fill(frame + 72, 0, 128);
+  store8(frame + 9, 0);
+  store8(frame + 48, 0);
+  store64(frame + 280, 0);
+  store64(frame + 208, 0);
+  fill(frame + 80, 0, 128);
+  store64(frame + 72, 0);
   store64(frame + 64, 0);
   store64(frame + 56, 0);
-  store64(frame + 48, 0);
-  store64(frame + 208, 0);
-  store64(frame + 216, 0);
-  store64(frame + 224, p3);
-  store32(frame + 200, load32(p1));
-  store8(frame + 204, (uint8_t)(uint32_t)load8(p1 + 4));
-  der_view_step_step_by(frame + 72, 1, 0, frame + 200, 1, p2, p3);
-  if (load8(frame + 72) != 1u)
+  store64(frame + 256, 0);
+  store64(frame + 264, 0);
+  store64(frame + 272, p3);
+  store32(frame + 248, load32(p1));
+  store8(frame + 252, (uint8_t)(uint32_t)load8(p1 + 4));
+  der_view_step_step_by(frame + 80, 1, 0, frame + 248, 1, p2, p3);
+  if (load8(frame + 80) != 1u)
     goto after_1;
-  p1 = load64(frame + 176);
-  p2 = load64(frame + 112);
-  v6 = load8(frame + 104);
-  v5 = 0;
-  der_view_walk_draw_step_4(frame + 48, frame + 24, frame, p3, frame + 208, 0, frame + 80);
-  if (load8(frame + 48) == 0u)
+  store64(frame + 240, p3);
+  store64(frame + 232, p2);
+  store64(frame + 224, 1);
+  store64(frame + 216, frame + 248);
+  p1 = load64(frame + 184);
+  p2 = load64(frame + 120);
+  v6 = load8(frame + 112);
+  der_view_walk_draw_step_4(frame + 56, frame + 32, frame + 8, p3, frame + 256, frame + 208,
+      frame + 88);
+  if (load8(frame + 56) == 0u)
     goto after_2;
-  p3 = load64(frame + 64);
+  p3 = load64(frame + 72);
   if (p3 != 0)
     goto after_3;
   v5 = (uint32_t)((v6 & 0xffu) != 1u) | (uint32_t)(p2 == p1);
   goto after_2;
 after_3:;
-  p1 = p3 + load64(frame + 24);
-  store64(frame + 24, (p1 < p3) ? 0xffffffffffffffffull : p1);
+  p1 = p3 + load64(frame + 32);
+  store64(frame + 32, (p1 < p3) ? 0xffffffffffffffffull : p1);
   goto after_2;
 after_1:;
-  store64(frame + 24, p3);
+  store64(frame + 32, p3);
 after_2:;
-  store64(p0, load64(frame + 24));
-  store64(p0 + 8, load64(frame + 32));
-  store8(frame + 40, (uint8_t)v5);
-  store64(p0 + 16, load64(frame + 40));
+  store64(p0, load64(frame + 32));
+  store64(p0 + 8, load64(frame + 40));
+  store8(frame + 48, (uint8_t)v5);
+  store64(p0 + 16, load64(frame + 48));
 }
 
 /* der_view::plan::best */
@@ -7042,470 +7095,224 @@ after_2:;
 
 /* der_view::walk::draw_step::<#ba02b8222ab7e3d1> */
 static void der_view_walk_draw_step(uint64_t p0, uint64_t p1, uint64_t p2, uint64_t p3,
-    uint64_t p4, uint32_t p5, uint64_t p6)
+    uint64_t p4, uint64_t p5, uint64_t p6)
 {
-  FRAME(320)
-  uint32_t v11 = 0, v13 = 0, v14 = 0, v15 = 0, v16 = 0, v19 = 0, v20 = 0, t0;
-  uint64_t v8 = 0, v9 = 0, v10 = 0, v12 = 0, v17 = 0, v18 = 0;
-  v8 = load64(p4 + 16);
-  v9 = load64(p4 + 8);
-  v10 = 0;
+  FRAME(272)
+  uint32_t v8 = 0, v12 = 0, v14 = 0, v15 = 0, v16 = 0;
+  uint64_t v9 = 0, v10 = 0, v11 = 0, v13 = 0;
+  store32(frame + 248, load32(p4 + 25));
+  store32(frame + 251, load32(p4 + 28));
+  v8 = load8(p4 + 24);
+  v9 = load64(p4 + 16);
+  v10 = load64(p4 + 8);
+  p4 = load64(p4);
+  store64(frame + 264, 0);
+  store64(frame + 256, 0);
+  store64(frame + 208, 0);
+  store64(frame + 216, 0);
+  store64(frame + 224, 0);
+  store64(frame + 232, 0);
+  store64(frame + 240, 0);
   store64(frame + 184, 0);
   store64(frame + 192, 0);
-  v11 = 0;
-  store32(frame + 176, 0);
-  store32(frame + 179, 0);
-  store64(frame + 136, 0);
-  store64(frame + 144, 0);
+  store64(frame + 200, 0);
   store64(frame + 152, 0);
   store64(frame + 160, 0);
   store64(frame + 168, 0);
-  store64(frame + 112, 0);
-  store64(frame + 120, 0);
-  store64(frame + 128, 0);
-  store64(frame + 88, 0);
-  store64(frame + 96, 0);
-  store64(frame + 104, 0);
-  v12 = load64(p4);
-  v13 = load8(p4 + 24);
-  store64(frame + 80, 0);
-  store64(frame + 72, 0);
+  store64(frame + 176, 0);
   store64(frame + 64, 0);
+  store64(frame + 72, 0);
+  store64(frame + 80, 0);
   store64(frame + 56, 0);
-  store64(frame + 40, 0);
   store64(frame + 48, 0);
-  p4 = v9 + 1;
-  v14 = 1;
-  v15 = v13 & 1u;
-  v12 = v12 + load64(p6 + 16);
-  v13 = load8(p2);
-  v16 = load8(p6 + 58);
-  switch ((uint32_t)((uint64_t)v16 & 0xff)) {
-  case 6:
+  store64(frame + 40, 0);
+  store64(frame + 32, 0);
+  store64(frame + 16, 0);
+  store64(frame + 24, 0);
+  v11 = v10 + 1;
+  store64(frame + 128, v11);
+  store64(frame + 136, v9);
+  v12 = v8 & 1u;
+  store8(frame + 144, (uint8_t)v12);
+  store32(frame + 145, 0);
+  store32(frame + 148, 0);
+  v13 = p4 + load64(p6 + 16);
+  store64(frame + 120, v13);
+  der_view_walk_opened_of(frame + 152, p1, p2, p3, frame + 120, p6);
+  store8(frame + 112, (uint8_t)v8);
+  store64(frame + 104, v9);
+  store64(frame + 96, v10);
+  store64(frame + 88, p4);
+  store32(frame + 113, load32(frame + 248));
+  store32(frame + 116, load32(frame + 251));
+  v14 = load8(frame + 176);
+  p4 = load64(frame + 168);
+  v15 = load8(frame + 160);
+  v8 = load8(frame + 152);
+  der_view_walk_draw_element(p1, p2, frame + 88, p5, p6);
+  if (v8 != 1u)
     goto after_1;
-  case 7:
+  v8 = load8(p6 + 24);
+  v16 = load8(p5 + 1);
+  der_view_grammar_Structure_components(frame, v15);
+  store8(frame + 209, (uint8_t)v16);
+  store8(frame + 208, (uint8_t)(uint32_t)(v8 != 1u));
+  store8(frame + 184, (uint8_t)v14);
+  store64(frame + 32, p4 + v13);
+  store64(frame + 40, v11);
+  store64(frame + 48, v9);
+  store8(frame + 56, (uint8_t)v12);
+  store64(frame + 224, load64(frame + 8));
+  store64(frame + 216, load64(frame));
+  store8(frame + 185, (uint8_t)(uint32_t)load8(p2 + 1));
+  store64(frame + 192, load64(p2 + 8));
+  store64(frame + 200, load64(p2 + 16));
+  store64(frame + 240, load64(p6 + 96) - p4);
+  store64(frame + 232, load64(p6 + 88) + p4);
+  store32(frame + 60, 0);
+  store32(frame + 57, 0);
+  der_view_walk_walk(frame + 64, p1, frame + 184, p3, frame + 32, frame + 208);
+  if (load8(frame + 64) != 1u)
     goto after_2;
-  case 8:
+  if (v8 == 1u)
     goto after_3;
-  default:
-    goto after_4;
-  }
+  store64(frame + 24, load64(frame + 80));
+  store64(frame + 16, load64(frame + 72));
+  goto after_4;
 after_1:;
-  v11 = load8(p6 + 59);
-  goto after_5;
-after_2:;
-  v17 = load64(p6 + 88);
-  v18 = load64(p6 + 96);
-  v11 = load8(p6 + 59);
-  v13 = 0;
-  store32(frame + 313, 0);
-  store8(frame + 312, (uint8_t)v15);
-  store64(frame + 304, v8);
-  store64(frame + 296, p4);
-  store64(frame + 288, v12);
-  store32(frame + 316, 0);
-  v10 = 0;
-  store64(frame + 248, 0);
-  store64(frame + 224, 0);
-  store64(frame + 200, 0);
-  store64(frame + 208, 0);
-  store64(frame + 216, 0);
-  der_view_grammar_Structure_components(frame + 24, v11);
-  store64(frame + 280, v18);
-  store64(frame + 272, v17);
-  store16(frame + 248, 256);
-  store8(frame + 224, 0);
-  store64(frame + 264, load64(frame + 32));
-  store64(frame + 256, load64(frame + 24));
-  store64(frame + 232, load64(p2 + 8));
-  store64(frame + 240, load64(p2 + 16));
-  store8(frame + 225, (uint8_t)(uint32_t)load8(p2 + 1));
-  der_view_walk_walk(frame + 200, p1, frame + 224, p3, frame + 288, frame + 248);
-  v14 = (uint32_t)(load8(frame + 200) == 1u);
-  v11 = v14 ? v11 : 0u;
-  goto after_5;
-after_3:;
-  v17 = load64(p6 + 96);
-  if (v17 == 0)
-    goto after_6;
-  v14 = 0;
-  v18 = load64(p6 + 88);
-  if (load8(v18))
-    goto after_7;
-  v17 = v17 + 0xffffffffffffffff;
-  if (v17 != 0)
-    goto after_8;
-  v14 = 0;
-  goto after_7;
-after_8:;
-  v11 = load8(p6 + 59);
-  v13 = 0;
-  store32(frame + 273, 0);
-  store8(frame + 272, (uint8_t)v15);
-  store64(frame + 264, v8);
-  store64(frame + 256, p4);
-  store64(frame + 248, v12);
-  store32(frame + 276, 0);
-  t0 = der_view_walk_follows(p1, p2, p3, frame + 248, v11, v18 + 1, v17);
-  v14 = t0;
-  v11 = v14 ? v11 : 0u;
-  v10 = v14;
-  goto after_5;
-after_4:;
-  v14 = 1;
-  if (load8(p6 + 24) != 1u)
-    goto after_9;
-  v11 = 0;
-  if (load8(p6 + 1) != 1u)
-    goto after_6;
-  if ((((uint32_t)((v16 & 0xffu) == 9u) | v13) & 1u) == 0u)
-    goto after_6;
-after_9:;
-  v11 = 84;
-  goto after_5;
-after_7:;
-  v11 = 0;
-  v13 = 0;
-  goto after_5;
-after_6:;
-  v14 = 0;
-  v13 = 0;
-after_5:;
-  if (p5 & 1u)
-    goto after_10;
-  store64(frame + 280, load64(p6 + 32));
-  store64(frame + 272, load64(p6 + 24));
-  store64(frame + 264, load64(p6 + 16));
-  store64(frame + 256, load64(p6 + 8));
-  store64(frame + 248, load64(p6));
-  v18 = load64(p6 + 96);
-  der_view_content_shown_len(load8(p2 + 1), frame + 248, load8(p6 + 58), load8(p6 + 59),
-      load64(p6 + 88), v18);
-  if (v9 < 2)
-    goto after_11;
-  v17 = load64(p1 + 8);
-  v16 = load8(p1);
-  goto after_12;
-after_11:;
-  v17 = 0;
-  v16 = 5;
-  if (load64(p6 + 48) == 0)
-    goto after_12;
-  v19 = load8(frame + 272);
-  v20 = load8(load64(p6 + 40));
-  if (v20 != 48u)
-    goto after_13;
-  if (v9 != 0)
-    goto after_13;
-  v17 = load64(p1 + 8);
-  v16 = load8(p1);
-  goto after_12;
-after_13:;
-  if (v9 != 1)
-    goto after_12;
-  v9 = (v19 == 1u) ? v18 : 0ull;
-  switch ((uint32_t)(uint64_t)load8(p1)) {
-  case 1:
-    goto after_14;
-  case 2:
-    goto after_15;
-  case 3:
-    goto after_16;
-  case 4: case 5:
-    goto after_17;
-  default:
-    goto after_18;
-  }
-after_18:;
-  if (v9 != 1)
-    goto after_17;
-  if (v20 != 2u)
-    goto after_17;
-  v16 = 1;
-  goto after_12;
-after_14:;
-  if (v20 > 31u)
-    goto after_17;
-  if (v20 == 4u)
-    goto after_17;
-  v16 = 2;
-  v17 = v9;
-  goto after_12;
-after_15:;
-  v16 = 3;
-  switch (v20 + 0xffffff60u) {
-  case 1:
-    goto after_19;
-  case 0:
-    goto after_12;
-  default:
-    goto after_17;
-  }
-after_19:;
-  v16 = 4;
-  goto after_12;
-after_16:;
-  if (v20 != 161u)
-    goto after_17;
-  v16 = 4;
-  goto after_12;
-after_17:;
-  v16 = 5;
-after_12:;
-  store64(p1 + 8, v17);
-  store64(p1, (uint64_t)v16 & 0xff);
-after_10:;
-  if (v14 == 0u)
-    goto after_20;
-  v14 = load8(p6 + 24);
-  der_view_grammar_Structure_components(frame + 8, v11);
-  store8(frame + 137, (uint8_t)p5);
-  v14 = (uint32_t)(v14 != 1u);
-  store8(frame + 136, (uint8_t)v14);
-  store8(frame + 112, (uint8_t)v13);
-  store64(frame + 56, v10 + v12);
-  store64(frame + 64, p4);
-  store64(frame + 72, v8);
-  store8(frame + 80, (uint8_t)v15);
-  store64(frame + 152, load64(frame + 16));
-  store64(frame + 144, load64(frame + 8));
-  store8(frame + 113, (uint8_t)(uint32_t)load8(p2 + 1));
-  store64(frame + 120, load64(p2 + 8));
-  store64(frame + 128, load64(p2 + 16));
-  store64(frame + 168, load64(p6 + 96) - v10);
-  store64(frame + 160, load64(p6 + 88) + v10);
-  store32(frame + 84, load32(frame + 179));
-  store32(frame + 81, load32(frame + 176));
-  der_view_walk_walk(frame + 88, p1, frame + 112, p3, frame + 56, frame + 136);
-  if (load8(frame + 88) != 1u)
-    goto after_21;
-  if (v14 == 0u)
-    goto after_22;
-  store64(frame + 48, load64(frame + 104));
-  store64(frame + 40, load64(frame + 96));
-  goto after_23;
-after_20:;
   p4 = load64(p6 + 112);
   p6 = load64(p6 + 104);
   store64(p0, 1);
   store64(p0 + 8, p6);
   store64(p0 + 16, p4);
-  store64(frame + 192, p4);
-  store64(frame + 184, p6);
-  goto after_24;
-after_21:;
+  store64(frame + 264, p4);
+  store64(frame + 256, p6);
+  goto after_5;
+after_2:;
   store64(p0 + 16, 0);
   store64(p0 + 8, 0);
   store64(p0, 0);
-  goto after_24;
-after_22:;
-  store64(frame + 48, load64(p6 + 112));
-  store64(frame + 40, load64(p6 + 104));
-after_23:;
+  goto after_5;
+after_3:;
+  store64(frame + 24, load64(p6 + 112));
+  store64(frame + 16, load64(p6 + 104));
+after_4:;
   store64(p0, 1);
-  store64(p0 + 8, load64(frame + 40));
-  store64(p0 + 16, load64(frame + 48));
-after_24:;
+  store64(p0 + 8, load64(frame + 16));
+  store64(p0 + 16, load64(frame + 24));
+  goto after_5;
+after_5:;
 }
 
 /* der_view::walk::draw_step::<#2357e196ed33dafc> */
 static void der_view_walk_draw_step_4(uint64_t p0, uint64_t p1, uint64_t p2, uint64_t p3,
-    uint64_t p4, uint32_t p5, uint64_t p6)
+    uint64_t p4, uint64_t p5, uint64_t p6)
 {
-  FRAME(320)
-  uint32_t v11 = 0, v13 = 0, v14 = 0, v15 = 0, v16 = 0, t0;
-  uint64_t v8 = 0, v9 = 0, v10 = 0, v12 = 0, v17 = 0, v18 = 0, t2;
-  v8 = load64(p4 + 16);
-  v9 = load64(p4 + 8);
-  v10 = 0;
+  FRAME(272)
+  uint32_t v8 = 0, v12 = 0, v14 = 0, v15 = 0, v16 = 0;
+  uint64_t v9 = 0, v10 = 0, v11 = 0, v13 = 0;
+  store32(frame + 248, load32(p4 + 25));
+  store32(frame + 251, load32(p4 + 28));
+  v8 = load8(p4 + 24);
+  v9 = load64(p4 + 16);
+  v10 = load64(p4 + 8);
+  p4 = load64(p4);
+  store64(frame + 264, 0);
+  store64(frame + 256, 0);
+  store64(frame + 208, 0);
+  store64(frame + 216, 0);
+  store64(frame + 224, 0);
+  store64(frame + 232, 0);
+  store64(frame + 240, 0);
   store64(frame + 184, 0);
   store64(frame + 192, 0);
-  v11 = 0;
-  store32(frame + 176, 0);
-  store32(frame + 179, 0);
-  store64(frame + 136, 0);
-  store64(frame + 144, 0);
+  store64(frame + 200, 0);
   store64(frame + 152, 0);
   store64(frame + 160, 0);
   store64(frame + 168, 0);
-  store64(frame + 112, 0);
-  store64(frame + 120, 0);
-  store64(frame + 128, 0);
-  store64(frame + 88, 0);
-  store64(frame + 96, 0);
-  store64(frame + 104, 0);
-  v12 = load64(p4);
-  v13 = load8(p4 + 24);
-  store64(frame + 80, 0);
-  store64(frame + 72, 0);
+  store64(frame + 176, 0);
   store64(frame + 64, 0);
+  store64(frame + 72, 0);
+  store64(frame + 80, 0);
   store64(frame + 56, 0);
-  store64(frame + 40, 0);
   store64(frame + 48, 0);
-  p4 = v9 + 1;
-  v14 = 1;
-  v15 = v13 & 1u;
-  v12 = v12 + load64(p6 + 16);
-  v13 = load8(p2);
-  v16 = load8(p6 + 58);
-  switch ((uint32_t)((uint64_t)v16 & 0xff)) {
-  case 6:
+  store64(frame + 40, 0);
+  store64(frame + 32, 0);
+  store64(frame + 16, 0);
+  store64(frame + 24, 0);
+  v11 = v10 + 1;
+  store64(frame + 128, v11);
+  store64(frame + 136, v9);
+  v12 = v8 & 1u;
+  store8(frame + 144, (uint8_t)v12);
+  store32(frame + 145, 0);
+  store32(frame + 148, 0);
+  v13 = p4 + load64(p6 + 16);
+  store64(frame + 120, v13);
+  der_view_walk_opened_of_4(frame + 152, p1, p2, p3, frame + 120, p6);
+  store8(frame + 112, (uint8_t)v8);
+  store64(frame + 104, v9);
+  store64(frame + 96, v10);
+  store64(frame + 88, p4);
+  store32(frame + 113, load32(frame + 248));
+  store32(frame + 116, load32(frame + 251));
+  v14 = load8(frame + 176);
+  p4 = load64(frame + 168);
+  v15 = load8(frame + 160);
+  v8 = load8(frame + 152);
+  der_view_walk_draw_element_4(p1, p2, frame + 88, p5, p6);
+  if (v8 != 1u)
     goto after_1;
-  case 7:
+  v8 = load8(p6 + 24);
+  v16 = load8(p5 + 1);
+  der_view_grammar_Structure_components(frame, v15);
+  store8(frame + 209, (uint8_t)v16);
+  store8(frame + 208, (uint8_t)(uint32_t)(v8 != 1u));
+  store8(frame + 184, (uint8_t)v14);
+  store64(frame + 32, p4 + v13);
+  store64(frame + 40, v11);
+  store64(frame + 48, v9);
+  store8(frame + 56, (uint8_t)v12);
+  store64(frame + 224, load64(frame + 8));
+  store64(frame + 216, load64(frame));
+  store8(frame + 185, (uint8_t)(uint32_t)load8(p2 + 1));
+  store64(frame + 192, load64(p2 + 8));
+  store64(frame + 200, load64(p2 + 16));
+  store64(frame + 240, load64(p6 + 96) - p4);
+  store64(frame + 232, load64(p6 + 88) + p4);
+  store32(frame + 60, 0);
+  store32(frame + 57, 0);
+  der_view_walk_walk_4(frame + 64, p1, frame + 184, p3, frame + 32, frame + 208);
+  if (load8(frame + 64) != 1u)
     goto after_2;
-  case 8:
+  if (v8 == 1u)
     goto after_3;
-  default:
-    goto after_4;
-  }
+  store64(frame + 24, load64(frame + 80));
+  store64(frame + 16, load64(frame + 72));
+  goto after_4;
 after_1:;
-  v11 = load8(p6 + 59);
-  goto after_5;
-after_2:;
-  v17 = load64(p6 + 88);
-  v18 = load64(p6 + 96);
-  v11 = load8(p6 + 59);
-  v13 = 0;
-  store32(frame + 313, 0);
-  store8(frame + 312, (uint8_t)v15);
-  store64(frame + 304, v8);
-  store64(frame + 296, p4);
-  store64(frame + 288, v12);
-  store32(frame + 316, 0);
-  v10 = 0;
-  store64(frame + 248, 0);
-  store64(frame + 224, 0);
-  store64(frame + 200, 0);
-  store64(frame + 208, 0);
-  store64(frame + 216, 0);
-  der_view_grammar_Structure_components(frame + 24, v11);
-  store64(frame + 280, v18);
-  store64(frame + 272, v17);
-  store16(frame + 248, 256);
-  store8(frame + 224, 0);
-  store64(frame + 264, load64(frame + 32));
-  store64(frame + 256, load64(frame + 24));
-  store64(frame + 232, load64(p2 + 8));
-  store64(frame + 240, load64(p2 + 16));
-  store8(frame + 225, (uint8_t)(uint32_t)load8(p2 + 1));
-  der_view_walk_walk_4(frame + 200, p1, frame + 224, p3, frame + 288, frame + 248);
-  v14 = (uint32_t)(load8(frame + 200) == 1u);
-  v11 = v14 ? v11 : 0u;
-  goto after_5;
-after_3:;
-  v17 = load64(p6 + 96);
-  if (v17 == 0)
-    goto after_6;
-  v14 = 0;
-  v18 = load64(p6 + 88);
-  if (load8(v18))
-    goto after_7;
-  v17 = v17 + 0xffffffffffffffff;
-  if (v17 != 0)
-    goto after_8;
-  v14 = 0;
-  goto after_7;
-after_8:;
-  v11 = load8(p6 + 59);
-  v13 = 0;
-  store32(frame + 273, 0);
-  store8(frame + 272, (uint8_t)v15);
-  store64(frame + 264, v8);
-  store64(frame + 256, p4);
-  store64(frame + 248, v12);
-  store32(frame + 276, 0);
-  t0 = der_view_walk_follows_4(p1, p2, p3, frame + 248, v11, v18 + 1, v17);
-  v14 = t0;
-  v11 = v14 ? v11 : 0u;
-  v10 = v14;
-  goto after_5;
-after_4:;
-  v14 = 1;
-  if (load8(p6 + 24) != 1u)
-    goto after_9;
-  v11 = 0;
-  if (load8(p6 + 1) != 1u)
-    goto after_6;
-  if ((((uint32_t)((v16 & 0xffu) == 9u) | v13) & 1u) == 0u)
-    goto after_6;
-after_9:;
-  v11 = 84;
-  goto after_5;
-after_7:;
-  v11 = 0;
-  v13 = 0;
-  goto after_5;
-after_6:;
-  v14 = 0;
-  v13 = 0;
-after_5:;
-  if (p5 & 1u)
-    goto after_10;
-  store64(frame + 280, load64(p6 + 32));
-  store64(frame + 272, load64(p6 + 24));
-  store64(frame + 264, load64(p6 + 16));
-  store64(frame + 256, load64(p6 + 8));
-  store64(frame + 248, load64(p6));
-  der_view_content_shown_len(load8(p2 + 1), frame + 248, load8(p6 + 58), load8(p6 + 59),
-      load64(p6 + 88), load64(p6 + 96));
-  if (v9 != 1)
-    goto after_10;
-  v9 = p1 + 8;
-  t2 = v9;
-  v9 = load64(v9) + 1;
-  store64(t2, (v9 == 0) ? 0xffffffffffffffffull : v9);
-after_10:;
-  if (v14 == 0u)
-    goto after_11;
-  v14 = load8(p6 + 24);
-  der_view_grammar_Structure_components(frame + 8, v11);
-  store8(frame + 137, (uint8_t)p5);
-  v14 = (uint32_t)(v14 != 1u);
-  store8(frame + 136, (uint8_t)v14);
-  store8(frame + 112, (uint8_t)v13);
-  store64(frame + 56, v10 + v12);
-  store64(frame + 64, p4);
-  store64(frame + 72, v8);
-  store8(frame + 80, (uint8_t)v15);
-  store64(frame + 152, load64(frame + 16));
-  store64(frame + 144, load64(frame + 8));
-  store8(frame + 113, (uint8_t)(uint32_t)load8(p2 + 1));
-  store64(frame + 120, load64(p2 + 8));
-  store64(frame + 128, load64(p2 + 16));
-  store64(frame + 168, load64(p6 + 96) - v10);
-  store64(frame + 160, load64(p6 + 88) + v10);
-  store32(frame + 84, load32(frame + 179));
-  store32(frame + 81, load32(frame + 176));
-  der_view_walk_walk_4(frame + 88, p1, frame + 112, p3, frame + 56, frame + 136);
-  if (load8(frame + 88) != 1u)
-    goto after_12;
-  if (v14 == 0u)
-    goto after_13;
-  store64(frame + 48, load64(frame + 104));
-  store64(frame + 40, load64(frame + 96));
-  goto after_14;
-after_11:;
   p4 = load64(p6 + 112);
   p6 = load64(p6 + 104);
   store64(p0, 1);
   store64(p0 + 8, p6);
   store64(p0 + 16, p4);
-  store64(frame + 192, p4);
-  store64(frame + 184, p6);
-  goto after_15;
-after_12:;
+  store64(frame + 264, p4);
+  store64(frame + 256, p6);
+  goto after_5;
+after_2:;
   store64(p0 + 16, 0);
   store64(p0 + 8, 0);
   store64(p0, 0);
-  goto after_15;
-after_13:;
-  store64(frame + 48, load64(p6 + 112));
-  store64(frame + 40, load64(p6 + 104));
-after_14:;
+  goto after_5;
+after_3:;
+  store64(frame + 24, load64(p6 + 112));
+  store64(frame + 16, load64(p6 + 104));
+after_4:;
   store64(p0, 1);
-  store64(p0 + 8, load64(frame + 40));
-  store64(p0 + 16, load64(frame + 48));
-after_15:;
+  store64(p0 + 8, load64(frame + 16));
+  store64(p0 + 16, load64(frame + 24));
+  goto after_5;
+after_5:;
 }
 
 /* der_view::header::Header::read */
@@ -8128,36 +7935,205 @@ after_6:;
   return p5;
 }
 
+/* der_view::walk::opened_of::<#2357e196ed33dafc> */
+static void der_view_walk_opened_of_4(uint64_t p0, uint64_t p1, uint64_t p2, uint64_t p3,
+    uint64_t p4, uint64_t p5)
+{
+  FRAME(192)
+  uint32_t v7 = 0, v8 = 0, v9 = 0, v14 = 0, t0;
+  uint64_t v10 = 0, v11 = 0, v12 = 0, v13 = 0;
+  v7 = 0;
+  store32(frame + 59, 0);
+  store32(frame + 56, 0);
+  v8 = load8(p2);
+  v9 = load8(p5 + 58);
+  switch ((uint32_t)((uint64_t)v9 & 0xff)) {
+  case 6:
+    goto after_1;
+  case 7:
+    goto after_2;
+  case 8:
+    goto after_3;
+  default:
+    goto after_4;
+  }
+after_1:;
+  store32(frame + 64, 0);
+  store32(frame + 67, 0);
+  v10 = load8(p5 + 59);
+  p5 = 0;
+  v11 = 1;
+  v7 = v8;
+  goto after_5;
+after_2:;
+  v11 = load64(p5 + 88);
+  v10 = load64(p5 + 96);
+  v8 = load8(p5 + 59);
+  p5 = 0;
+  store64(frame + 120, 0);
+  store64(frame + 96, 0);
+  store64(frame + 72, 0);
+  store64(frame + 80, 0);
+  store64(frame + 88, 0);
+  store64(frame + 160, load64(p4));
+  store64(frame + 168, load64(p4 + 8));
+  store64(frame + 176, load64(p4 + 16));
+  store64(frame + 184, load64(p4 + 24));
+  der_view_grammar_Structure_components(frame + 8, v8);
+  store64(frame + 152, v10);
+  store64(frame + 144, v11);
+  store16(frame + 120, 256);
+  store8(frame + 96, 0);
+  store64(frame + 136, load64(frame + 16));
+  store64(frame + 128, load64(frame + 8));
+  store64(frame + 104, load64(p2 + 8));
+  store64(frame + 112, load64(p2 + 16));
+  store8(frame + 97, (uint8_t)(uint32_t)load8(p2 + 1));
+  der_view_walk_walk_4(frame + 72, p1, frame + 96, p3, frame + 160, frame + 120);
+  v9 = load8(frame + 72);
+  store32(frame + 123, 0);
+  store32(frame + 120, 0);
+  store32(frame + 64, load32(frame + 120));
+  store32(frame + 67, load32(frame + 123));
+  v9 = (uint32_t)(v9 == 1u);
+  v10 = (uint64_t)(v9 ? v8 : 0u) & 0xff;
+  v11 = v9;
+  goto after_5;
+after_3:;
+  v10 = 0;
+  v12 = load64(p5 + 96);
+  if (v12 != 0)
+    goto after_6;
+  v11 = 0;
+  goto after_7;
+after_6:;
+  v13 = load64(p5 + 88);
+  if (load8(v13) == 0u)
+    goto after_8;
+  v11 = 0;
+  goto after_7;
+after_8:;
+  v11 = 0;
+  v12 = v12 + 0xffffffffffffffff;
+  if (v12 == 0)
+    goto after_7;
+  v7 = load8(p5 + 59);
+  store64(frame + 48, load64(p4 + 24));
+  store64(frame + 40, load64(p4 + 16));
+  store64(frame + 32, load64(p4 + 8));
+  store64(frame + 24, load64(p4));
+  t0 = der_view_walk_follows_4(p1, p2, p3, frame + 24, v7, v13 + 1, v12);
+  v8 = t0;
+  store32(frame + 123, 0);
+  store32(frame + 120, 0);
+  store32(frame + 56, load32(frame + 120));
+  store32(frame + 59, load32(frame + 123));
+  v10 = v8 ? ((uint64_t)v7 & 0xff) : 0ull;
+  v11 = v8;
+after_7:;
+  store32(frame + 67, load32(frame + 59));
+  store32(frame + 64, load32(frame + 56));
+  v7 = 0;
+  p5 = v11;
+  goto after_5;
+after_4:;
+  if (load8(p5 + 24) != 1u)
+    goto after_9;
+  v14 = load8(p5 + 1);
+  v7 = 0;
+  store32(frame + 123, 0);
+  store32(frame + 120, 0);
+  v10 = 0;
+  if (v14 == 1u)
+    goto after_10;
+  v11 = 0;
+  goto after_11;
+after_10:;
+  v11 = 0;
+  if ((((uint32_t)((v9 & 0xffu) == 9u) | v8) & 1u) == 0u)
+    goto after_11;
+after_9:;
+  store32(frame + 123, 0);
+  store32(frame + 120, 0);
+  v11 = 1;
+  v10 = 84;
+  v7 = v8;
+after_11:;
+  store32(frame + 67, load32(frame + 123));
+  store32(frame + 64, load32(frame + 120));
+  p5 = 0;
+after_5:;
+  store64(p0, v11);
+  store8(p0 + 24, (uint8_t)v7);
+  store64(p0 + 16, p5);
+  store64(p0 + 8, v10);
+  store32(p0 + 25, load32(frame + 64));
+  store32(p0 + 28, load32(frame + 67));
+  return;
+}
+
+/* der_view::walk::draw_element::<#2357e196ed33dafc> */
+static void der_view_walk_draw_element_4(uint64_t p0, uint64_t p1, uint64_t p2, uint64_t p3,
+    uint64_t p4)
+{
+  FRAME(48)
+  uint64_t t1;
+  if (load8(p3 + 1) == 1u)
+    goto after_1;
+  p3 = load64(p2 + 8);
+  store64(frame + 40, load64(p4 + 32));
+  store64(frame + 32, load64(p4 + 24));
+  store64(frame + 24, load64(p4 + 16));
+  store64(frame + 16, load64(p4 + 8));
+  store64(frame + 8, load64(p4));
+  der_view_content_shown_len(load8(p1 + 1), frame + 8, load8(p4 + 58), load8(p4 + 59),
+      load64(p4 + 88), load64(p4 + 96));
+  if (p3 != 1)
+    goto after_1;
+  p4 = p0 + 8;
+  t1 = p4;
+  p4 = load64(p4) + 1;
+  store64(t1, (p4 == 0) ? 0xffffffffffffffffull : p4);
+after_1:;
+  return;
+}
+
 /* der_view::walk::walk::<#2357e196ed33dafc> */
 static void der_view_walk_walk_4(uint64_t p0, uint64_t p1, uint64_t p2, uint64_t p3,
     uint64_t p4, uint64_t p5)
 {
-  FRAME(304)
-  uint32_t v7 = 0, v8 = 0, v9 = 0, v10 = 0, v17 = 0, v19 = 0;
-  uint64_t v11 = 0, v12 = 0, v13 = 0, v14 = 0, v15 = 0, v16 = 0, v18 = 0;
+  FRAME(464)
+  uint32_t v7 = 0, v8 = 0, v14 = 0, v18 = 0, v20 = 0;
+  uint64_t v9 = 0, v10 = 0, v11 = 0, v12 = 0, v13 = 0, v15 = 0, v16 = 0, v17 = 0, v19 = 0;
+  fill(frame + 144, 0, 120);
   store64(frame + 16, 0);
   store64(frame + 8, 0);
   store64(frame, 0);
-  store64(frame + 144, load64(p4));
-  store64(frame + 152, load64(p4 + 8));
-  store64(frame + 160, load64(p4 + 16));
-  store64(frame + 168, load64(p4 + 24));
-  v7 = load8(p5 + 1);
+  store64(frame + 304, load64(p4));
+  store64(frame + 312, load64(p4 + 8));
+  store64(frame + 320, load64(p4 + 16));
+  store64(frame + 328, load64(p4 + 24));
+  store64(frame + 264, load64(p5));
+  store64(frame + 272, load64(p5 + 8));
+  store64(frame + 280, load64(p5 + 16));
+  store64(frame + 288, load64(p5 + 24));
+  store64(frame + 296, load64(p5 + 32));
   if (p3 == 0)
     goto after_1;
-  v8 = load8(p5);
-  v9 = v8 ^ 1u;
-  v10 = v8 & 1u;
-  v11 = load64(p5 + 8);
-  v12 = load64(p5 + 24);
-  p4 = load64(p5 + 32);
-  v13 = load64(p5 + 16);
-  if (load64(frame + 152) > 63)
+  v7 = load8(frame + 264);
+  v8 = v7 ^ 1u;
+  p4 = load64(frame + 296);
+  if (load64(frame + 312) > 63)
     goto after_2;
-  v14 = frame + 184;
-  v15 = load64(frame + 144);
+  v9 = frame + 208;
+  v10 = (frame + 336) + 8;
+  v11 = (frame + 264) + 8;
+  v12 = load64(frame + 288);
+  v13 = load64(frame + 304);
 again_13:;
-  v8 = load8(p2);
+  v14 = load8(p2);
+  v15 = load64(frame + 280);
+  v16 = load64(frame + 272);
   if (p4 > 1)
     goto after_3;
   switch ((uint32_t)p4) {
@@ -8167,74 +8143,77 @@ again_13:;
     goto after_5;
   }
 after_5:;
-  if (((v8 | v10) & 0xffu) == 0u)
+  if (((v7 | v14) & 0xffu) == 0u)
     goto after_6;
-  v16 = 0;
-  v17 = v8;
+  v17 = 0;
+  v18 = v14;
   goto after_7;
 after_6:;
-  v16 = 0;
-  if (v13 != 0)
+  v17 = 0;
+  if (v15 != 0)
     goto after_8;
   p4 = 0;
   goto after_9;
 after_8:;
-  p5 = v11 + 1;
-  v18 = v13;
+  p5 = v16 + 1;
+  v19 = v15;
 again_10:;
   if (load8(p5) == 0u)
     goto after_4;
   p5 = p5 + 5;
-  v18 = v18 + 0xffffffffffffffff;
-  if (v18 != 0)
+  v19 = v19 + 0xffffffffffffffff;
+  if (v19 != 0)
     goto again_10;
   p4 = 0;
   goto after_9;
 after_3:;
   if (load8(v12))
     goto after_4;
-  v17 = (uint32_t)(load8(v12 + 1) != 0u) | v9;
-  v19 = v17 & 1u;
-  v16 = v19 ? 0ull : 2ull;
-  v17 = v17 ^ 1u;
-  if (v19)
+  v18 = (uint32_t)(load8(v12 + 1) != 0u) | v8;
+  v20 = v18 & 1u;
+  v17 = v20 ? 0ull : 2ull;
+  v18 = v18 ^ 1u;
+  if (v20)
     goto after_7;
-  if (v8 & 1u)
+  if (v14 & 1u)
     goto after_7;
-  v16 = 2;
-  if (v13 == 0)
+  v17 = 2;
+  if (v15 == 0)
     goto after_9;
-  p5 = v11 + 1;
-  v18 = v13;
+  p5 = v16 + 1;
+  v19 = v15;
 again_11:;
   if (load8(p5) == 0u)
     goto after_4;
   p5 = p5 + 5;
-  v18 = v18 + 0xffffffffffffffff;
-  if (v18 != 0)
+  v19 = v19 + 0xffffffffffffffff;
+  if (v19 != 0)
     goto again_11;
   goto after_9;
 after_7:;
-  if (v17 & 1u)
+  if (v18 & 1u)
     goto after_9;
 after_4:;
-  fill(frame + 176, 0, 128);
-  v8 = v8 & 1u;
-  der_view_step_step_by(frame + 176, v8, v8, v11, v13, v12, p4);
-  v8 = load8(frame + 176);
-  move(frame + 24, v14, 120);
-  if (v8 != 1u)
+  fill(frame + 336, 0, 128);
+  v14 = v14 & 1u;
+  der_view_step_step_by(frame + 336, v14, v14, v16, v15, v12, p4);
+  v14 = load8(frame + 336);
+  move(frame + 24, v10, 120);
+  if (v14 != 1u)
     goto after_1;
-  v13 = load64(frame + 96);
-  v11 = load64(frame + 88);
+  move(frame + 144, frame + 24, 120);
   p3 = p3 + 0xffffffffffffffff;
-  der_view_walk_draw_step_4(frame, p1, p2, p3, frame + 144, v7, frame + 24);
+  der_view_walk_draw_step_4(frame, p1, p2, p3, frame + 304, frame + 264, frame + 144);
   if (load8(frame) != 1u)
     goto after_12;
+  store64(v11, load64(v9));
+  store64(v11 + 8, load64(v9 + 8));
   p5 = load64(frame + 16);
-  v15 = (p4 - p5) + v15;
-  store64(frame + 144, v15);
+  store64(frame + 296, p5);
   v12 = load64(frame + 8);
+  store64(frame + 288, v12);
+  v13 = (p4 - p5) + v13;
+  store64(frame + 304, v13);
   p4 = p5;
   if (p3 != 0)
     goto again_13;
@@ -8245,7 +8224,10 @@ after_12:;
   store64(p0, 0);
   goto after_14;
 after_2:;
-  v8 = load8(p2);
+  v14 = load8(p2);
+  v12 = load64(frame + 288);
+  p5 = load64(frame + 280);
+  v19 = load64(frame + 272);
   if (p4 > 1)
     goto after_15;
   switch ((uint32_t)p4) {
@@ -8255,69 +8237,65 @@ after_2:;
     goto after_16;
   }
 after_16:;
-  if (((v8 | v10) & 0xffu) == 0u)
+  if (((v7 | v14) & 0xffu) == 0u)
     goto after_17;
-  v16 = 0;
-  v10 = v8;
+  v17 = 0;
+  v7 = v14;
   goto after_18;
 after_17:;
   p4 = 0;
-  if (v13 != 0)
+  if (p5 != 0)
     goto after_19;
-  v16 = 0;
+  v17 = 0;
   goto after_9;
 after_19:;
-  p5 = v11 + 1;
+  v19 = v19 + 1;
 again_20:;
-  if (load8(p5) == 0u)
+  if (load8(v19) == 0u)
     goto after_1;
-  p5 = p5 + 5;
-  v13 = v13 + 0xffffffffffffffff;
-  if (v13 != 0)
+  v19 = v19 + 5;
+  p5 = p5 + 0xffffffffffffffff;
+  if (p5 != 0)
     goto again_20;
-  v16 = 0;
+  v17 = 0;
   goto after_9;
 after_15:;
   if (load8(v12))
     goto after_1;
-  v10 = (uint32_t)(load8(v12 + 1) != 0u) | v9;
-  v17 = v10 & 1u;
-  v16 = v17 ? 0ull : 2ull;
-  v10 = v10 ^ 1u;
-  if (v17)
+  v7 = (uint32_t)(load8(v12 + 1) != 0u) | v8;
+  v18 = v7 & 1u;
+  v17 = v18 ? 0ull : 2ull;
+  v7 = v7 ^ 1u;
+  if (v18)
     goto after_18;
-  if (v8 & 1u)
+  if (v14 & 1u)
     goto after_18;
-  v16 = 2;
-  if (v13 == 0)
+  v17 = 2;
+  if (p5 == 0)
     goto after_9;
-  p5 = v11 + 1;
+  v19 = v19 + 1;
 again_21:;
-  if (load8(p5) == 0u)
+  if (load8(v19) == 0u)
     goto after_1;
-  p5 = p5 + 5;
-  v13 = v13 + 0xffffffffffffffff;
-  if (v13 != 0)
+  v19 = v19 + 5;
+  p5 = p5 + 0xffffffffffffffff;
+  if (p5 != 0)
     goto again_21;
   goto after_9;
 after_18:;
-  if (v10 & 1u)
+  if (v7 & 1u)
     goto after_9;
 after_1:;
-  if (v7 & 1u)
-    goto after_22;
-  p5 = load64(frame + 160) - load64(frame + 144);
-  p4 = p5 + load64(p1);
-  store64(p1, (p4 < p5) ? 0xffffffffffffffffull : p4);
-after_22:;
+  der_view_walk_draw_left_4(p1, frame + 304, load8(frame + 265));
   store64(p0 + 16, 0);
   store64(p0 + 8, 0);
   store64(p0, 0);
   goto after_14;
 after_9:;
+  der_view_walk_draw_end_4();
   store64(p0, 1);
-  store64(p0 + 16, p4 - v16);
-  store64(p0 + 8, v12 + v16);
+  store64(p0 + 16, p4 - v17);
+  store64(p0 + 8, v12 + v17);
 after_14:;
 }
 
@@ -8350,114 +8328,373 @@ static uint32_t der_view_walk_follows_4(uint64_t p0, uint64_t p1, uint64_t p2, u
   return (uint32_t)(p4 == 1u);
 }
 
+/* der_view::walk::draw_left::<#2357e196ed33dafc> */
+static void der_view_walk_draw_left_4(uint64_t p0, uint64_t p1, uint32_t p2)
+{
+  uint64_t v3 = 0;
+  if (p2 & 1u)
+    goto after_1;
+  p1 = load64(p1 + 16) - load64(p1);
+  v3 = p1 + load64(p0);
+  store64(p0, (v3 < p1) ? 0xffffffffffffffffull : v3);
+after_1:;
+  return;
+}
+
+/* der_view::walk::draw_end::<#2357e196ed33dafc> */
+static void der_view_walk_draw_end_4(void)
+{
+  return;
+}
+
+/* der_view::walk::opened_of::<#ba02b8222ab7e3d1> */
+static void der_view_walk_opened_of(uint64_t p0, uint64_t p1, uint64_t p2, uint64_t p3,
+    uint64_t p4, uint64_t p5)
+{
+  FRAME(192)
+  uint32_t v7 = 0, v8 = 0, v9 = 0, v14 = 0, t0;
+  uint64_t v10 = 0, v11 = 0, v12 = 0, v13 = 0;
+  v7 = 0;
+  store32(frame + 59, 0);
+  store32(frame + 56, 0);
+  v8 = load8(p2);
+  v9 = load8(p5 + 58);
+  switch ((uint32_t)((uint64_t)v9 & 0xff)) {
+  case 6:
+    goto after_1;
+  case 7:
+    goto after_2;
+  case 8:
+    goto after_3;
+  default:
+    goto after_4;
+  }
+after_1:;
+  store32(frame + 64, 0);
+  store32(frame + 67, 0);
+  v10 = load8(p5 + 59);
+  p5 = 0;
+  v11 = 1;
+  v7 = v8;
+  goto after_5;
+after_2:;
+  v11 = load64(p5 + 88);
+  v10 = load64(p5 + 96);
+  v8 = load8(p5 + 59);
+  p5 = 0;
+  store64(frame + 120, 0);
+  store64(frame + 96, 0);
+  store64(frame + 72, 0);
+  store64(frame + 80, 0);
+  store64(frame + 88, 0);
+  store64(frame + 160, load64(p4));
+  store64(frame + 168, load64(p4 + 8));
+  store64(frame + 176, load64(p4 + 16));
+  store64(frame + 184, load64(p4 + 24));
+  der_view_grammar_Structure_components(frame + 8, v8);
+  store64(frame + 152, v10);
+  store64(frame + 144, v11);
+  store16(frame + 120, 256);
+  store8(frame + 96, 0);
+  store64(frame + 136, load64(frame + 16));
+  store64(frame + 128, load64(frame + 8));
+  store64(frame + 104, load64(p2 + 8));
+  store64(frame + 112, load64(p2 + 16));
+  store8(frame + 97, (uint8_t)(uint32_t)load8(p2 + 1));
+  der_view_walk_walk(frame + 72, p1, frame + 96, p3, frame + 160, frame + 120);
+  v9 = load8(frame + 72);
+  store32(frame + 123, 0);
+  store32(frame + 120, 0);
+  store32(frame + 64, load32(frame + 120));
+  store32(frame + 67, load32(frame + 123));
+  v9 = (uint32_t)(v9 == 1u);
+  v10 = (uint64_t)(v9 ? v8 : 0u) & 0xff;
+  v11 = v9;
+  goto after_5;
+after_3:;
+  v10 = 0;
+  v12 = load64(p5 + 96);
+  if (v12 != 0)
+    goto after_6;
+  v11 = 0;
+  goto after_7;
+after_6:;
+  v13 = load64(p5 + 88);
+  if (load8(v13) == 0u)
+    goto after_8;
+  v11 = 0;
+  goto after_7;
+after_8:;
+  v11 = 0;
+  v12 = v12 + 0xffffffffffffffff;
+  if (v12 == 0)
+    goto after_7;
+  v7 = load8(p5 + 59);
+  store64(frame + 48, load64(p4 + 24));
+  store64(frame + 40, load64(p4 + 16));
+  store64(frame + 32, load64(p4 + 8));
+  store64(frame + 24, load64(p4));
+  t0 = der_view_walk_follows(p1, p2, p3, frame + 24, v7, v13 + 1, v12);
+  v8 = t0;
+  store32(frame + 123, 0);
+  store32(frame + 120, 0);
+  store32(frame + 56, load32(frame + 120));
+  store32(frame + 59, load32(frame + 123));
+  v10 = v8 ? ((uint64_t)v7 & 0xff) : 0ull;
+  v11 = v8;
+after_7:;
+  store32(frame + 67, load32(frame + 59));
+  store32(frame + 64, load32(frame + 56));
+  v7 = 0;
+  p5 = v11;
+  goto after_5;
+after_4:;
+  if (load8(p5 + 24) != 1u)
+    goto after_9;
+  v14 = load8(p5 + 1);
+  v7 = 0;
+  store32(frame + 123, 0);
+  store32(frame + 120, 0);
+  v10 = 0;
+  if (v14 == 1u)
+    goto after_10;
+  v11 = 0;
+  goto after_11;
+after_10:;
+  v11 = 0;
+  if ((((uint32_t)((v9 & 0xffu) == 9u) | v8) & 1u) == 0u)
+    goto after_11;
+after_9:;
+  store32(frame + 123, 0);
+  store32(frame + 120, 0);
+  v11 = 1;
+  v10 = 84;
+  v7 = v8;
+after_11:;
+  store32(frame + 67, load32(frame + 123));
+  store32(frame + 64, load32(frame + 120));
+  p5 = 0;
+after_5:;
+  store64(p0, v11);
+  store8(p0 + 24, (uint8_t)v7);
+  store64(p0 + 16, p5);
+  store64(p0 + 8, v10);
+  store32(p0 + 25, load32(frame + 64));
+  store32(p0 + 28, load32(frame + 67));
+  return;
+}
+
+/* der_view::walk::draw_element::<#ba02b8222ab7e3d1> */
+static void der_view_walk_draw_element(uint64_t p0, uint64_t p1, uint64_t p2, uint64_t p3,
+    uint64_t p4)
+{
+  FRAME(48)
+  uint32_t v6 = 0, v7 = 0, v8 = 0, t0;
+  if (load8(p3 + 1) == 1u)
+    goto after_1;
+  p3 = load64(p2 + 8);
+  store64(frame + 40, load64(p4 + 32));
+  store64(frame + 32, load64(p4 + 24));
+  store64(frame + 24, load64(p4 + 16));
+  store64(frame + 16, load64(p4 + 8));
+  store64(frame + 8, load64(p4));
+  t0 = load8(p1 + 1);
+  p1 = load64(p4 + 96);
+  der_view_content_shown_len(t0, frame + 8, load8(p4 + 58), load8(p4 + 59), load64(p4 + 88), p1);
+  if (p3 < 2)
+    goto after_2;
+  p2 = load64(p0 + 8);
+  v6 = load8(p0);
+  goto after_3;
+after_2:;
+  p2 = 0;
+  v6 = 5;
+  if (load64(p4 + 48) == 0)
+    goto after_3;
+  v7 = load8(frame + 32);
+  v8 = load8(load64(p4 + 40));
+  if (v8 != 48u)
+    goto after_4;
+  if (p3 != 0)
+    goto after_4;
+  p2 = load64(p0 + 8);
+  v6 = load8(p0);
+  goto after_3;
+after_4:;
+  if (p3 != 1)
+    goto after_3;
+  p4 = (v7 == 1u) ? p1 : 0ull;
+  switch ((uint32_t)(uint64_t)load8(p0)) {
+  case 1:
+    goto after_5;
+  case 2:
+    goto after_6;
+  case 3:
+    goto after_7;
+  case 4: case 5:
+    goto after_8;
+  default:
+    goto after_9;
+  }
+after_9:;
+  if (p4 != 1)
+    goto after_8;
+  if (v8 != 2u)
+    goto after_8;
+  v6 = 1;
+  goto after_3;
+after_5:;
+  if (v8 > 31u)
+    goto after_8;
+  if (v8 == 4u)
+    goto after_8;
+  v6 = 2;
+  p2 = p4;
+  goto after_3;
+after_6:;
+  v6 = 3;
+  switch (v8 + 0xffffff60u) {
+  case 1:
+    goto after_10;
+  case 0:
+    goto after_3;
+  default:
+    goto after_8;
+  }
+after_10:;
+  v6 = 4;
+  goto after_3;
+after_7:;
+  if (v8 != 161u)
+    goto after_8;
+  v6 = 4;
+  goto after_3;
+after_8:;
+  v6 = 5;
+after_3:;
+  store64(p0 + 8, p2);
+  store64(p0, (uint64_t)v6 & 0xff);
+after_1:;
+  return;
+}
+
 /* der_view::walk::walk::<#ba02b8222ab7e3d1> */
 static void der_view_walk_walk(uint64_t p0, uint64_t p1, uint64_t p2, uint64_t p3, uint64_t p4,
     uint64_t p5)
 {
-  FRAME(304)
-  uint32_t v7 = 0, v8 = 0, v9 = 0, v14 = 0, v18 = 0, v19 = 0;
-  uint64_t v10 = 0, v11 = 0, v12 = 0, v13 = 0, v15 = 0, v16 = 0, v17 = 0;
+  FRAME(464)
+  uint32_t v7 = 0, v8 = 0, v14 = 0, v18 = 0, v20 = 0;
+  uint64_t v9 = 0, v10 = 0, v11 = 0, v12 = 0, v13 = 0, v15 = 0, v16 = 0, v17 = 0, v19 = 0;
+  fill(frame + 144, 0, 120);
   store64(frame + 16, 0);
   store64(frame + 8, 0);
   store64(frame, 0);
-  store64(frame + 144, load64(p4));
-  store64(frame + 152, load64(p4 + 8));
-  store64(frame + 160, load64(p4 + 16));
-  store64(frame + 168, load64(p4 + 24));
+  store64(frame + 304, load64(p4));
+  store64(frame + 312, load64(p4 + 8));
+  store64(frame + 320, load64(p4 + 16));
+  store64(frame + 328, load64(p4 + 24));
+  store64(frame + 264, load64(p5));
+  store64(frame + 272, load64(p5 + 8));
+  store64(frame + 280, load64(p5 + 16));
+  store64(frame + 288, load64(p5 + 24));
+  store64(frame + 296, load64(p5 + 32));
   if (p3 == 0)
     goto after_1;
-  v7 = load8(p5);
+  v7 = load8(frame + 264);
   v8 = v7 ^ 1u;
-  v9 = v7 & 1u;
-  v10 = load64(p5 + 8);
-  v11 = load64(p5 + 24);
-  v12 = load64(p5 + 32);
-  v13 = load64(p5 + 16);
-  if (load64(frame + 152) > 63)
+  p4 = load64(frame + 296);
+  if (load64(frame + 312) > 63)
     goto after_2;
-  v14 = load8(p5 + 1);
-  v15 = frame + 184;
-  v16 = load64(frame + 144);
+  v9 = frame + 208;
+  v10 = (frame + 336) + 8;
+  v11 = (frame + 264) + 8;
+  v12 = load64(frame + 288);
+  v13 = load64(frame + 304);
 again_13:;
-  v7 = load8(p2);
-  if (v12 > 1)
+  v14 = load8(p2);
+  v15 = load64(frame + 280);
+  v16 = load64(frame + 272);
+  if (p4 > 1)
     goto after_3;
-  switch ((uint32_t)v12) {
+  switch ((uint32_t)p4) {
   case 1:
     goto after_4;
   default:
     goto after_5;
   }
 after_5:;
-  if (((v7 | v9) & 0xffu) == 0u)
+  if (((v7 | v14) & 0xffu) == 0u)
     goto after_6;
   v17 = 0;
-  v18 = v7;
+  v18 = v14;
   goto after_7;
 after_6:;
   v17 = 0;
-  if (v13 != 0)
+  if (v15 != 0)
     goto after_8;
-  v12 = 0;
+  p4 = 0;
   goto after_9;
 after_8:;
-  p4 = v10 + 1;
-  p5 = v13;
+  p5 = v16 + 1;
+  v19 = v15;
 again_10:;
-  if (load8(p4) == 0u)
+  if (load8(p5) == 0u)
     goto after_4;
-  p4 = p4 + 5;
-  p5 = p5 + 0xffffffffffffffff;
-  if (p5 != 0)
+  p5 = p5 + 5;
+  v19 = v19 + 0xffffffffffffffff;
+  if (v19 != 0)
     goto again_10;
-  v12 = 0;
+  p4 = 0;
   goto after_9;
 after_3:;
-  if (load8(v11))
+  if (load8(v12))
     goto after_4;
-  v18 = (uint32_t)(load8(v11 + 1) != 0u) | v8;
-  v19 = v18 & 1u;
-  v17 = v19 ? 0ull : 2ull;
+  v18 = (uint32_t)(load8(v12 + 1) != 0u) | v8;
+  v20 = v18 & 1u;
+  v17 = v20 ? 0ull : 2ull;
   v18 = v18 ^ 1u;
-  if (v19)
+  if (v20)
     goto after_7;
-  if (v7 & 1u)
+  if (v14 & 1u)
     goto after_7;
   v17 = 2;
-  if (v13 == 0)
+  if (v15 == 0)
     goto after_9;
-  p4 = v10 + 1;
-  p5 = v13;
+  p5 = v16 + 1;
+  v19 = v15;
 again_11:;
-  if (load8(p4) == 0u)
+  if (load8(p5) == 0u)
     goto after_4;
-  p4 = p4 + 5;
-  p5 = p5 + 0xffffffffffffffff;
-  if (p5 != 0)
+  p5 = p5 + 5;
+  v19 = v19 + 0xffffffffffffffff;
+  if (v19 != 0)
     goto again_11;
   goto after_9;
 after_7:;
   if (v18 & 1u)
     goto after_9;
 after_4:;
-  fill(frame + 176, 0, 128);
-  v7 = v7 & 1u;
-  der_view_step_step_by(frame + 176, v7, v7, v10, v13, v11, v12);
-  v7 = load8(frame + 176);
-  move(frame + 24, v15, 120);
-  if (v7 != 1u)
+  fill(frame + 336, 0, 128);
+  v14 = v14 & 1u;
+  der_view_step_step_by(frame + 336, v14, v14, v16, v15, v12, p4);
+  v14 = load8(frame + 336);
+  move(frame + 24, v10, 120);
+  if (v14 != 1u)
     goto after_1;
-  v13 = load64(frame + 96);
-  v10 = load64(frame + 88);
+  move(frame + 144, frame + 24, 120);
   p3 = p3 + 0xffffffffffffffff;
-  der_view_walk_draw_step(frame, p1, p2, p3, frame + 144, v14, frame + 24);
+  der_view_walk_draw_step(frame, p1, p2, p3, frame + 304, frame + 264, frame + 144);
   if (load8(frame) != 1u)
     goto after_12;
-  p4 = load64(frame + 16);
-  v16 = (v12 - p4) + v16;
-  store64(frame + 144, v16);
-  v11 = load64(frame + 8);
-  v12 = p4;
+  store64(v11, load64(v9));
+  store64(v11 + 8, load64(v9 + 8));
+  p5 = load64(frame + 16);
+  store64(frame + 296, p5);
+  v12 = load64(frame + 8);
+  store64(frame + 288, v12);
+  v13 = (p4 - p5) + v13;
+  store64(frame + 304, v13);
+  p4 = p5;
   if (p3 != 0)
     goto again_13;
   goto after_1;
@@ -8467,73 +8704,78 @@ after_12:;
   store64(p0, 0);
   goto after_14;
 after_2:;
-  v7 = load8(p2);
-  if (v12 > 1)
+  v14 = load8(p2);
+  v12 = load64(frame + 288);
+  p5 = load64(frame + 280);
+  v19 = load64(frame + 272);
+  if (p4 > 1)
     goto after_15;
-  switch ((uint32_t)v12) {
+  switch ((uint32_t)p4) {
   case 1:
     goto after_1;
   default:
     goto after_16;
   }
 after_16:;
-  if (((v7 | v9) & 0xffu) == 0u)
+  if (((v7 | v14) & 0xffu) == 0u)
     goto after_17;
   v17 = 0;
-  v14 = v7;
+  v7 = v14;
   goto after_18;
 after_17:;
-  v12 = 0;
-  if (v13 != 0)
+  p4 = 0;
+  if (p5 != 0)
     goto after_19;
   v17 = 0;
   goto after_9;
 after_19:;
-  p4 = v10 + 1;
+  v19 = v19 + 1;
 again_20:;
-  if (load8(p4) == 0u)
+  if (load8(v19) == 0u)
     goto after_1;
-  p4 = p4 + 5;
-  v13 = v13 + 0xffffffffffffffff;
-  if (v13 != 0)
+  v19 = v19 + 5;
+  p5 = p5 + 0xffffffffffffffff;
+  if (p5 != 0)
     goto again_20;
   v17 = 0;
   goto after_9;
 after_15:;
-  if (load8(v11))
+  if (load8(v12))
     goto after_1;
-  v14 = (uint32_t)(load8(v11 + 1) != 0u) | v8;
-  v9 = v14 & 1u;
-  v17 = v9 ? 0ull : 2ull;
-  v14 = v14 ^ 1u;
-  if (v9)
+  v7 = (uint32_t)(load8(v12 + 1) != 0u) | v8;
+  v18 = v7 & 1u;
+  v17 = v18 ? 0ull : 2ull;
+  v7 = v7 ^ 1u;
+  if (v18)
     goto after_18;
-  if (v7 & 1u)
+  if (v14 & 1u)
     goto after_18;
   v17 = 2;
-  if (v13 == 0)
+  if (p5 == 0)
     goto after_9;
-  p4 = v10 + 1;
+  v19 = v19 + 1;
 again_21:;
-  if (load8(p4) == 0u)
+  if (load8(v19) == 0u)
     goto after_1;
-  p4 = p4 + 5;
-  v13 = v13 + 0xffffffffffffffff;
-  if (v13 != 0)
+  v19 = v19 + 5;
+  p5 = p5 + 0xffffffffffffffff;
+  if (p5 != 0)
     goto again_21;
   goto after_9;
 after_18:;
-  if (v14 & 1u)
+  if (v7 & 1u)
     goto after_9;
 after_1:;
+  der_view_walk_draw_left();
   store64(p0 + 16, 0);
   store64(p0 + 8, 0);
   store64(p0, 0);
   goto after_14;
 after_9:;
+  der_view_walk_draw_end();
   store64(p0, 1);
-  store64(p0 + 16, v12 - v17);
-  store64(p0 + 8, v11 + v17);
+  store64(p0 + 16, p4 - v17);
+  store64(p0 + 8, v12 + v17);
 after_14:;
 }
 
@@ -8564,6 +8806,18 @@ static uint32_t der_view_walk_follows(uint64_t p0, uint64_t p1, uint64_t p2, uin
   der_view_walk_walk(frame + 24, p0, frame + 48, p2, frame + 112, frame + 72);
   p4 = load8(frame + 24);
   return (uint32_t)(p4 == 1u);
+}
+
+/* der_view::walk::draw_left::<#ba02b8222ab7e3d1> */
+static void der_view_walk_draw_left(void)
+{
+  return;
+}
+
+/* der_view::walk::draw_end::<#ba02b8222ab7e3d1> */
+static void der_view_walk_draw_end(void)
+{
+  return;
 }
 
 /* der_view::text::Sources::next_source */
@@ -12129,8 +12383,8 @@ static void sec1_c_picture_lines_Lines_push_bytes(uint64_t p0, uint64_t p1, uint
     uint32_t p3, uint32_t p4)
 {
   FRAME(704)
-  uint32_t v6 = 0, v7 = 0, v8 = 0, v9 = 0, v10 = 0, v11 = 0, v12 = 0, t0, t1;
-  uint64_t v13 = 0, v14 = 0, v15 = 0, t2;
+  uint32_t v6 = 0, v7 = 0, v8 = 0, v9 = 0, v10 = 0, v11 = 0, v12 = 0, t1, t2;
+  uint64_t v13 = 0, v14 = 0, v15 = 0, v16 = 0, v17 = 0, t0, t3;
   store64(frame + 24, 0);
   store64(frame + 16, 0);
   store64(frame + 8, 0);
@@ -12233,21 +12487,27 @@ after_4:;
   v13 = load64(frame + 528);
   if (v13 == 0)
     goto after_2;
-  v14 = p2 - v13;
+  v14 = load64(frame + 504);
+  v15 = p2 - v13;
+  t0 = v14;
+  v14 = (v14 < v15) ? v14 : v15;
+  v16 = t0 - v14;
+  v16 = (v16 < v13) ? v16 : v13;
+  v17 = load64(frame + 496) + v14;
   v7 = 3;
-  v15 = 1;
+  v14 = 1;
   if (p2 != v13)
     goto after_6;
-  t0 = (uint32_t)(load8(p0 + 24) != 1u) | (uint32_t)(((uint32_t)load8(p0 + 30) & 0xffu) != 0u);
-  v8 = t0 | (uint32_t)load8(p0 + 34);
+  t1 = (uint32_t)(load8(p0 + 24) != 1u) | (uint32_t)(((uint32_t)load8(p0 + 30) & 0xffu) != 0u);
+  v8 = t1 | (uint32_t)load8(p0 + 34);
   v7 = (v8 & 1u) ? 0u : 2u;
-  v15 = (uint64_t)(v8 ^ 0xffffffffu) & 1;
+  v14 = (uint64_t)(v8 ^ 0xffffffffu) & 1;
 after_6:;
   store32(frame + 137, 0);
   store8(frame + 136, (uint8_t)v6);
   store64(frame + 128, p2);
   store64(frame + 120, 0);
-  store64(frame + 112, v14);
+  store64(frame + 112, v15);
   store64(frame + 216, 0);
   store64(frame + 208, v13);
   store64(frame + 200, 0);
@@ -12263,12 +12523,12 @@ after_6:;
   store64(frame + 232, 0);
   store64(frame + 240, 0);
   store32(frame + 272, v7);
-  store64(frame + 264, v15);
+  store64(frame + 264, v14);
   store64(frame + 256, 0);
   store64(frame + 248, CONSTANT(0));
   fill(frame + 276, 0, 180);
-  store64(frame + 480, 0);
-  store64(frame + 472, CONSTANT(0));
+  store64(frame + 480, v16);
+  store64(frame + 472, v17);
   store64(frame + 464, 0);
   store64(frame + 456, CONSTANT(0));
   sec1_c_picture_lines_Lines_push_row(p0, frame + 112);
@@ -12327,15 +12587,16 @@ after_2:;
   store64(frame + 40, 0);
   store64(frame + 32, 0);
   der_view_faults_walk_check(frame + 32, 64, frame + 75, 1, p2, p1, p2);
-  t1 = der_view_said_advice_of((uint32_t)(load8(frame + 32) == 0u), (p4 & 0xffu) ? 2u : p3,
+  t2 = der_view_said_advice_of((uint32_t)(load8(frame + 32) == 0u), (p4 & 0xffu) ? 2u : p3,
       frame + 112);
-  p4 = t1;
+  p4 = t2;
   der_view_said_key_misfit(frame + 512, frame + 112);
   p3 = load8(frame + 512);
   der_view_said_point_misfit(frame + 488, frame + 112);
+  v7 = load8(frame + 488);
   p2 = (uint64_t)(p4 & 0xffu) << 5;
   v13 = load64(CONSTANT(23656) + p2);
-  v15 = load64(p2 + CONSTANT(23672));
+  v14 = load64(p2 + CONSTANT(23672));
   p1 = p0 + 16;
   p2 = load64(p1);
   if (p2 >= load64(p0 + 8))
@@ -12349,7 +12610,6 @@ after_2:;
   store64(p2 + 40, 0);
   p2 = load64(p1);
 after_7:;
-  p4 = load8(frame + 488);
   p2 = p2 + 1;
   p2 = (p2 == 0) ? 0xffffffffffffffffull : p2;
   store64(p1, p2);
@@ -12370,7 +12630,7 @@ after_9:;
   p2 = (p2 == 0) ? 0xffffffffffffffffull : p2;
   store64(p0 + 16, p2);
 after_8:;
-  if ((p4 & 0xffu) != 1u)
+  if ((v7 & 0xffu) != 1u)
     goto after_10;
   if (p2 >= load64(p0 + 8))
     goto after_11;
@@ -12404,7 +12664,7 @@ after_13:;
   p2 = (p2 == 0) ? 0xffffffffffffffffull : p2;
   store64(p0 + 16, p2);
 after_12:;
-  if (v15 == 0)
+  if (v14 == 0)
     goto after_14;
   if (p2 >= load64(p0 + 8))
     goto after_15;
@@ -12417,9 +12677,9 @@ after_12:;
   store64(p2 + 40, 0);
   p2 = load64(p0 + 16);
 after_15:;
-  t2 = p0 + 16;
+  t3 = p0 + 16;
   p0 = p2 + 1;
-  store64(t2, (p0 == 0) ? 0xffffffffffffffffull : p0);
+  store64(t3, (p0 == 0) ? 0xffffffffffffffffull : p0);
 after_14:;
 }
 
@@ -12565,256 +12825,111 @@ after_2:;
 static void der_view_walk_draw_step_2(uint64_t p0, uint64_t p1, uint64_t p2, uint64_t p3,
     uint64_t p4, uint64_t p5, uint64_t p6)
 {
-  FRAME(816)
-  uint32_t v8 = 0, v12 = 0, v13 = 0, v14 = 0, v17 = 0, v18 = 0, t0;
-  uint64_t v9 = 0, v10 = 0, v11 = 0, v15 = 0, v16 = 0, v19 = 0, v20 = 0, v21 = 0, v22 = 0,
-      v23 = 0, v24 = 0, v25 = 0, v26 = 0, v27 = 0, v28 = 0, v29 = 0, t1, t2;
-  store32(frame + 184, load32(p4 + 25));
-  store32(frame + 187, load32(p4 + 28));
+  FRAME(272)
+  uint32_t v8 = 0, v12 = 0, v14 = 0, v15 = 0, v16 = 0;
+  uint64_t v9 = 0, v10 = 0, v11 = 0, v13 = 0;
+  store32(frame + 248, load32(p4 + 25));
+  store32(frame + 251, load32(p4 + 28));
   v8 = load8(p4 + 24);
   v9 = load64(p4 + 16);
   v10 = load64(p4 + 8);
   p4 = load64(p4);
-  v11 = 0;
-  store64(frame + 200, 0);
+  store64(frame + 264, 0);
+  store64(frame + 256, 0);
+  store64(frame + 208, 0);
+  store64(frame + 216, 0);
+  store64(frame + 224, 0);
+  store64(frame + 232, 0);
+  store64(frame + 240, 0);
+  store64(frame + 184, 0);
   store64(frame + 192, 0);
-  v12 = 0;
-  store32(frame + 176, 0);
-  store32(frame + 179, 0);
-  store64(frame + 136, 0);
-  store64(frame + 144, 0);
+  store64(frame + 200, 0);
   store64(frame + 152, 0);
   store64(frame + 160, 0);
   store64(frame + 168, 0);
-  store64(frame + 112, 0);
-  store64(frame + 120, 0);
-  store64(frame + 128, 0);
-  store64(frame + 88, 0);
-  store64(frame + 96, 0);
-  store64(frame + 104, 0);
-  store64(frame + 80, 0);
-  store64(frame + 72, 0);
+  store64(frame + 176, 0);
   store64(frame + 64, 0);
+  store64(frame + 72, 0);
+  store64(frame + 80, 0);
   store64(frame + 56, 0);
   store64(frame + 48, 0);
   store64(frame + 40, 0);
-  v13 = 1;
-  v14 = v8 & 1u;
-  v15 = v10 + 1;
-  v16 = p4 + load64(p6 + 16);
-  v17 = load8(p2);
-  v18 = load8(p6 + 58);
-  switch ((uint32_t)((uint64_t)v18 & 0xff)) {
-  case 6:
+  store64(frame + 32, 0);
+  store64(frame + 16, 0);
+  store64(frame + 24, 0);
+  v11 = v10 + 1;
+  store64(frame + 128, v11);
+  store64(frame + 136, v9);
+  v12 = v8 & 1u;
+  store8(frame + 144, (uint8_t)v12);
+  store32(frame + 145, 0);
+  store32(frame + 148, 0);
+  v13 = p4 + load64(p6 + 16);
+  store64(frame + 120, v13);
+  der_view_walk_opened_of_2(frame + 152, p1, p2, p3, frame + 120, p6);
+  store8(frame + 112, (uint8_t)v8);
+  store64(frame + 104, v9);
+  store64(frame + 96, v10);
+  store64(frame + 88, p4);
+  store32(frame + 113, load32(frame + 248));
+  store32(frame + 116, load32(frame + 251));
+  v14 = load8(frame + 176);
+  p4 = load64(frame + 168);
+  v15 = load8(frame + 160);
+  v8 = load8(frame + 152);
+  der_view_walk_draw_element_2(p1, p2, frame + 88, p5, (uint32_t)(v8 == 1u), p6);
+  if (v8 != 1u)
     goto after_1;
-  case 7:
+  v8 = load8(p6 + 24);
+  v16 = load8(p5 + 1);
+  der_view_grammar_Structure_components(frame, v15);
+  store8(frame + 209, (uint8_t)v16);
+  store8(frame + 208, (uint8_t)(uint32_t)(v8 != 1u));
+  store8(frame + 184, (uint8_t)v14);
+  store64(frame + 32, p4 + v13);
+  store64(frame + 40, v11);
+  store64(frame + 48, v9);
+  store8(frame + 56, (uint8_t)v12);
+  store64(frame + 224, load64(frame + 8));
+  store64(frame + 216, load64(frame));
+  store8(frame + 185, (uint8_t)(uint32_t)load8(p2 + 1));
+  store64(frame + 192, load64(p2 + 8));
+  store64(frame + 200, load64(p2 + 16));
+  store64(frame + 240, load64(p6 + 96) - p4);
+  store64(frame + 232, load64(p6 + 88) + p4);
+  store32(frame + 60, 0);
+  store32(frame + 57, 0);
+  der_view_walk_walk_2(frame + 64, p1, frame + 184, p3, frame + 32, frame + 208);
+  if (load8(frame + 64) != 1u)
     goto after_2;
-  case 8:
+  if (v8 == 1u)
     goto after_3;
-  default:
-    goto after_4;
-  }
+  store64(frame + 24, load64(frame + 80));
+  store64(frame + 16, load64(frame + 72));
+  goto after_4;
 after_1:;
-  v12 = load8(p6 + 59);
-  goto after_5;
-after_2:;
-  v19 = load64(p6 + 88);
-  v20 = load64(p6 + 96);
-  v12 = load8(p6 + 59);
-  v17 = 0;
-  store32(frame + 233, 0);
-  store8(frame + 232, (uint8_t)v14);
-  store64(frame + 224, v9);
-  store64(frame + 216, v15);
-  store64(frame + 208, v16);
-  store32(frame + 236, 0);
-  v11 = 0;
-  store64(frame + 408, 0);
-  store64(frame + 344, 0);
-  store64(frame + 784, 0);
-  store64(frame + 792, 0);
-  store64(frame + 800, 0);
-  der_view_grammar_Structure_components(frame + 24, v12);
-  store64(frame + 440, v20);
-  store64(frame + 432, v19);
-  store16(frame + 408, 256);
-  store8(frame + 344, 0);
-  store64(frame + 424, load64(frame + 32));
-  store64(frame + 416, load64(frame + 24));
-  store64(frame + 352, load64(p2 + 8));
-  store64(frame + 360, load64(p2 + 16));
-  store8(frame + 345, (uint8_t)(uint32_t)load8(p2 + 1));
-  der_view_walk_walk_2(frame + 784, p1, frame + 344, p3, frame + 208, frame + 408);
-  v13 = (uint32_t)(load8(frame + 784) == 1u);
-  v12 = v13 ? v12 : 0u;
-  goto after_5;
-after_3:;
-  v19 = load64(p6 + 96);
-  if (v19 == 0)
-    goto after_6;
-  v13 = 0;
-  v20 = load64(p6 + 88);
-  if (load8(v20))
-    goto after_7;
-  v19 = v19 + 0xffffffffffffffff;
-  if (v19 != 0)
-    goto after_8;
-  v13 = 0;
-  goto after_7;
-after_8:;
-  v12 = load8(p6 + 59);
-  v17 = 0;
-  store32(frame + 433, 0);
-  store8(frame + 432, (uint8_t)v14);
-  store64(frame + 424, v9);
-  store64(frame + 416, v15);
-  store64(frame + 408, v16);
-  store32(frame + 436, 0);
-  t0 = der_view_walk_follows_2(p1, p2, p3, frame + 408, v12, v20 + 1, v19);
-  v13 = t0;
-  v12 = v13 ? v12 : 0u;
-  v11 = v13;
-  goto after_5;
-after_4:;
-  v13 = 1;
-  if (load8(p6 + 24) != 1u)
-    goto after_9;
-  v12 = 0;
-  if (load8(p6 + 1) != 1u)
-    goto after_6;
-  if ((((uint32_t)((v18 & 0xffu) == 9u) | v17) & 1u) == 0u)
-    goto after_6;
-after_9:;
-  v12 = 84;
-  goto after_5;
-after_7:;
-  v12 = 0;
-  v17 = 0;
-  goto after_5;
-after_6:;
-  v13 = 0;
-  v17 = 0;
-after_5:;
-  v19 = (frame + 208) + 56;
-  fill(v19, 0, 80);
-  if (load8(p5 + 1))
-    goto after_10;
-  store64(frame + 376, load64(p6 + 32));
-  store64(frame + 368, load64(p6 + 24));
-  store64(frame + 360, load64(p6 + 16));
-  store64(frame + 352, load64(p6 + 8));
-  store64(frame + 344, load64(p6));
-  v21 = load64(p6 + 88);
-  v20 = load64(p6 + 96);
-  t1 = der_view_content_shown_len(load8(p2 + 1), frame + 344, load8(p6 + 58), load8(p6 + 59),
-      v21, v20);
-  v22 = t1;
-  v23 = CONSTANT(0);
-  v24 = 0;
-  v25 = 0;
-  v26 = CONSTANT(0);
-  v18 = load8(p6 + 80);
-  if (v18)
-    goto after_11;
-  v25 = load64(p5 + 16);
-  v26 = load64(p5 + 8);
-after_11:;
-  v27 = p6 + 40;
-  v28 = p6 + 56;
-  v29 = (load8(frame + 368) == 1u) ? v20 : 0ull;
-  if (v13)
-    goto after_12;
-  v23 = load64(p2 + 16);
-  v24 = load64(frame + 360) + p4;
-  t2 = v23;
-  v23 = (v23 < v24) ? v23 : v24;
-  v24 = t2 - v23;
-  v24 = (v24 < v20) ? v24 : v20;
-  v23 = load64(p2 + 8) + v23;
-after_12:;
-  store32(v19, load32(v28));
-  store8(v19 + 4, (uint8_t)(uint32_t)load8(v28 + 4));
-  store64(frame + 240, load64(p6 + 32));
-  store64(frame + 232, load64(p6 + 24));
-  store64(frame + 224, load64(p6 + 16));
-  store64(frame + 216, load64(p6 + 8));
-  store64(frame + 208, load64(p6));
-  store64(frame + 248, load64(v27));
-  store64(frame + 256, load64(v27 + 8));
-  store8(frame + 336, (uint8_t)v13);
-  store64(frame + 328, v24);
-  store64(frame + 320, v23);
-  store64(frame + 312, v22);
-  store64(frame + 304, v21);
-  store64(frame + 296, v29);
-  store8(frame + 288, (uint8_t)v18);
-  store64(frame + 280, v25);
-  store64(frame + 272, v26);
-  store8(frame + 808, (uint8_t)v8);
-  store64(frame + 800, v9);
-  store64(frame + 792, v10);
-  store64(frame + 784, p4);
-  store32(frame + 809, load32(frame + 184));
-  store32(frame + 812, load32(frame + 187));
-  fill(frame + 408, 0, 376);
-  store64(frame + 400, load64(p1 + 40));
-  store64(frame + 392, load64(p1 + 32));
-  store64(frame + 384, load64(p1 + 24));
-  der_view_facts_RowFacts_of_element(frame + 408, frame + 384, 0, frame + 784, frame + 208);
-  sec1_c_picture_lines_Lines_push_row(p1, frame + 408);
-after_10:;
-  if (v13 == 0u)
-    goto after_13;
-  v13 = load8(p6 + 24);
-  v8 = load8(p5 + 1);
-  der_view_grammar_Structure_components(frame + 8, v12);
-  store8(frame + 137, (uint8_t)v8);
-  v13 = (uint32_t)(v13 != 1u);
-  store8(frame + 136, (uint8_t)v13);
-  store8(frame + 112, (uint8_t)v17);
-  store64(frame + 56, v11 + v16);
-  store64(frame + 64, v15);
-  store64(frame + 72, v9);
-  store8(frame + 80, (uint8_t)v14);
-  store64(frame + 152, load64(frame + 16));
-  store64(frame + 144, load64(frame + 8));
-  store8(frame + 113, (uint8_t)(uint32_t)load8(p2 + 1));
-  store64(frame + 120, load64(p2 + 8));
-  store64(frame + 128, load64(p2 + 16));
-  store64(frame + 168, load64(p6 + 96) - v11);
-  store64(frame + 160, load64(p6 + 88) + v11);
-  store32(frame + 84, load32(frame + 179));
-  store32(frame + 81, load32(frame + 176));
-  der_view_walk_walk_2(frame + 88, p1, frame + 112, p3, frame + 56, frame + 136);
-  if (load8(frame + 88) != 1u)
-    goto after_14;
-  if (v13 == 0u)
-    goto after_15;
-  store64(frame + 48, load64(frame + 104));
-  store64(frame + 40, load64(frame + 96));
-  goto after_16;
-after_13:;
   p4 = load64(p6 + 112);
   p6 = load64(p6 + 104);
   store64(p0, 1);
   store64(p0 + 8, p6);
   store64(p0 + 16, p4);
-  store64(frame + 200, p4);
-  store64(frame + 192, p6);
-  goto after_17;
-after_14:;
+  store64(frame + 264, p4);
+  store64(frame + 256, p6);
+  goto after_5;
+after_2:;
   store64(p0 + 16, 0);
   store64(p0 + 8, 0);
   store64(p0, 0);
-  goto after_17;
-after_15:;
-  store64(frame + 48, load64(p6 + 112));
-  store64(frame + 40, load64(p6 + 104));
-after_16:;
+  goto after_5;
+after_3:;
+  store64(frame + 24, load64(p6 + 112));
+  store64(frame + 16, load64(p6 + 104));
+after_4:;
   store64(p0, 1);
-  store64(p0 + 8, load64(frame + 40));
-  store64(p0 + 16, load64(frame + 48));
-after_17:;
+  store64(p0 + 8, load64(frame + 16));
+  store64(p0 + 16, load64(frame + 24));
+  goto after_5;
+after_5:;
 }
 
 /* der_view::drawing::known_of */
@@ -12822,8 +12937,8 @@ static void der_view_drawing_known_of(uint64_t p0, uint64_t p1, uint64_t p2, uin
 {
   FRAME(800)
   uint32_t v5 = 0, v6 = 0, v7 = 0, v8 = 0, v9 = 0, v10 = 0, v11 = 0, v12 = 0, v13 = 0, v14 = 0,
-      v15 = 0, v16 = 0, t0, t1, t2;
-  uint64_t v17 = 0;
+      v15 = 0, v16 = 0, t0, t2, t3;
+  uint64_t v17 = 0, v18 = 0, v19 = 0, t1;
   v5 = load8(p1 + 8);
   v6 = load8(p1 + 6);
   v7 = load8(p1 + 5);
@@ -12946,13 +13061,19 @@ after_4:;
   p1 = load64(frame + 208);
   if (p1 == 0)
     goto after_2;
+  p2 = load64(frame + 184);
   v17 = p3 - p1;
+  t1 = p2;
+  p2 = (p2 < v17) ? p2 : v17;
+  v18 = t1 - p2;
+  v18 = (v18 < p1) ? v18 : p1;
+  v19 = load64(frame + 176) + p2;
   v12 = 3;
   p2 = 1;
   if (p3 != p1)
     goto after_7;
-  t1 = (uint32_t)(load8(frame) != 1u) | (uint32_t)(((uint32_t)load8(frame + 6) & 0xffu) != 0u);
-  v6 = t1 | (uint32_t)load8(frame + 10);
+  t2 = (uint32_t)(load8(frame) != 1u) | (uint32_t)(((uint32_t)load8(frame + 6) & 0xffu) != 0u);
+  v6 = t2 | (uint32_t)load8(frame + 10);
   v12 = (v6 & 1u) ? 0u : 2u;
   p2 = (uint64_t)(v6 ^ 0xffffffffu) & 1;
 after_7:;
@@ -12980,8 +13101,8 @@ after_7:;
   store64(frame + 568, 0);
   store64(frame + 560, CONSTANT(0));
   fill(frame + 588, 0, 180);
-  store64(frame + 792, 0);
-  store64(frame + 784, CONSTANT(0));
+  store64(frame + 792, v18);
+  store64(frame + 784, v19);
   store64(frame + 776, 0);
   store64(frame + 768, CONSTANT(0));
   der_view_known_Known_see(frame, 0, frame + 424);
@@ -13009,8 +13130,8 @@ after_6:;
   v13 = load8(frame + 10);
   store64(frame + 568, 0);
   store64(frame + 560, CONSTANT(0));
-  t2 = v13 | ((uint32_t)((v12 & 0xffu) != 1u) | (uint32_t)((v6 & 0xffu) != 0u));
-  v12 = t2;
+  t3 = v13 | ((uint32_t)((v12 & 0xffu) != 1u) | (uint32_t)((v6 & 0xffu) != 0u));
+  v12 = t3;
   store32(frame + 584, (v12 & 1u) ? 0u : 2u);
   store64(frame + 576, (uint64_t)(v12 ^ 0xffffffffu) & 1);
   fill(frame + 588, 0, 180);
@@ -14461,360 +14582,420 @@ after_14:;
 after_15:;
 }
 
+/* der_view::walk::opened_of::<#ae7123e416480c13> */
+static void der_view_walk_opened_of_2(uint64_t p0, uint64_t p1, uint64_t p2, uint64_t p3,
+    uint64_t p4, uint64_t p5)
+{
+  FRAME(192)
+  uint32_t v7 = 0, v8 = 0, v9 = 0, v14 = 0, t0;
+  uint64_t v10 = 0, v11 = 0, v12 = 0, v13 = 0;
+  v7 = 0;
+  store32(frame + 59, 0);
+  store32(frame + 56, 0);
+  v8 = load8(p2);
+  v9 = load8(p5 + 58);
+  switch ((uint32_t)((uint64_t)v9 & 0xff)) {
+  case 6:
+    goto after_1;
+  case 7:
+    goto after_2;
+  case 8:
+    goto after_3;
+  default:
+    goto after_4;
+  }
+after_1:;
+  store32(frame + 64, 0);
+  store32(frame + 67, 0);
+  v10 = load8(p5 + 59);
+  p5 = 0;
+  v11 = 1;
+  v7 = v8;
+  goto after_5;
+after_2:;
+  v11 = load64(p5 + 88);
+  v10 = load64(p5 + 96);
+  v8 = load8(p5 + 59);
+  p5 = 0;
+  store64(frame + 120, 0);
+  store64(frame + 96, 0);
+  store64(frame + 72, 0);
+  store64(frame + 80, 0);
+  store64(frame + 88, 0);
+  store64(frame + 160, load64(p4));
+  store64(frame + 168, load64(p4 + 8));
+  store64(frame + 176, load64(p4 + 16));
+  store64(frame + 184, load64(p4 + 24));
+  der_view_grammar_Structure_components(frame + 8, v8);
+  store64(frame + 152, v10);
+  store64(frame + 144, v11);
+  store16(frame + 120, 256);
+  store8(frame + 96, 0);
+  store64(frame + 136, load64(frame + 16));
+  store64(frame + 128, load64(frame + 8));
+  store64(frame + 104, load64(p2 + 8));
+  store64(frame + 112, load64(p2 + 16));
+  store8(frame + 97, (uint8_t)(uint32_t)load8(p2 + 1));
+  der_view_walk_walk_2(frame + 72, p1, frame + 96, p3, frame + 160, frame + 120);
+  v9 = load8(frame + 72);
+  store32(frame + 123, 0);
+  store32(frame + 120, 0);
+  store32(frame + 64, load32(frame + 120));
+  store32(frame + 67, load32(frame + 123));
+  v9 = (uint32_t)(v9 == 1u);
+  v10 = (uint64_t)(v9 ? v8 : 0u) & 0xff;
+  v11 = v9;
+  goto after_5;
+after_3:;
+  v10 = 0;
+  v12 = load64(p5 + 96);
+  if (v12 != 0)
+    goto after_6;
+  v11 = 0;
+  goto after_7;
+after_6:;
+  v13 = load64(p5 + 88);
+  if (load8(v13) == 0u)
+    goto after_8;
+  v11 = 0;
+  goto after_7;
+after_8:;
+  v11 = 0;
+  v12 = v12 + 0xffffffffffffffff;
+  if (v12 == 0)
+    goto after_7;
+  v7 = load8(p5 + 59);
+  store64(frame + 48, load64(p4 + 24));
+  store64(frame + 40, load64(p4 + 16));
+  store64(frame + 32, load64(p4 + 8));
+  store64(frame + 24, load64(p4));
+  t0 = der_view_walk_follows_2(p1, p2, p3, frame + 24, v7, v13 + 1, v12);
+  v8 = t0;
+  store32(frame + 123, 0);
+  store32(frame + 120, 0);
+  store32(frame + 56, load32(frame + 120));
+  store32(frame + 59, load32(frame + 123));
+  v10 = v8 ? ((uint64_t)v7 & 0xff) : 0ull;
+  v11 = v8;
+after_7:;
+  store32(frame + 67, load32(frame + 59));
+  store32(frame + 64, load32(frame + 56));
+  v7 = 0;
+  p5 = v11;
+  goto after_5;
+after_4:;
+  if (load8(p5 + 24) != 1u)
+    goto after_9;
+  v14 = load8(p5 + 1);
+  v7 = 0;
+  store32(frame + 123, 0);
+  store32(frame + 120, 0);
+  v10 = 0;
+  if (v14 == 1u)
+    goto after_10;
+  v11 = 0;
+  goto after_11;
+after_10:;
+  v11 = 0;
+  if ((((uint32_t)((v9 & 0xffu) == 9u) | v8) & 1u) == 0u)
+    goto after_11;
+after_9:;
+  store32(frame + 123, 0);
+  store32(frame + 120, 0);
+  v11 = 1;
+  v10 = 84;
+  v7 = v8;
+after_11:;
+  store32(frame + 67, load32(frame + 123));
+  store32(frame + 64, load32(frame + 120));
+  p5 = 0;
+after_5:;
+  store64(p0, v11);
+  store8(p0 + 24, (uint8_t)v7);
+  store64(p0 + 16, p5);
+  store64(p0 + 8, v10);
+  store32(p0 + 25, load32(frame + 64));
+  store32(p0 + 28, load32(frame + 67));
+  return;
+}
+
+/* der_view::walk::draw_element::<#ae7123e416480c13> */
+static void der_view_walk_draw_element_2(uint64_t p0, uint64_t p1, uint64_t p2, uint64_t p3,
+    uint32_t p4, uint64_t p5)
+{
+  FRAME(608)
+  uint32_t v15 = 0;
+  uint64_t v7 = 0, v8 = 0, v9 = 0, v10 = 0, v11 = 0, v12 = 0, v13 = 0, v14 = 0, v16 = 0,
+      v17 = 0, t0, t1;
+  v7 = load64(p2);
+  fill(frame + 56, 0, 80);
+  if (load8(p3 + 1) == 1u)
+    goto after_1;
+  store64(frame + 168, load64(p5 + 32));
+  store64(frame + 160, load64(p5 + 24));
+  store64(frame + 152, load64(p5 + 16));
+  store64(frame + 144, load64(p5 + 8));
+  store64(frame + 136, load64(p5));
+  v8 = load64(p5 + 88);
+  v9 = load64(p5 + 96);
+  t0 = der_view_content_shown_len(load8(p1 + 1), frame + 136, load8(p5 + 58), load8(p5 + 59),
+      v8, v9);
+  v10 = t0;
+  v11 = CONSTANT(0);
+  v12 = 0;
+  v13 = 0;
+  v14 = CONSTANT(0);
+  v15 = load8(p5 + 80);
+  if (v15)
+    goto after_2;
+  v13 = load64(p3 + 16);
+  v14 = load64(p3 + 8);
+after_2:;
+  p2 = p2 + 8;
+  p3 = p5 + 40;
+  v16 = p5 + 56;
+  v17 = (load8(frame + 160) == 1u) ? v9 : 0ull;
+  if (p4)
+    goto after_3;
+  v11 = load64(p1 + 16);
+  v12 = load64(frame + 152) + v7;
+  t1 = v11;
+  v11 = (v11 < v12) ? v11 : v12;
+  v12 = t1 - v11;
+  v12 = (v12 < v9) ? v12 : v9;
+  v11 = load64(p1 + 8) + v11;
+after_3:;
+  store64(frame + 32, load64(p5 + 32));
+  store64(frame + 24, load64(p5 + 24));
+  store64(frame + 16, load64(p5 + 16));
+  store64(frame + 8, load64(p5 + 8));
+  store64(frame, load64(p5));
+  store64(frame + 40, load64(p3));
+  store64(frame + 48, load64(p3 + 8));
+  store32(frame + 56, load32(v16));
+  store8(frame + 60, (uint8_t)(uint32_t)load8(v16 + 4));
+  store8(frame + 128, (uint8_t)p4);
+  store64(frame + 120, v12);
+  store64(frame + 112, v11);
+  store64(frame + 104, v10);
+  store64(frame + 96, v8);
+  store64(frame + 88, v17);
+  store8(frame + 80, (uint8_t)v15);
+  store64(frame + 72, v13);
+  store64(frame + 64, v14);
+  store64(frame + 576, v7);
+  store64(frame + 584, load64(p2));
+  store64(frame + 592, load64(p2 + 8));
+  store64(frame + 600, load64(p2 + 16));
+  fill(frame + 200, 0, 376);
+  store64(frame + 192, load64(p0 + 40));
+  store64(frame + 184, load64(p0 + 32));
+  store64(frame + 176, load64(p0 + 24));
+  der_view_facts_RowFacts_of_element(frame + 200, frame + 176, 0, frame + 576, frame);
+  sec1_c_picture_lines_Lines_push_row(p0, frame + 200);
+after_1:;
+  return;
+}
+
 /* der_view::walk::walk::<#ae7123e416480c13> */
 static void der_view_walk_walk_2(uint64_t p0, uint64_t p1, uint64_t p2, uint64_t p3,
     uint64_t p4, uint64_t p5)
 {
-  FRAME(592)
-  uint32_t v9 = 0, v10 = 0, v15 = 0, v19 = 0, v21 = 0, t0, t1;
-  uint64_t v7 = 0, v8 = 0, v11 = 0, v12 = 0, v13 = 0, v14 = 0, v16 = 0, v17 = 0, v18 = 0, v20 = 0;
+  FRAME(464)
+  uint32_t v7 = 0, v8 = 0, v14 = 0, v18 = 0, v20 = 0;
+  uint64_t v9 = 0, v10 = 0, v11 = 0, v12 = 0, v13 = 0, v15 = 0, v16 = 0, v17 = 0, v19 = 0;
+  fill(frame + 144, 0, 120);
   store64(frame + 16, 0);
   store64(frame + 8, 0);
   store64(frame, 0);
-  store64(frame + 184, load64(p4));
-  store64(frame + 192, load64(p4 + 8));
-  store64(frame + 200, load64(p4 + 16));
-  store64(frame + 208, load64(p4 + 24));
-  store64(frame + 144, load64(p5));
-  store64(frame + 152, load64(p5 + 8));
-  store64(frame + 160, load64(p5 + 16));
-  store64(frame + 168, load64(p5 + 24));
-  store64(frame + 176, load64(p5 + 32));
-  v7 = load64(frame + 184);
-  if (p3 != 0)
+  store64(frame + 304, load64(p4));
+  store64(frame + 312, load64(p4 + 8));
+  store64(frame + 320, load64(p4 + 16));
+  store64(frame + 328, load64(p4 + 24));
+  store64(frame + 264, load64(p5));
+  store64(frame + 272, load64(p5 + 8));
+  store64(frame + 280, load64(p5 + 16));
+  store64(frame + 288, load64(p5 + 24));
+  store64(frame + 296, load64(p5 + 32));
+  if (p3 == 0)
     goto after_1;
-  v8 = load64(frame + 192);
-  goto after_2;
-after_1:;
-  v9 = load8(frame + 144);
-  v10 = v9 ^ 1u;
-  p4 = load64(frame + 176);
-  v8 = load64(frame + 192);
-  if (v8 > 63)
-    goto after_3;
-  v11 = (frame + 216) + 8;
-  v12 = (frame + 144) + 8;
-  v13 = frame + 88;
-  v14 = load64(frame + 168);
-again_15:;
-  v15 = load8(p2);
-  v16 = load64(frame + 160);
-  v17 = load64(frame + 152);
+  v7 = load8(frame + 264);
+  v8 = v7 ^ 1u;
+  p4 = load64(frame + 296);
+  if (load64(frame + 312) > 63)
+    goto after_2;
+  v9 = frame + 208;
+  v10 = (frame + 336) + 8;
+  v11 = (frame + 264) + 8;
+  v12 = load64(frame + 288);
+  v13 = load64(frame + 304);
+again_13:;
+  v14 = load8(p2);
+  v15 = load64(frame + 280);
+  v16 = load64(frame + 272);
   if (p4 > 1)
-    goto after_4;
+    goto after_3;
   switch ((uint32_t)p4) {
   case 1:
-    goto after_5;
+    goto after_4;
   default:
-    goto after_6;
+    goto after_5;
   }
+after_5:;
+  if (((v7 | v14) & 0xffu) == 0u)
+    goto after_6;
+  v17 = 0;
+  v18 = v14;
+  goto after_7;
 after_6:;
-  if (((v9 | v15) & 0xffu) == 0u)
-    goto after_7;
-  v18 = 0;
-  v19 = v15;
-  goto after_8;
-after_7:;
-  v18 = 0;
-  if (v16 != 0)
-    goto after_9;
-  v16 = 0;
+  v17 = 0;
+  if (v15 != 0)
+    goto after_8;
   p4 = 0;
-  goto after_10;
-after_9:;
-  p5 = v17 + 1;
-  v20 = v16;
+  goto after_9;
+after_8:;
+  p5 = v16 + 1;
+  v19 = v15;
+again_10:;
+  if (load8(p5) == 0u)
+    goto after_4;
+  p5 = p5 + 5;
+  v19 = v19 + 0xffffffffffffffff;
+  if (v19 != 0)
+    goto again_10;
+  p4 = 0;
+  goto after_9;
+after_3:;
+  if (load8(v12))
+    goto after_4;
+  v18 = (uint32_t)(load8(v12 + 1) != 0u) | v8;
+  v20 = v18 & 1u;
+  v17 = v20 ? 0ull : 2ull;
+  v18 = v18 ^ 1u;
+  if (v20)
+    goto after_7;
+  if (v14 & 1u)
+    goto after_7;
+  v17 = 2;
+  if (v15 == 0)
+    goto after_9;
+  p5 = v16 + 1;
+  v19 = v15;
 again_11:;
   if (load8(p5) == 0u)
-    goto after_5;
+    goto after_4;
   p5 = p5 + 5;
-  v20 = v20 + 0xffffffffffffffff;
-  if (v20 != 0)
+  v19 = v19 + 0xffffffffffffffff;
+  if (v19 != 0)
     goto again_11;
-  p4 = 0;
-  goto after_10;
+  goto after_9;
+after_7:;
+  if (v18 & 1u)
+    goto after_9;
 after_4:;
-  if (load8(v14))
-    goto after_5;
-  v19 = (uint32_t)(load8(v14 + 1) != 0u) | v10;
-  v21 = v19 & 1u;
-  v18 = v21 ? 0ull : 2ull;
-  v19 = v19 ^ 1u;
-  if (v21)
-    goto after_8;
-  if (v15 & 1u)
-    goto after_8;
-  v18 = 2;
-  if (v16 != 0)
-    goto after_12;
-  v16 = 0;
-  goto after_10;
-after_12:;
-  p5 = v17 + 1;
-  v20 = v16;
-again_13:;
-  if (load8(p5) == 0u)
-    goto after_5;
-  p5 = p5 + 5;
-  v20 = v20 + 0xffffffffffffffff;
-  if (v20 != 0)
-    goto again_13;
-  goto after_10;
-after_8:;
-  if (v19 & 1u)
-    goto after_10;
-after_5:;
-  fill(frame + 216, 0, 128);
-  v15 = v15 & 1u;
-  der_view_step_step_by(frame + 216, v15, v15, v17, v16, v14, p4);
-  v15 = load8(frame + 216);
-  move(frame + 24, v11, 120);
-  if (v15 != 1u)
-    goto after_2;
+  fill(frame + 336, 0, 128);
+  v14 = v14 & 1u;
+  der_view_step_step_by(frame + 336, v14, v14, v16, v15, v12, p4);
+  v14 = load8(frame + 336);
+  move(frame + 24, v10, 120);
+  if (v14 != 1u)
+    goto after_1;
+  move(frame + 144, frame + 24, 120);
   p3 = p3 + 0xffffffffffffffff;
-  der_view_walk_draw_step_2(frame, p1, p2, p3, frame + 184, frame + 144, frame + 24);
+  der_view_walk_draw_step_2(frame, p1, p2, p3, frame + 304, frame + 264, frame + 144);
   if (load8(frame) != 1u)
-    goto after_14;
-  store64(v12, load64(v13));
-  store64(v12 + 8, load64(v13 + 8));
+    goto after_12;
+  store64(v11, load64(v9));
+  store64(v11 + 8, load64(v9 + 8));
   p5 = load64(frame + 16);
-  store64(frame + 176, p5);
-  v14 = load64(frame + 8);
-  store64(frame + 168, v14);
-  v7 = (p4 - p5) + v7;
-  store64(frame + 184, v7);
+  store64(frame + 296, p5);
+  v12 = load64(frame + 8);
+  store64(frame + 288, v12);
+  v13 = (p4 - p5) + v13;
+  store64(frame + 304, v13);
   p4 = p5;
-  if (p3 == 0)
-    goto after_2;
-  goto again_15;
-after_14:;
+  if (p3 != 0)
+    goto again_13;
+  goto after_1;
+after_12:;
   store64(p0 + 16, 0);
   store64(p0 + 8, 0);
   store64(p0, 0);
-  goto after_16;
-after_3:;
-  v15 = load8(p2);
-  v14 = load64(frame + 168);
-  v16 = load64(frame + 160);
-  v17 = load64(frame + 152);
+  goto after_14;
+after_2:;
+  v14 = load8(p2);
+  v12 = load64(frame + 288);
+  p5 = load64(frame + 280);
+  v19 = load64(frame + 272);
   if (p4 > 1)
-    goto after_17;
+    goto after_15;
   switch ((uint32_t)p4) {
   case 1:
-    goto after_2;
+    goto after_1;
   default:
-    goto after_18;
+    goto after_16;
   }
-after_18:;
-  if (((v9 | v15) & 0xffu) == 0u)
-    goto after_19;
-  v18 = 0;
-  v9 = v15;
-  goto after_20;
-after_19:;
-  p4 = 0;
-  if (v16 != 0)
-    goto after_21;
-  v16 = 0;
-  v18 = 0;
-  goto after_10;
-after_21:;
-  p5 = v17 + 1;
-  v20 = v16;
-again_22:;
-  if (load8(p5) == 0u)
-    goto after_2;
-  p5 = p5 + 5;
-  v20 = v20 + 0xffffffffffffffff;
-  if (v20 != 0)
-    goto again_22;
-  v18 = 0;
-  goto after_10;
+after_16:;
+  if (((v7 | v14) & 0xffu) == 0u)
+    goto after_17;
+  v17 = 0;
+  v7 = v14;
+  goto after_18;
 after_17:;
-  if (load8(v14))
-    goto after_2;
-  v9 = (uint32_t)(load8(v14 + 1) != 0u) | v10;
-  v19 = v9 & 1u;
-  v18 = v19 ? 0ull : 2ull;
-  v9 = v9 ^ 1u;
-  if (v19)
-    goto after_20;
-  if (v15 & 1u)
-    goto after_20;
-  v18 = 2;
-  if (v16 != 0)
-    goto after_23;
-  v16 = 0;
-  goto after_10;
-after_23:;
-  p5 = v17 + 1;
-  v20 = v16;
-again_24:;
-  if (load8(p5) == 0u)
-    goto after_2;
-  p5 = p5 + 5;
-  v20 = v20 + 0xffffffffffffffff;
-  if (v20 != 0)
-    goto again_24;
-  goto after_10;
-after_20:;
-  if ((v9 & 1u) == 0u)
-    goto after_2;
-after_10:;
-  if (load8(frame + 145))
-    goto after_25;
-  v15 = load8(frame + 208);
-  p3 = load64(frame + 200);
-  if (v16 == 0)
-    goto after_26;
-  p2 = frame + 209;
-  p5 = v17 + 1;
-  v20 = v16;
-again_28:;
-  if (load8(p5) == 0u)
-    goto after_27;
-  p5 = p5 + 5;
-  v20 = v20 + 0xffffffffffffffff;
-  if (v20 != 0)
-    goto again_28;
-  goto after_26;
-after_27:;
-  if (v8 != 0)
-    goto after_29;
-  if (v7 == 0)
-    goto after_29;
-  v9 = 3;
-  p5 = 1;
-  goto after_30;
-after_29:;
-  t0 = (uint32_t)(load8(p1 + 24) != 1u) | (uint32_t)(((uint32_t)load8(p1 + 30) & 0xffu) != 0u);
-  v19 = t0 | (uint32_t)load8(p1 + 34);
-  v9 = (v19 & 1u) ? 0u : 2u;
-  p5 = (uint64_t)(v19 ^ 0xffffffffu) & 1;
-after_30:;
-  store8(frame + 240, (uint8_t)v15);
-  store64(frame + 232, p3);
-  store64(frame + 224, v8);
-  store64(frame + 216, v7);
-  store64(frame + 288, 0);
-  store64(frame + 280, 1);
-  store64(frame + 272, 0);
-  store64(frame + 264, CONSTANT(0));
-  store32(frame + 260, 0);
-  store64(frame + 252, 0);
-  store32(frame + 248, 2);
-  store64(frame + 296, 0);
-  store64(frame + 304, 0);
-  store64(frame + 312, 0);
-  store64(frame + 320, 0);
-  store64(frame + 328, 0);
-  store64(frame + 336, 0);
-  store64(frame + 344, 0);
-  store32(frame + 241, load32(p2));
-  store32(frame + 244, load32(p2 + 3));
-  store32(frame + 376, v9);
-  store64(frame + 368, p5);
-  store64(frame + 360, 0);
-  store64(frame + 352, CONSTANT(0));
-  fill(frame + 380, 0, 180);
-  store64(frame + 584, 0);
-  store64(frame + 576, CONSTANT(0));
-  store64(frame + 568, v16);
-  store64(frame + 560, v17);
-  sec1_c_picture_lines_Lines_push_row(p1, frame + 216);
-after_26:;
-  if (v18 == 0)
-    goto after_25;
-  store32(frame + 241, 0);
-  store8(frame + 240, (uint8_t)v15);
-  store64(frame + 232, p3);
-  store64(frame + 216, v7);
-  store64(frame + 288, 0);
-  store64(frame + 280, 1);
-  store64(frame + 272, 2);
-  store64(frame + 264, CONSTANT(1941));
-  store32(frame + 260, 0);
-  store64(frame + 252, 0);
-  store64(frame + 244, 0x100000000);
-  store64(frame + 296, 0);
-  store64(frame + 304, 0);
-  store64(frame + 312, 0);
-  store64(frame + 320, 0);
-  store64(frame + 328, 0);
-  store64(frame + 336, 0);
-  store64(frame + 344, 0);
-  store64(frame + 224, v8 - (uint64_t)(uint32_t)(v8 != 0));
-  store64(frame + 352, CONSTANT(0));
-  fill(frame + 360, 0, 200);
-  store64(frame + 584, 0);
-  store64(frame + 576, CONSTANT(0));
-  store64(frame + 568, 0);
-  store64(frame + 560, CONSTANT(0));
-  sec1_c_picture_lines_Lines_push_row(p1, frame + 216);
-after_25:;
-  store64(p0, 1);
-  store64(p0 + 16, p4 - v18);
-  store64(p0 + 8, v14 + v18);
-  goto after_16;
-after_2:;
-  if (load8(frame + 145))
-    goto after_31;
-  p4 = load64(frame + 208);
-  p5 = load64(p2 + 16);
-  v20 = (p5 < v7) ? p5 : v7;
-  p3 = p5 - v20;
-  v14 = load64(frame + 200);
-  p5 = v14 - v7;
-  p3 = (p3 < p5) ? p3 : p5;
-  v20 = load64(p2 + 8) + v20;
-  p2 = load64(frame + 160);
-  v16 = load64(frame + 152);
-  if (v8 != 0)
-    goto after_32;
-  if (v7 == 0)
-    goto after_32;
-  v15 = 3;
-  v17 = 1;
-  goto after_33;
-after_32:;
-  t1 = (uint32_t)(load8(p1 + 24) != 1u) | (uint32_t)(((uint32_t)load8(p1 + 30) & 0xffu) != 0u);
-  v9 = t1 | (uint32_t)load8(p1 + 34);
-  v15 = (v9 & 1u) ? 0u : 2u;
-  v17 = (uint64_t)(v9 ^ 0xffffffffu) & 1;
-after_33:;
-  store64(frame + 320, 0);
-  store64(frame + 312, p5);
-  store64(frame + 304, 0);
-  store64(frame + 296, p5);
-  store64(frame + 288, p5);
-  store64(frame + 280, 1);
-  store64(frame + 272, 0);
-  store64(frame + 264, CONSTANT(0));
-  store32(frame + 260, 0);
-  store64(frame + 252, 0);
-  store32(frame + 248, 2);
-  store64(frame + 240, p4);
-  store64(frame + 232, v14);
-  store64(frame + 224, v8);
-  store64(frame + 216, v7);
-  store64(frame + 328, 0);
-  store64(frame + 336, 0);
-  store64(frame + 344, 0);
-  store32(frame + 376, v15);
-  store64(frame + 368, v17);
-  store64(frame + 360, 0);
-  store64(frame + 352, CONSTANT(0));
-  fill(frame + 380, 0, 180);
-  store64(frame + 584, p3);
-  store64(frame + 576, v20);
-  store64(frame + 568, p2);
-  store64(frame + 560, v16);
-  sec1_c_picture_lines_Lines_push_row(p1, frame + 216);
-after_31:;
+  p4 = 0;
+  if (p5 != 0)
+    goto after_19;
+  v17 = 0;
+  goto after_9;
+after_19:;
+  v19 = v19 + 1;
+again_20:;
+  if (load8(v19) == 0u)
+    goto after_1;
+  v19 = v19 + 5;
+  p5 = p5 + 0xffffffffffffffff;
+  if (p5 != 0)
+    goto again_20;
+  v17 = 0;
+  goto after_9;
+after_15:;
+  if (load8(v12))
+    goto after_1;
+  v7 = (uint32_t)(load8(v12 + 1) != 0u) | v8;
+  v18 = v7 & 1u;
+  v17 = v18 ? 0ull : 2ull;
+  v7 = v7 ^ 1u;
+  if (v18)
+    goto after_18;
+  if (v14 & 1u)
+    goto after_18;
+  v17 = 2;
+  if (p5 == 0)
+    goto after_9;
+  v19 = v19 + 1;
+again_21:;
+  if (load8(v19) == 0u)
+    goto after_1;
+  v19 = v19 + 5;
+  p5 = p5 + 0xffffffffffffffff;
+  if (p5 != 0)
+    goto again_21;
+  goto after_9;
+after_18:;
+  if (v7 & 1u)
+    goto after_9;
+after_1:;
+  der_view_walk_draw_left_2(p1, p2, frame + 304, frame + 264);
   store64(p0 + 16, 0);
   store64(p0 + 8, 0);
   store64(p0, 0);
-after_16:;
+  goto after_14;
+after_9:;
+  der_view_walk_draw_end_2(p1, frame + 304, frame + 264, v17);
+  store64(p0 + 16, p4 - v17);
+  store64(p0 + 8, v12 + v17);
+  store64(p0, 1);
+after_14:;
 }
 
 /* der_view::walk::follows::<#ae7123e416480c13> */
@@ -15470,6 +15651,174 @@ after_7:;
   return v4;
 }
 
+/* der_view::walk::draw_left::<#ae7123e416480c13> */
+static void der_view_walk_draw_left_2(uint64_t p0, uint64_t p1, uint64_t p2, uint64_t p3)
+{
+  FRAME(384)
+  uint32_t v12 = 0, v13 = 0, t0;
+  uint64_t v5 = 0, v6 = 0, v7 = 0, v8 = 0, v9 = 0, v10 = 0, v11 = 0;
+  v5 = 1;
+  if (load8(p3 + 1) == 1u)
+    goto after_1;
+  v6 = load64(p2 + 24);
+  v7 = load64(p1 + 16);
+  v8 = load64(p2);
+  v9 = (v7 < v8) ? v7 : v8;
+  v10 = v7 - v9;
+  v11 = load64(p2 + 16);
+  v7 = v11 - v8;
+  v10 = (v10 < v7) ? v10 : v7;
+  p1 = load64(p1 + 8) + v9;
+  v9 = load64(p3 + 16);
+  p3 = load64(p3 + 8);
+  p2 = load64(p2 + 8);
+  if (p2 != 0)
+    goto after_2;
+  v12 = 3;
+  if (v8 != 0)
+    goto after_3;
+after_2:;
+  t0 = (uint32_t)(load8(p0 + 24) != 1u) | (uint32_t)(((uint32_t)load8(p0 + 30) & 0xffu) != 0u);
+  v13 = t0 | (uint32_t)load8(p0 + 34);
+  v12 = (v13 & 1u) ? 0u : 2u;
+  v5 = (uint64_t)(v13 ^ 0xffffffffu) & 1;
+after_3:;
+  store64(frame + 112, 0);
+  store64(frame + 104, v7);
+  store64(frame + 96, 0);
+  store64(frame + 88, v7);
+  store64(frame + 80, v7);
+  store64(frame + 72, 1);
+  store64(frame + 64, 0);
+  store64(frame + 56, CONSTANT(0));
+  store32(frame + 52, 0);
+  store64(frame + 44, 0);
+  store32(frame + 40, 2);
+  store64(frame + 32, v6);
+  store64(frame + 24, v11);
+  store64(frame + 16, p2);
+  store64(frame + 8, v8);
+  store64(frame + 120, 0);
+  store64(frame + 128, 0);
+  store64(frame + 136, 0);
+  store32(frame + 168, v12);
+  store64(frame + 160, v5);
+  store64(frame + 152, 0);
+  store64(frame + 144, CONSTANT(0));
+  fill(frame + 172, 0, 180);
+  store64(frame + 376, v10);
+  store64(frame + 368, p1);
+  store64(frame + 360, v9);
+  store64(frame + 352, p3);
+  sec1_c_picture_lines_Lines_push_row(p0, frame + 8);
+after_1:;
+  return;
+}
+
+/* der_view::walk::draw_end::<#ae7123e416480c13> */
+static void der_view_walk_draw_end_2(uint64_t p0, uint64_t p1, uint64_t p2, uint64_t p3)
+{
+  FRAME(384)
+  uint32_t v5 = 0, v12 = 0, v13 = 0, t0;
+  uint64_t v6 = 0, v7 = 0, v8 = 0, v9 = 0, v10 = 0, v11 = 0;
+  if (load8(p2 + 1) == 1u)
+    goto after_1;
+  v5 = load8(p1 + 24);
+  v6 = load64(p1 + 16);
+  v7 = load64(p1 + 8);
+  v8 = load64(p1);
+  v9 = load64(p2 + 16);
+  if (v9 == 0)
+    goto after_2;
+  v10 = p1 + 25;
+  v11 = load64(p2 + 8);
+  p1 = v11 + 1;
+  p2 = v9;
+again_4:;
+  if (load8(p1) == 0u)
+    goto after_3;
+  p1 = p1 + 5;
+  p2 = p2 + 0xffffffffffffffff;
+  if (p2 != 0)
+    goto again_4;
+  goto after_2;
+after_3:;
+  if (v7 != 0)
+    goto after_5;
+  if (v8 == 0)
+    goto after_5;
+  v12 = 3;
+  p1 = 1;
+  goto after_6;
+after_5:;
+  t0 = (uint32_t)(load8(p0 + 24) != 1u) | (uint32_t)(((uint32_t)load8(p0 + 30) & 0xffu) != 0u);
+  v13 = t0 | (uint32_t)load8(p0 + 34);
+  v12 = (v13 & 1u) ? 0u : 2u;
+  p1 = (uint64_t)(v13 ^ 0xffffffffu) & 1;
+after_6:;
+  store8(frame + 32, (uint8_t)v5);
+  store64(frame + 24, v6);
+  store64(frame + 16, v7);
+  store64(frame + 8, v8);
+  store64(frame + 80, 0);
+  store64(frame + 72, 1);
+  store64(frame + 64, 0);
+  store64(frame + 56, CONSTANT(0));
+  store32(frame + 52, 0);
+  store64(frame + 44, 0);
+  store32(frame + 40, 2);
+  store64(frame + 88, 0);
+  store64(frame + 96, 0);
+  store64(frame + 104, 0);
+  store64(frame + 112, 0);
+  store64(frame + 120, 0);
+  store64(frame + 128, 0);
+  store64(frame + 136, 0);
+  store32(frame + 33, load32(v10));
+  store32(frame + 36, load32(v10 + 3));
+  store32(frame + 168, v12);
+  store64(frame + 160, p1);
+  store64(frame + 152, 0);
+  store64(frame + 144, CONSTANT(0));
+  fill(frame + 172, 0, 180);
+  store64(frame + 376, 0);
+  store64(frame + 368, CONSTANT(0));
+  store64(frame + 360, v9);
+  store64(frame + 352, v11);
+  sec1_c_picture_lines_Lines_push_row(p0, frame + 8);
+after_2:;
+  if (p3 == 0)
+    goto after_1;
+  store32(frame + 33, 0);
+  store8(frame + 32, (uint8_t)v5);
+  store64(frame + 24, v6);
+  store64(frame + 8, v8);
+  store64(frame + 80, 0);
+  store64(frame + 72, 1);
+  store64(frame + 64, 2);
+  store64(frame + 56, CONSTANT(1941));
+  store32(frame + 52, 0);
+  store64(frame + 44, 0);
+  store64(frame + 36, 0x100000000);
+  store64(frame + 88, 0);
+  store64(frame + 96, 0);
+  store64(frame + 104, 0);
+  store64(frame + 112, 0);
+  store64(frame + 120, 0);
+  store64(frame + 128, 0);
+  store64(frame + 136, 0);
+  store64(frame + 16, v7 - (uint64_t)(uint32_t)(v7 != 0));
+  store64(frame + 144, CONSTANT(0));
+  fill(frame + 152, 0, 200);
+  store64(frame + 376, 0);
+  store64(frame + 368, CONSTANT(0));
+  store64(frame + 360, 0);
+  store64(frame + 352, CONSTANT(0));
+  sec1_c_picture_lines_Lines_push_row(p0, frame + 8);
+after_1:;
+  return;
+}
+
 /* der_view::known::Known::see */
 static void der_view_known_Known_see(uint64_t p0, uint32_t p1, uint64_t p2)
 {
@@ -15794,46 +16143,126 @@ after_23:;
 static void der_view_walk_draw_step_5(uint64_t p0, uint64_t p1, uint64_t p2, uint64_t p3,
     uint64_t p4, uint64_t p5, uint64_t p6)
 {
-  FRAME(816)
-  uint32_t v8 = 0, v12 = 0, v13 = 0, v14 = 0, v17 = 0, v18 = 0, t0;
-  uint64_t v9 = 0, v10 = 0, v11 = 0, v15 = 0, v16 = 0, v19 = 0, v20 = 0, v21 = 0, v22 = 0,
-      v23 = 0, v24 = 0, v25 = 0, v26 = 0, v27 = 0, v28 = 0, v29 = 0, t1, t2;
-  store32(frame + 184, load32(p4 + 25));
-  store32(frame + 187, load32(p4 + 28));
+  FRAME(272)
+  uint32_t v8 = 0, v12 = 0, v14 = 0, v15 = 0, v16 = 0;
+  uint64_t v9 = 0, v10 = 0, v11 = 0, v13 = 0;
+  store32(frame + 248, load32(p4 + 25));
+  store32(frame + 251, load32(p4 + 28));
   v8 = load8(p4 + 24);
   v9 = load64(p4 + 16);
   v10 = load64(p4 + 8);
   p4 = load64(p4);
-  v11 = 0;
-  store64(frame + 200, 0);
+  store64(frame + 264, 0);
+  store64(frame + 256, 0);
+  store64(frame + 208, 0);
+  store64(frame + 216, 0);
+  store64(frame + 224, 0);
+  store64(frame + 232, 0);
+  store64(frame + 240, 0);
+  store64(frame + 184, 0);
   store64(frame + 192, 0);
-  v12 = 0;
-  store32(frame + 176, 0);
-  store32(frame + 179, 0);
-  store64(frame + 136, 0);
-  store64(frame + 144, 0);
+  store64(frame + 200, 0);
   store64(frame + 152, 0);
   store64(frame + 160, 0);
   store64(frame + 168, 0);
-  store64(frame + 112, 0);
-  store64(frame + 120, 0);
-  store64(frame + 128, 0);
-  store64(frame + 88, 0);
-  store64(frame + 96, 0);
-  store64(frame + 104, 0);
-  store64(frame + 80, 0);
-  store64(frame + 72, 0);
+  store64(frame + 176, 0);
   store64(frame + 64, 0);
+  store64(frame + 72, 0);
+  store64(frame + 80, 0);
   store64(frame + 56, 0);
   store64(frame + 48, 0);
   store64(frame + 40, 0);
-  v13 = 1;
-  v14 = v8 & 1u;
-  v15 = v10 + 1;
-  v16 = p4 + load64(p6 + 16);
-  v17 = load8(p2);
-  v18 = load8(p6 + 58);
-  switch ((uint32_t)((uint64_t)v18 & 0xff)) {
+  store64(frame + 32, 0);
+  store64(frame + 16, 0);
+  store64(frame + 24, 0);
+  v11 = v10 + 1;
+  store64(frame + 128, v11);
+  store64(frame + 136, v9);
+  v12 = v8 & 1u;
+  store8(frame + 144, (uint8_t)v12);
+  store32(frame + 145, 0);
+  store32(frame + 148, 0);
+  v13 = p4 + load64(p6 + 16);
+  store64(frame + 120, v13);
+  der_view_walk_opened_of_5(frame + 152, p1, p2, p3, frame + 120, p6);
+  store8(frame + 112, (uint8_t)v8);
+  store64(frame + 104, v9);
+  store64(frame + 96, v10);
+  store64(frame + 88, p4);
+  store32(frame + 113, load32(frame + 248));
+  store32(frame + 116, load32(frame + 251));
+  v14 = load8(frame + 176);
+  p4 = load64(frame + 168);
+  v15 = load8(frame + 160);
+  v8 = load8(frame + 152);
+  der_view_walk_draw_element_5(p1, p2, frame + 88, p5, (uint32_t)(v8 == 1u), p6);
+  if (v8 != 1u)
+    goto after_1;
+  v8 = load8(p6 + 24);
+  v16 = load8(p5 + 1);
+  der_view_grammar_Structure_components(frame, v15);
+  store8(frame + 209, (uint8_t)v16);
+  store8(frame + 208, (uint8_t)(uint32_t)(v8 != 1u));
+  store8(frame + 184, (uint8_t)v14);
+  store64(frame + 32, p4 + v13);
+  store64(frame + 40, v11);
+  store64(frame + 48, v9);
+  store8(frame + 56, (uint8_t)v12);
+  store64(frame + 224, load64(frame + 8));
+  store64(frame + 216, load64(frame));
+  store8(frame + 185, (uint8_t)(uint32_t)load8(p2 + 1));
+  store64(frame + 192, load64(p2 + 8));
+  store64(frame + 200, load64(p2 + 16));
+  store64(frame + 240, load64(p6 + 96) - p4);
+  store64(frame + 232, load64(p6 + 88) + p4);
+  store32(frame + 60, 0);
+  store32(frame + 57, 0);
+  der_view_walk_walk_5(frame + 64, p1, frame + 184, p3, frame + 32, frame + 208);
+  if (load8(frame + 64) != 1u)
+    goto after_2;
+  if (v8 == 1u)
+    goto after_3;
+  store64(frame + 24, load64(frame + 80));
+  store64(frame + 16, load64(frame + 72));
+  goto after_4;
+after_1:;
+  p4 = load64(p6 + 112);
+  p6 = load64(p6 + 104);
+  store64(p0, 1);
+  store64(p0 + 8, p6);
+  store64(p0 + 16, p4);
+  store64(frame + 264, p4);
+  store64(frame + 256, p6);
+  goto after_5;
+after_2:;
+  store64(p0 + 16, 0);
+  store64(p0 + 8, 0);
+  store64(p0, 0);
+  goto after_5;
+after_3:;
+  store64(frame + 24, load64(p6 + 112));
+  store64(frame + 16, load64(p6 + 104));
+after_4:;
+  store64(p0, 1);
+  store64(p0 + 8, load64(frame + 16));
+  store64(p0 + 16, load64(frame + 24));
+  goto after_5;
+after_5:;
+}
+
+/* der_view::walk::opened_of::<#5fb8ad1151d26732> */
+static void der_view_walk_opened_of_5(uint64_t p0, uint64_t p1, uint64_t p2, uint64_t p3,
+    uint64_t p4, uint64_t p5)
+{
+  FRAME(192)
+  uint32_t v7 = 0, v8 = 0, v9 = 0, v14 = 0, t0;
+  uint64_t v10 = 0, v11 = 0, v12 = 0, v13 = 0;
+  v7 = 0;
+  store32(frame + 59, 0);
+  store32(frame + 56, 0);
+  v8 = load8(p2);
+  v9 = load8(p5 + 58);
+  switch ((uint32_t)((uint64_t)v9 & 0xff)) {
   case 6:
     goto after_1;
   case 7:
@@ -15844,569 +16273,397 @@ static void der_view_walk_draw_step_5(uint64_t p0, uint64_t p1, uint64_t p2, uin
     goto after_4;
   }
 after_1:;
-  v12 = load8(p6 + 59);
+  store32(frame + 64, 0);
+  store32(frame + 67, 0);
+  v10 = load8(p5 + 59);
+  p5 = 0;
+  v11 = 1;
+  v7 = v8;
   goto after_5;
 after_2:;
-  v19 = load64(p6 + 88);
-  v20 = load64(p6 + 96);
-  v12 = load8(p6 + 59);
-  v17 = 0;
-  store32(frame + 233, 0);
-  store8(frame + 232, (uint8_t)v14);
-  store64(frame + 224, v9);
-  store64(frame + 216, v15);
-  store64(frame + 208, v16);
-  store32(frame + 236, 0);
-  v11 = 0;
-  store64(frame + 408, 0);
-  store64(frame + 344, 0);
-  store64(frame + 784, 0);
-  store64(frame + 792, 0);
-  store64(frame + 800, 0);
-  der_view_grammar_Structure_components(frame + 24, v12);
-  store64(frame + 440, v20);
-  store64(frame + 432, v19);
-  store16(frame + 408, 256);
-  store8(frame + 344, 0);
-  store64(frame + 424, load64(frame + 32));
-  store64(frame + 416, load64(frame + 24));
-  store64(frame + 352, load64(p2 + 8));
-  store64(frame + 360, load64(p2 + 16));
-  store8(frame + 345, (uint8_t)(uint32_t)load8(p2 + 1));
-  der_view_walk_walk_5(frame + 784, p1, frame + 344, p3, frame + 208, frame + 408);
-  v13 = (uint32_t)(load8(frame + 784) == 1u);
-  v12 = v13 ? v12 : 0u;
+  v11 = load64(p5 + 88);
+  v10 = load64(p5 + 96);
+  v8 = load8(p5 + 59);
+  p5 = 0;
+  store64(frame + 120, 0);
+  store64(frame + 96, 0);
+  store64(frame + 72, 0);
+  store64(frame + 80, 0);
+  store64(frame + 88, 0);
+  store64(frame + 160, load64(p4));
+  store64(frame + 168, load64(p4 + 8));
+  store64(frame + 176, load64(p4 + 16));
+  store64(frame + 184, load64(p4 + 24));
+  der_view_grammar_Structure_components(frame + 8, v8);
+  store64(frame + 152, v10);
+  store64(frame + 144, v11);
+  store16(frame + 120, 256);
+  store8(frame + 96, 0);
+  store64(frame + 136, load64(frame + 16));
+  store64(frame + 128, load64(frame + 8));
+  store64(frame + 104, load64(p2 + 8));
+  store64(frame + 112, load64(p2 + 16));
+  store8(frame + 97, (uint8_t)(uint32_t)load8(p2 + 1));
+  der_view_walk_walk_5(frame + 72, p1, frame + 96, p3, frame + 160, frame + 120);
+  v9 = load8(frame + 72);
+  store32(frame + 123, 0);
+  store32(frame + 120, 0);
+  store32(frame + 64, load32(frame + 120));
+  store32(frame + 67, load32(frame + 123));
+  v9 = (uint32_t)(v9 == 1u);
+  v10 = (uint64_t)(v9 ? v8 : 0u) & 0xff;
+  v11 = v9;
   goto after_5;
 after_3:;
-  v19 = load64(p6 + 96);
-  if (v19 == 0)
+  v10 = 0;
+  v12 = load64(p5 + 96);
+  if (v12 != 0)
     goto after_6;
-  v13 = 0;
-  v20 = load64(p6 + 88);
-  if (load8(v20))
-    goto after_7;
-  v19 = v19 + 0xffffffffffffffff;
-  if (v19 != 0)
+  v11 = 0;
+  goto after_7;
+after_6:;
+  v13 = load64(p5 + 88);
+  if (load8(v13) == 0u)
     goto after_8;
-  v13 = 0;
+  v11 = 0;
   goto after_7;
 after_8:;
-  v12 = load8(p6 + 59);
-  v17 = 0;
-  store32(frame + 433, 0);
-  store8(frame + 432, (uint8_t)v14);
-  store64(frame + 424, v9);
-  store64(frame + 416, v15);
-  store64(frame + 408, v16);
-  store32(frame + 436, 0);
-  t0 = der_view_walk_follows_5(p1, p2, p3, frame + 408, v12, v20 + 1, v19);
-  v13 = t0;
-  v12 = v13 ? v12 : 0u;
-  v11 = v13;
+  v11 = 0;
+  v12 = v12 + 0xffffffffffffffff;
+  if (v12 == 0)
+    goto after_7;
+  v7 = load8(p5 + 59);
+  store64(frame + 48, load64(p4 + 24));
+  store64(frame + 40, load64(p4 + 16));
+  store64(frame + 32, load64(p4 + 8));
+  store64(frame + 24, load64(p4));
+  t0 = der_view_walk_follows_5(p1, p2, p3, frame + 24, v7, v13 + 1, v12);
+  v8 = t0;
+  store32(frame + 123, 0);
+  store32(frame + 120, 0);
+  store32(frame + 56, load32(frame + 120));
+  store32(frame + 59, load32(frame + 123));
+  v10 = v8 ? ((uint64_t)v7 & 0xff) : 0ull;
+  v11 = v8;
+after_7:;
+  store32(frame + 67, load32(frame + 59));
+  store32(frame + 64, load32(frame + 56));
+  v7 = 0;
+  p5 = v11;
   goto after_5;
 after_4:;
-  v13 = 1;
-  if (load8(p6 + 24) != 1u)
+  if (load8(p5 + 24) != 1u)
     goto after_9;
-  v12 = 0;
-  if (load8(p6 + 1) != 1u)
-    goto after_6;
-  if ((((uint32_t)((v18 & 0xffu) == 9u) | v17) & 1u) == 0u)
-    goto after_6;
-after_9:;
-  v12 = 84;
-  goto after_5;
-after_7:;
-  v12 = 0;
-  v17 = 0;
-  goto after_5;
-after_6:;
-  v13 = 0;
-  v17 = 0;
-after_5:;
-  v19 = (frame + 208) + 56;
-  fill(v19, 0, 80);
-  if (load8(p5 + 1))
+  v14 = load8(p5 + 1);
+  v7 = 0;
+  store32(frame + 123, 0);
+  store32(frame + 120, 0);
+  v10 = 0;
+  if (v14 == 1u)
     goto after_10;
-  store64(frame + 376, load64(p6 + 32));
-  store64(frame + 368, load64(p6 + 24));
-  store64(frame + 360, load64(p6 + 16));
-  store64(frame + 352, load64(p6 + 8));
-  store64(frame + 344, load64(p6));
-  v21 = load64(p6 + 88);
-  v20 = load64(p6 + 96);
-  t1 = der_view_content_shown_len(load8(p2 + 1), frame + 344, load8(p6 + 58), load8(p6 + 59),
-      v21, v20);
-  v22 = t1;
-  v23 = CONSTANT(0);
-  v24 = 0;
-  v25 = 0;
-  v26 = CONSTANT(0);
-  v18 = load8(p6 + 80);
-  if (v18)
-    goto after_11;
-  v25 = load64(p5 + 16);
-  v26 = load64(p5 + 8);
-after_11:;
-  v27 = p6 + 40;
-  v28 = p6 + 56;
-  v29 = (load8(frame + 368) == 1u) ? v20 : 0ull;
-  if (v13)
-    goto after_12;
-  v23 = load64(p2 + 16);
-  v24 = load64(frame + 360) + p4;
-  t2 = v23;
-  v23 = (v23 < v24) ? v23 : v24;
-  v24 = t2 - v23;
-  v24 = (v24 < v20) ? v24 : v20;
-  v23 = load64(p2 + 8) + v23;
-after_12:;
-  store32(v19, load32(v28));
-  store8(v19 + 4, (uint8_t)(uint32_t)load8(v28 + 4));
-  store64(frame + 240, load64(p6 + 32));
-  store64(frame + 232, load64(p6 + 24));
-  store64(frame + 224, load64(p6 + 16));
-  store64(frame + 216, load64(p6 + 8));
-  store64(frame + 208, load64(p6));
-  store64(frame + 248, load64(v27));
-  store64(frame + 256, load64(v27 + 8));
-  store8(frame + 336, (uint8_t)v13);
-  store64(frame + 328, v24);
-  store64(frame + 320, v23);
-  store64(frame + 312, v22);
-  store64(frame + 304, v21);
-  store64(frame + 296, v29);
-  store8(frame + 288, (uint8_t)v18);
-  store64(frame + 280, v25);
-  store64(frame + 272, v26);
-  store8(frame + 808, (uint8_t)v8);
-  store64(frame + 800, v9);
-  store64(frame + 792, v10);
-  store64(frame + 784, p4);
-  store32(frame + 809, load32(frame + 184));
-  store32(frame + 812, load32(frame + 187));
-  fill(frame + 408, 0, 376);
-  store64(frame + 400, load64(p1 + 16));
-  store64(frame + 392, load64(p1 + 8));
-  store64(frame + 384, load64(p1));
-  der_view_facts_RowFacts_of_element(frame + 408, frame + 384, 0, frame + 784, frame + 208);
-  der_view_known_Known_see(p1, load8(frame + 268), frame + 408);
+  v11 = 0;
+  goto after_11;
 after_10:;
-  if (v13 == 0u)
-    goto after_13;
-  v13 = load8(p6 + 24);
-  v8 = load8(p5 + 1);
-  der_view_grammar_Structure_components(frame + 8, v12);
-  store8(frame + 137, (uint8_t)v8);
-  v13 = (uint32_t)(v13 != 1u);
-  store8(frame + 136, (uint8_t)v13);
-  store8(frame + 112, (uint8_t)v17);
-  store64(frame + 56, v11 + v16);
-  store64(frame + 64, v15);
-  store64(frame + 72, v9);
-  store8(frame + 80, (uint8_t)v14);
-  store64(frame + 152, load64(frame + 16));
-  store64(frame + 144, load64(frame + 8));
-  store8(frame + 113, (uint8_t)(uint32_t)load8(p2 + 1));
-  store64(frame + 120, load64(p2 + 8));
-  store64(frame + 128, load64(p2 + 16));
-  store64(frame + 168, load64(p6 + 96) - v11);
-  store64(frame + 160, load64(p6 + 88) + v11);
-  store32(frame + 84, load32(frame + 179));
-  store32(frame + 81, load32(frame + 176));
-  der_view_walk_walk_5(frame + 88, p1, frame + 112, p3, frame + 56, frame + 136);
-  if (load8(frame + 88) != 1u)
-    goto after_14;
-  if (v13 == 0u)
-    goto after_15;
-  store64(frame + 48, load64(frame + 104));
-  store64(frame + 40, load64(frame + 96));
-  goto after_16;
-after_13:;
-  p4 = load64(p6 + 112);
-  p6 = load64(p6 + 104);
-  store64(p0, 1);
-  store64(p0 + 8, p6);
-  store64(p0 + 16, p4);
-  store64(frame + 200, p4);
-  store64(frame + 192, p6);
-  goto after_17;
-after_14:;
-  store64(p0 + 16, 0);
-  store64(p0 + 8, 0);
-  store64(p0, 0);
-  goto after_17;
-after_15:;
-  store64(frame + 48, load64(p6 + 112));
-  store64(frame + 40, load64(p6 + 104));
-after_16:;
-  store64(p0, 1);
-  store64(p0 + 8, load64(frame + 40));
-  store64(p0 + 16, load64(frame + 48));
-after_17:;
+  v11 = 0;
+  if ((((uint32_t)((v9 & 0xffu) == 9u) | v8) & 1u) == 0u)
+    goto after_11;
+after_9:;
+  store32(frame + 123, 0);
+  store32(frame + 120, 0);
+  v11 = 1;
+  v10 = 84;
+  v7 = v8;
+after_11:;
+  store32(frame + 67, load32(frame + 123));
+  store32(frame + 64, load32(frame + 120));
+  p5 = 0;
+after_5:;
+  store64(p0, v11);
+  store8(p0 + 24, (uint8_t)v7);
+  store64(p0 + 16, p5);
+  store64(p0 + 8, v10);
+  store32(p0 + 25, load32(frame + 64));
+  store32(p0 + 28, load32(frame + 67));
+  return;
+}
+
+/* der_view::walk::draw_element::<#5fb8ad1151d26732> */
+static void der_view_walk_draw_element_5(uint64_t p0, uint64_t p1, uint64_t p2, uint64_t p3,
+    uint32_t p4, uint64_t p5)
+{
+  FRAME(608)
+  uint32_t v15 = 0;
+  uint64_t v7 = 0, v8 = 0, v9 = 0, v10 = 0, v11 = 0, v12 = 0, v13 = 0, v14 = 0, v16 = 0,
+      v17 = 0, t0, t1;
+  v7 = load64(p2);
+  fill(frame + 56, 0, 80);
+  if (load8(p3 + 1) == 1u)
+    goto after_1;
+  store64(frame + 168, load64(p5 + 32));
+  store64(frame + 160, load64(p5 + 24));
+  store64(frame + 152, load64(p5 + 16));
+  store64(frame + 144, load64(p5 + 8));
+  store64(frame + 136, load64(p5));
+  v8 = load64(p5 + 88);
+  v9 = load64(p5 + 96);
+  t0 = der_view_content_shown_len(load8(p1 + 1), frame + 136, load8(p5 + 58), load8(p5 + 59),
+      v8, v9);
+  v10 = t0;
+  v11 = CONSTANT(0);
+  v12 = 0;
+  v13 = 0;
+  v14 = CONSTANT(0);
+  v15 = load8(p5 + 80);
+  if (v15)
+    goto after_2;
+  v13 = load64(p3 + 16);
+  v14 = load64(p3 + 8);
+after_2:;
+  p2 = p2 + 8;
+  p3 = p5 + 40;
+  v16 = p5 + 56;
+  v17 = (load8(frame + 160) == 1u) ? v9 : 0ull;
+  if (p4)
+    goto after_3;
+  v11 = load64(p1 + 16);
+  v12 = load64(frame + 152) + v7;
+  t1 = v11;
+  v11 = (v11 < v12) ? v11 : v12;
+  v12 = t1 - v11;
+  v12 = (v12 < v9) ? v12 : v9;
+  v11 = load64(p1 + 8) + v11;
+after_3:;
+  store64(frame + 32, load64(p5 + 32));
+  store64(frame + 24, load64(p5 + 24));
+  store64(frame + 16, load64(p5 + 16));
+  store64(frame + 8, load64(p5 + 8));
+  store64(frame, load64(p5));
+  store64(frame + 40, load64(p3));
+  store64(frame + 48, load64(p3 + 8));
+  store32(frame + 56, load32(v16));
+  store8(frame + 60, (uint8_t)(uint32_t)load8(v16 + 4));
+  store8(frame + 128, (uint8_t)p4);
+  store64(frame + 120, v12);
+  store64(frame + 112, v11);
+  store64(frame + 104, v10);
+  store64(frame + 96, v8);
+  store64(frame + 88, v17);
+  store8(frame + 80, (uint8_t)v15);
+  store64(frame + 72, v13);
+  store64(frame + 64, v14);
+  store64(frame + 576, v7);
+  store64(frame + 584, load64(p2));
+  store64(frame + 592, load64(p2 + 8));
+  store64(frame + 600, load64(p2 + 16));
+  fill(frame + 200, 0, 376);
+  store64(frame + 192, load64(p0 + 16));
+  store64(frame + 184, load64(p0 + 8));
+  store64(frame + 176, load64(p0));
+  der_view_facts_RowFacts_of_element(frame + 200, frame + 176, 0, frame + 576, frame);
+  der_view_known_Known_see(p0, load8(frame + 60), frame + 200);
+after_1:;
+  return;
 }
 
 /* der_view::walk::walk::<#5fb8ad1151d26732> */
 static void der_view_walk_walk_5(uint64_t p0, uint64_t p1, uint64_t p2, uint64_t p3,
     uint64_t p4, uint64_t p5)
 {
-  FRAME(592)
-  uint32_t v9 = 0, v10 = 0, v15 = 0, v19 = 0, v21 = 0, t0, t1;
-  uint64_t v7 = 0, v8 = 0, v11 = 0, v12 = 0, v13 = 0, v14 = 0, v16 = 0, v17 = 0, v18 = 0, v20 = 0;
+  FRAME(464)
+  uint32_t v7 = 0, v8 = 0, v14 = 0, v18 = 0, v20 = 0;
+  uint64_t v9 = 0, v10 = 0, v11 = 0, v12 = 0, v13 = 0, v15 = 0, v16 = 0, v17 = 0, v19 = 0;
+  fill(frame + 144, 0, 120);
   store64(frame + 16, 0);
   store64(frame + 8, 0);
   store64(frame, 0);
-  store64(frame + 184, load64(p4));
-  store64(frame + 192, load64(p4 + 8));
-  store64(frame + 200, load64(p4 + 16));
-  store64(frame + 208, load64(p4 + 24));
-  store64(frame + 144, load64(p5));
-  store64(frame + 152, load64(p5 + 8));
-  store64(frame + 160, load64(p5 + 16));
-  store64(frame + 168, load64(p5 + 24));
-  store64(frame + 176, load64(p5 + 32));
-  v7 = load64(frame + 184);
-  if (p3 != 0)
+  store64(frame + 304, load64(p4));
+  store64(frame + 312, load64(p4 + 8));
+  store64(frame + 320, load64(p4 + 16));
+  store64(frame + 328, load64(p4 + 24));
+  store64(frame + 264, load64(p5));
+  store64(frame + 272, load64(p5 + 8));
+  store64(frame + 280, load64(p5 + 16));
+  store64(frame + 288, load64(p5 + 24));
+  store64(frame + 296, load64(p5 + 32));
+  if (p3 == 0)
     goto after_1;
-  v8 = load64(frame + 192);
-  goto after_2;
-after_1:;
-  v9 = load8(frame + 144);
-  v10 = v9 ^ 1u;
-  p4 = load64(frame + 176);
-  v8 = load64(frame + 192);
-  if (v8 > 63)
-    goto after_3;
-  v11 = (frame + 216) + 8;
-  v12 = (frame + 144) + 8;
-  v13 = frame + 88;
-  v14 = load64(frame + 168);
-again_15:;
-  v15 = load8(p2);
-  v16 = load64(frame + 160);
-  v17 = load64(frame + 152);
+  v7 = load8(frame + 264);
+  v8 = v7 ^ 1u;
+  p4 = load64(frame + 296);
+  if (load64(frame + 312) > 63)
+    goto after_2;
+  v9 = frame + 208;
+  v10 = (frame + 336) + 8;
+  v11 = (frame + 264) + 8;
+  v12 = load64(frame + 288);
+  v13 = load64(frame + 304);
+again_13:;
+  v14 = load8(p2);
+  v15 = load64(frame + 280);
+  v16 = load64(frame + 272);
   if (p4 > 1)
-    goto after_4;
+    goto after_3;
   switch ((uint32_t)p4) {
   case 1:
-    goto after_5;
+    goto after_4;
   default:
-    goto after_6;
+    goto after_5;
   }
+after_5:;
+  if (((v7 | v14) & 0xffu) == 0u)
+    goto after_6;
+  v17 = 0;
+  v18 = v14;
+  goto after_7;
 after_6:;
-  if (((v9 | v15) & 0xffu) == 0u)
-    goto after_7;
-  v18 = 0;
-  v19 = v15;
-  goto after_8;
-after_7:;
-  v18 = 0;
-  if (v16 != 0)
-    goto after_9;
-  v16 = 0;
+  v17 = 0;
+  if (v15 != 0)
+    goto after_8;
   p4 = 0;
-  goto after_10;
-after_9:;
-  p5 = v17 + 1;
-  v20 = v16;
+  goto after_9;
+after_8:;
+  p5 = v16 + 1;
+  v19 = v15;
+again_10:;
+  if (load8(p5) == 0u)
+    goto after_4;
+  p5 = p5 + 5;
+  v19 = v19 + 0xffffffffffffffff;
+  if (v19 != 0)
+    goto again_10;
+  p4 = 0;
+  goto after_9;
+after_3:;
+  if (load8(v12))
+    goto after_4;
+  v18 = (uint32_t)(load8(v12 + 1) != 0u) | v8;
+  v20 = v18 & 1u;
+  v17 = v20 ? 0ull : 2ull;
+  v18 = v18 ^ 1u;
+  if (v20)
+    goto after_7;
+  if (v14 & 1u)
+    goto after_7;
+  v17 = 2;
+  if (v15 == 0)
+    goto after_9;
+  p5 = v16 + 1;
+  v19 = v15;
 again_11:;
   if (load8(p5) == 0u)
-    goto after_5;
+    goto after_4;
   p5 = p5 + 5;
-  v20 = v20 + 0xffffffffffffffff;
-  if (v20 != 0)
+  v19 = v19 + 0xffffffffffffffff;
+  if (v19 != 0)
     goto again_11;
-  p4 = 0;
-  goto after_10;
+  goto after_9;
+after_7:;
+  if (v18 & 1u)
+    goto after_9;
 after_4:;
-  if (load8(v14))
-    goto after_5;
-  v19 = (uint32_t)(load8(v14 + 1) != 0u) | v10;
-  v21 = v19 & 1u;
-  v18 = v21 ? 0ull : 2ull;
-  v19 = v19 ^ 1u;
-  if (v21)
-    goto after_8;
-  if (v15 & 1u)
-    goto after_8;
-  v18 = 2;
-  if (v16 != 0)
-    goto after_12;
-  v16 = 0;
-  goto after_10;
-after_12:;
-  p5 = v17 + 1;
-  v20 = v16;
-again_13:;
-  if (load8(p5) == 0u)
-    goto after_5;
-  p5 = p5 + 5;
-  v20 = v20 + 0xffffffffffffffff;
-  if (v20 != 0)
-    goto again_13;
-  goto after_10;
-after_8:;
-  if (v19 & 1u)
-    goto after_10;
-after_5:;
-  fill(frame + 216, 0, 128);
-  v15 = v15 & 1u;
-  der_view_step_step_by(frame + 216, v15, v15, v17, v16, v14, p4);
-  v15 = load8(frame + 216);
-  move(frame + 24, v11, 120);
-  if (v15 != 1u)
-    goto after_2;
+  fill(frame + 336, 0, 128);
+  v14 = v14 & 1u;
+  der_view_step_step_by(frame + 336, v14, v14, v16, v15, v12, p4);
+  v14 = load8(frame + 336);
+  move(frame + 24, v10, 120);
+  if (v14 != 1u)
+    goto after_1;
+  move(frame + 144, frame + 24, 120);
   p3 = p3 + 0xffffffffffffffff;
-  der_view_walk_draw_step_5(frame, p1, p2, p3, frame + 184, frame + 144, frame + 24);
+  der_view_walk_draw_step_5(frame, p1, p2, p3, frame + 304, frame + 264, frame + 144);
   if (load8(frame) != 1u)
-    goto after_14;
-  store64(v12, load64(v13));
-  store64(v12 + 8, load64(v13 + 8));
+    goto after_12;
+  store64(v11, load64(v9));
+  store64(v11 + 8, load64(v9 + 8));
   p5 = load64(frame + 16);
-  store64(frame + 176, p5);
-  v14 = load64(frame + 8);
-  store64(frame + 168, v14);
-  v7 = (p4 - p5) + v7;
-  store64(frame + 184, v7);
+  store64(frame + 296, p5);
+  v12 = load64(frame + 8);
+  store64(frame + 288, v12);
+  v13 = (p4 - p5) + v13;
+  store64(frame + 304, v13);
   p4 = p5;
-  if (p3 == 0)
-    goto after_2;
-  goto again_15;
-after_14:;
+  if (p3 != 0)
+    goto again_13;
+  goto after_1;
+after_12:;
   store64(p0 + 16, 0);
   store64(p0 + 8, 0);
   store64(p0, 0);
-  goto after_16;
-after_3:;
-  v15 = load8(p2);
-  v14 = load64(frame + 168);
-  v16 = load64(frame + 160);
-  v17 = load64(frame + 152);
+  goto after_14;
+after_2:;
+  v14 = load8(p2);
+  v12 = load64(frame + 288);
+  p5 = load64(frame + 280);
+  v19 = load64(frame + 272);
   if (p4 > 1)
-    goto after_17;
+    goto after_15;
   switch ((uint32_t)p4) {
   case 1:
-    goto after_2;
+    goto after_1;
   default:
-    goto after_18;
+    goto after_16;
   }
-after_18:;
-  if (((v9 | v15) & 0xffu) == 0u)
-    goto after_19;
-  v18 = 0;
-  v9 = v15;
-  goto after_20;
-after_19:;
-  p4 = 0;
-  if (v16 != 0)
-    goto after_21;
-  v16 = 0;
-  v18 = 0;
-  goto after_10;
-after_21:;
-  p5 = v17 + 1;
-  v20 = v16;
-again_22:;
-  if (load8(p5) == 0u)
-    goto after_2;
-  p5 = p5 + 5;
-  v20 = v20 + 0xffffffffffffffff;
-  if (v20 != 0)
-    goto again_22;
-  v18 = 0;
-  goto after_10;
+after_16:;
+  if (((v7 | v14) & 0xffu) == 0u)
+    goto after_17;
+  v17 = 0;
+  v7 = v14;
+  goto after_18;
 after_17:;
-  if (load8(v14))
-    goto after_2;
-  v9 = (uint32_t)(load8(v14 + 1) != 0u) | v10;
-  v19 = v9 & 1u;
-  v18 = v19 ? 0ull : 2ull;
-  v9 = v9 ^ 1u;
-  if (v19)
-    goto after_20;
-  if (v15 & 1u)
-    goto after_20;
-  v18 = 2;
-  if (v16 != 0)
-    goto after_23;
-  v16 = 0;
-  goto after_10;
-after_23:;
-  p5 = v17 + 1;
-  v20 = v16;
-again_24:;
-  if (load8(p5) == 0u)
-    goto after_2;
-  p5 = p5 + 5;
-  v20 = v20 + 0xffffffffffffffff;
-  if (v20 != 0)
-    goto again_24;
-  goto after_10;
-after_20:;
-  if ((v9 & 1u) == 0u)
-    goto after_2;
-after_10:;
-  if (load8(frame + 145))
-    goto after_25;
-  v15 = load8(frame + 208);
-  p3 = load64(frame + 200);
-  if (v16 == 0)
-    goto after_26;
-  p2 = frame + 209;
-  p5 = v17 + 1;
-  v20 = v16;
-again_28:;
-  if (load8(p5) == 0u)
-    goto after_27;
-  p5 = p5 + 5;
-  v20 = v20 + 0xffffffffffffffff;
-  if (v20 != 0)
-    goto again_28;
-  goto after_26;
-after_27:;
-  if (v8 != 0)
-    goto after_29;
-  if (v7 == 0)
-    goto after_29;
-  v9 = 3;
-  p5 = 1;
-  goto after_30;
-after_29:;
-  t0 = (uint32_t)(load8(p1) != 1u) | (uint32_t)(((uint32_t)load8(p1 + 6) & 0xffu) != 0u);
-  v19 = t0 | (uint32_t)load8(p1 + 10);
-  v9 = (v19 & 1u) ? 0u : 2u;
-  p5 = (uint64_t)(v19 ^ 0xffffffffu) & 1;
-after_30:;
-  store8(frame + 240, (uint8_t)v15);
-  store64(frame + 232, p3);
-  store64(frame + 224, v8);
-  store64(frame + 216, v7);
-  store64(frame + 288, 0);
-  store64(frame + 280, 1);
-  store64(frame + 272, 0);
-  store64(frame + 264, CONSTANT(0));
-  store32(frame + 260, 0);
-  store64(frame + 252, 0);
-  store32(frame + 248, 2);
-  store64(frame + 296, 0);
-  store64(frame + 304, 0);
-  store64(frame + 312, 0);
-  store64(frame + 320, 0);
-  store64(frame + 328, 0);
-  store64(frame + 336, 0);
-  store64(frame + 344, 0);
-  store32(frame + 241, load32(p2));
-  store32(frame + 244, load32(p2 + 3));
-  store32(frame + 376, v9);
-  store64(frame + 360, 0);
-  store64(frame + 352, CONSTANT(0));
-  store64(frame + 368, p5);
-  fill(frame + 380, 0, 180);
-  store64(frame + 584, 0);
-  store64(frame + 576, CONSTANT(0));
-  store64(frame + 568, v16);
-  store64(frame + 560, v17);
+  p4 = 0;
+  if (p5 != 0)
+    goto after_19;
+  v17 = 0;
+  goto after_9;
+after_19:;
+  v19 = v19 + 1;
+again_20:;
+  if (load8(v19) == 0u)
+    goto after_1;
+  v19 = v19 + 5;
+  p5 = p5 + 0xffffffffffffffff;
+  if (p5 != 0)
+    goto again_20;
+  v17 = 0;
+  goto after_9;
+after_15:;
+  if (load8(v12))
+    goto after_1;
+  v7 = (uint32_t)(load8(v12 + 1) != 0u) | v8;
+  v18 = v7 & 1u;
+  v17 = v18 ? 0ull : 2ull;
+  v7 = v7 ^ 1u;
+  if (v18)
+    goto after_18;
+  if (v14 & 1u)
+    goto after_18;
+  v17 = 2;
   if (p5 == 0)
-    goto after_26;
-  der_view_known_Known_see(p1, 0, frame + 216);
-after_26:;
-  if (v18 == 0)
-    goto after_25;
-  store32(frame + 241, 0);
-  store8(frame + 240, (uint8_t)v15);
-  store64(frame + 232, p3);
-  store64(frame + 216, v7);
-  store64(frame + 288, 0);
-  store64(frame + 280, 1);
-  store64(frame + 272, 2);
-  store64(frame + 264, CONSTANT(1941));
-  store32(frame + 260, 0);
-  store64(frame + 252, 0);
-  store64(frame + 244, 0x100000000);
-  store64(frame + 296, 0);
-  store64(frame + 304, 0);
-  store64(frame + 312, 0);
-  store64(frame + 320, 0);
-  store64(frame + 328, 0);
-  store64(frame + 336, 0);
-  store64(frame + 344, 0);
-  store64(frame + 224, v8 - (uint64_t)(uint32_t)(v8 != 0));
-  store64(frame + 352, CONSTANT(0));
-  fill(frame + 360, 0, 200);
-  store64(frame + 584, 0);
-  store64(frame + 576, CONSTANT(0));
-  store64(frame + 568, 0);
-  store64(frame + 560, CONSTANT(0));
-  der_view_known_Known_see(p1, 0, frame + 216);
-after_25:;
-  store64(p0, 1);
-  store64(p0 + 16, p4 - v18);
-  store64(p0 + 8, v14 + v18);
-  goto after_16;
-after_2:;
-  if (load8(frame + 145))
-    goto after_31;
-  p3 = load64(frame + 208);
-  p5 = load64(p2 + 16);
-  v20 = (p5 < v7) ? p5 : v7;
-  v14 = p5 - v20;
-  p4 = load64(frame + 200);
-  p5 = p4 - v7;
-  v14 = (v14 < p5) ? v14 : p5;
-  p2 = load64(p2 + 8) + v20;
-  v16 = load64(frame + 160);
-  v17 = load64(frame + 152);
-  if (v8 != 0)
-    goto after_32;
-  if (v7 == 0)
-    goto after_32;
-  v15 = 3;
-  v20 = 1;
-  goto after_33;
-after_32:;
-  t1 = (uint32_t)(load8(p1) != 1u) | (uint32_t)(((uint32_t)load8(p1 + 6) & 0xffu) != 0u);
-  v9 = t1 | (uint32_t)load8(p1 + 10);
-  v15 = (v9 & 1u) ? 0u : 2u;
-  v20 = (uint64_t)(v9 ^ 0xffffffffu) & 1;
-after_33:;
-  store64(frame + 320, 0);
-  store64(frame + 312, p5);
-  store64(frame + 304, 0);
-  store64(frame + 296, p5);
-  store64(frame + 288, p5);
-  store64(frame + 280, 1);
-  store64(frame + 272, 0);
-  store64(frame + 264, CONSTANT(0));
-  store32(frame + 260, 0);
-  store64(frame + 252, 0);
-  store32(frame + 248, 2);
-  store64(frame + 240, p3);
-  store64(frame + 224, v8);
-  store64(frame + 328, 0);
-  store64(frame + 336, 0);
-  store64(frame + 344, 0);
-  store64(frame + 232, p4);
-  store64(frame + 216, v7);
-  store32(frame + 376, v15);
-  store64(frame + 368, v20);
-  store64(frame + 360, 0);
-  store64(frame + 352, CONSTANT(0));
-  fill(frame + 380, 0, 180);
-  store64(frame + 584, v14);
-  store64(frame + 576, p2);
-  store64(frame + 568, v16);
-  store64(frame + 560, v17);
-  if (p4 != v7)
-    goto after_34;
-  if (v20 == 0)
-    goto after_31;
-after_34:;
-  der_view_known_Known_see(p1, 0, frame + 216);
-after_31:;
+    goto after_9;
+  v19 = v19 + 1;
+again_21:;
+  if (load8(v19) == 0u)
+    goto after_1;
+  v19 = v19 + 5;
+  p5 = p5 + 0xffffffffffffffff;
+  if (p5 != 0)
+    goto again_21;
+  goto after_9;
+after_18:;
+  if (v7 & 1u)
+    goto after_9;
+after_1:;
+  der_view_walk_draw_left_5(p1, p2, frame + 304, frame + 264);
   store64(p0 + 16, 0);
   store64(p0 + 8, 0);
   store64(p0, 0);
-after_16:;
+  goto after_14;
+after_9:;
+  der_view_walk_draw_end_5(p1, frame + 304, frame + 264, v17);
+  store64(p0 + 16, p4 - v17);
+  store64(p0 + 8, v12 + v17);
+  store64(p0, 1);
+after_14:;
 }
 
 /* der_view::walk::follows::<#5fb8ad1151d26732> */
@@ -16436,6 +16693,181 @@ static uint32_t der_view_walk_follows_5(uint64_t p0, uint64_t p1, uint64_t p2, u
   der_view_walk_walk_5(frame + 24, p0, frame + 48, p2, frame + 112, frame + 72);
   p4 = load8(frame + 24);
   return (uint32_t)(p4 == 1u);
+}
+
+/* der_view::walk::draw_left::<#5fb8ad1151d26732> */
+static void der_view_walk_draw_left_5(uint64_t p0, uint64_t p1, uint64_t p2, uint64_t p3)
+{
+  FRAME(384)
+  uint32_t v12 = 0, v13 = 0, t0;
+  uint64_t v5 = 0, v6 = 0, v7 = 0, v8 = 0, v9 = 0, v10 = 0, v11 = 0;
+  v5 = 1;
+  if (load8(p3 + 1) == 1u)
+    goto after_1;
+  v6 = load64(p2 + 24);
+  v7 = load64(p1 + 16);
+  v8 = load64(p2);
+  v9 = (v7 < v8) ? v7 : v8;
+  v10 = v7 - v9;
+  v11 = load64(p2 + 16);
+  v7 = v11 - v8;
+  v10 = (v10 < v7) ? v10 : v7;
+  p1 = load64(p1 + 8) + v9;
+  v9 = load64(p3 + 16);
+  p3 = load64(p3 + 8);
+  p2 = load64(p2 + 8);
+  if (p2 != 0)
+    goto after_2;
+  v12 = 3;
+  if (v8 != 0)
+    goto after_3;
+after_2:;
+  t0 = (uint32_t)(load8(p0) != 1u) | (uint32_t)(((uint32_t)load8(p0 + 6) & 0xffu) != 0u);
+  v13 = t0 | (uint32_t)load8(p0 + 10);
+  v12 = (v13 & 1u) ? 0u : 2u;
+  v5 = (uint64_t)(v13 ^ 0xffffffffu) & 1;
+after_3:;
+  store64(frame + 112, 0);
+  store64(frame + 104, v7);
+  store64(frame + 96, 0);
+  store64(frame + 88, v7);
+  store64(frame + 80, v7);
+  store64(frame + 72, 1);
+  store64(frame + 64, 0);
+  store64(frame + 56, CONSTANT(0));
+  store32(frame + 52, 0);
+  store64(frame + 44, 0);
+  store32(frame + 40, 2);
+  store64(frame + 32, v6);
+  store64(frame + 16, p2);
+  store64(frame + 120, 0);
+  store64(frame + 128, 0);
+  store64(frame + 136, 0);
+  store64(frame + 24, v11);
+  store64(frame + 8, v8);
+  store32(frame + 168, v12);
+  store64(frame + 160, v5);
+  store64(frame + 152, 0);
+  store64(frame + 144, CONSTANT(0));
+  fill(frame + 172, 0, 180);
+  store64(frame + 376, v10);
+  store64(frame + 368, p1);
+  store64(frame + 360, v9);
+  store64(frame + 352, p3);
+  if (v11 != v8)
+    goto after_4;
+  if (v5 == 0)
+    goto after_1;
+after_4:;
+  der_view_known_Known_see(p0, 0, frame + 8);
+after_1:;
+  return;
+}
+
+/* der_view::walk::draw_end::<#5fb8ad1151d26732> */
+static void der_view_walk_draw_end_5(uint64_t p0, uint64_t p1, uint64_t p2, uint64_t p3)
+{
+  FRAME(384)
+  uint32_t v5 = 0, v12 = 0, v13 = 0, t0;
+  uint64_t v6 = 0, v7 = 0, v8 = 0, v9 = 0, v10 = 0, v11 = 0;
+  if (load8(p2 + 1) == 1u)
+    goto after_1;
+  v5 = load8(p1 + 24);
+  v6 = load64(p1 + 16);
+  v7 = load64(p1 + 8);
+  v8 = load64(p1);
+  v9 = load64(p2 + 16);
+  if (v9 == 0)
+    goto after_2;
+  v10 = p1 + 25;
+  v11 = load64(p2 + 8);
+  p1 = v11 + 1;
+  p2 = v9;
+again_4:;
+  if (load8(p1) == 0u)
+    goto after_3;
+  p1 = p1 + 5;
+  p2 = p2 + 0xffffffffffffffff;
+  if (p2 != 0)
+    goto again_4;
+  goto after_2;
+after_3:;
+  if (v7 != 0)
+    goto after_5;
+  if (v8 == 0)
+    goto after_5;
+  v12 = 3;
+  p1 = 1;
+  goto after_6;
+after_5:;
+  t0 = (uint32_t)(load8(p0) != 1u) | (uint32_t)(((uint32_t)load8(p0 + 6) & 0xffu) != 0u);
+  v13 = t0 | (uint32_t)load8(p0 + 10);
+  v12 = (v13 & 1u) ? 0u : 2u;
+  p1 = (uint64_t)(v13 ^ 0xffffffffu) & 1;
+after_6:;
+  store8(frame + 32, (uint8_t)v5);
+  store64(frame + 24, v6);
+  store64(frame + 16, v7);
+  store64(frame + 8, v8);
+  store64(frame + 80, 0);
+  store64(frame + 72, 1);
+  store64(frame + 64, 0);
+  store64(frame + 56, CONSTANT(0));
+  store32(frame + 52, 0);
+  store64(frame + 44, 0);
+  store32(frame + 40, 2);
+  store64(frame + 88, 0);
+  store64(frame + 96, 0);
+  store64(frame + 104, 0);
+  store64(frame + 112, 0);
+  store64(frame + 120, 0);
+  store64(frame + 128, 0);
+  store64(frame + 136, 0);
+  store32(frame + 33, load32(v10));
+  store32(frame + 36, load32(v10 + 3));
+  store32(frame + 168, v12);
+  store64(frame + 152, 0);
+  store64(frame + 144, CONSTANT(0));
+  store64(frame + 160, p1);
+  fill(frame + 172, 0, 180);
+  store64(frame + 376, 0);
+  store64(frame + 368, CONSTANT(0));
+  store64(frame + 360, v9);
+  store64(frame + 352, v11);
+  if (p1 == 0)
+    goto after_2;
+  der_view_known_Known_see(p0, 0, frame + 8);
+after_2:;
+  if (p3 == 0)
+    goto after_1;
+  store32(frame + 33, 0);
+  store8(frame + 32, (uint8_t)v5);
+  store64(frame + 24, v6);
+  store64(frame + 8, v8);
+  store64(frame + 80, 0);
+  store64(frame + 72, 1);
+  store64(frame + 64, 2);
+  store64(frame + 56, CONSTANT(1941));
+  store32(frame + 52, 0);
+  store64(frame + 44, 0);
+  store64(frame + 36, 0x100000000);
+  store64(frame + 88, 0);
+  store64(frame + 96, 0);
+  store64(frame + 104, 0);
+  store64(frame + 112, 0);
+  store64(frame + 120, 0);
+  store64(frame + 128, 0);
+  store64(frame + 136, 0);
+  store64(frame + 16, v7 - (uint64_t)(uint32_t)(v7 != 0));
+  store64(frame + 144, CONSTANT(0));
+  fill(frame + 152, 0, 200);
+  store64(frame + 376, 0);
+  store64(frame + 368, CONSTANT(0));
+  store64(frame + 360, 0);
+  store64(frame + 352, CONSTANT(0));
+  der_view_known_Known_see(p0, 0, frame + 8);
+after_1:;
+  return;
 }
 
 /* der_view::names::names_after */
@@ -18865,36 +19297,36 @@ after_2:;
 static void der_view_showing_show_bytes(uint64_t p0, uint64_t p1, uint64_t p2, uint64_t p3,
     uint32_t p4, uint64_t p5)
 {
-  FRAME(400)
+  FRAME(432)
   uint32_t v8 = 0, v9 = 0, v10 = 0, v11 = 0, v12 = 0;
   uint64_t v7 = 0, v13 = 0, v14 = 0, v15 = 0, v16 = 0, v17 = 0, t0, t1;
-  fill(frame + 32, 0, 112);
+  fill(frame + 24, 0, 112);
   v7 = load64(p5 + 16);
   if (v7 != 0)
     goto after_1;
-  der_view_showing_show_part(frame + 8, p1, p2, p3, p4, p5);
-  p4 = load8(frame + 9);
-  v8 = load8(frame + 8);
+  der_view_showing_show_part(frame, p1, p2, p3, p4, p5);
+  p4 = load8(frame + 1);
+  v8 = load8(frame);
   goto after_2;
 after_1:;
-  store64(frame + 176, 0);
-  store64(frame + 168, v7);
+  store64(frame + 168, 0);
+  store64(frame + 160, v7);
+  store64(frame + 136, 0);
   store64(frame + 144, 0);
   store64(frame + 152, 0);
-  store64(frame + 160, 0);
-  der_view_plan_plan_of(frame + 144, p2, p3);
-  store64(frame + 184, 0);
-  store64(frame + 200, 0);
-  store64(frame + 192, CONSTANT(0));
-  p4 = load8(frame + 151);
+  der_view_plan_plan_of(frame + 136, p2, p3);
+  store64(frame + 176, 0);
+  store64(frame + 192, 0);
+  store64(frame + 184, CONSTANT(0));
+  p4 = load8(frame + 143);
   v8 = (uint32_t)(p4 == 1u);
-  store8(frame + 184, (uint8_t)v8);
-  v9 = load8(frame + 153);
-  store8(frame + 185, (uint8_t)(v8 & v9));
+  store8(frame + 176, (uint8_t)v8);
+  v9 = load8(frame + 145);
+  store8(frame + 177, (uint8_t)(v8 & v9));
   v8 = 2;
   if (p4 == 2u)
     goto after_3;
-  if (((uint32_t)load8(frame + 144) & 0xffu) == 1u)
+  if (((uint32_t)load8(frame + 136) & 0xffu) == 1u)
     goto after_4;
   p4 = 9;
   v10 = 0;
@@ -18903,53 +19335,59 @@ after_1:;
   v9 = 0;
   goto after_5;
 after_4:;
-  v12 = load8(frame + 149);
-  v11 = load8(frame + 148);
-  p4 = load8(frame + 147);
-  v8 = load8(frame + 146);
-  v10 = load8(frame + 145);
-  if (((uint32_t)load8(frame + 150) & 0xffu) == 2u)
+  v12 = load8(frame + 141);
+  v11 = load8(frame + 140);
+  p4 = load8(frame + 139);
+  v8 = load8(frame + 138);
+  v10 = load8(frame + 137);
+  if (((uint32_t)load8(frame + 142) & 0xffu) == 2u)
     goto after_6;
   v9 = 0;
   goto after_5;
 after_6:;
-  v9 = (uint32_t)load8(frame + 152) & v9;
+  v9 = (uint32_t)load8(frame + 144) & v9;
 after_5:;
-  store64(frame + 392, 0);
-  fill(frame + 232, 0, 128);
-  store64(frame + 376, 0);
-  store64(frame + 368, 0);
-  store8(frame + 392, (uint8_t)(v9 & 1u));
-  store64(frame + 384, p3);
-  store8(frame + 367, (uint8_t)v12);
-  store8(frame + 366, (uint8_t)v11);
-  store8(frame + 365, (uint8_t)p4);
-  store8(frame + 364, (uint8_t)v8);
-  store8(frame + 363, (uint8_t)v10);
-  der_view_step_step_by(frame + 232, 1, 0, frame + 363, 1, p2, p3);
-  if (load8(frame + 232) != 1u)
+  store64(frame + 424, 0);
+  store64(frame + 352, 0);
+  fill(frame + 224, 0, 128);
+  store64(frame + 408, 0);
+  store64(frame + 400, 0);
+  store8(frame + 424, (uint8_t)(v9 & 1u));
+  store64(frame + 416, p3);
+  store8(frame + 399, (uint8_t)v12);
+  store8(frame + 398, (uint8_t)v11);
+  store8(frame + 397, (uint8_t)p4);
+  store8(frame + 396, (uint8_t)v8);
+  store8(frame + 395, (uint8_t)v10);
+  der_view_step_step_by(frame + 224, 1, 0, frame + 395, 1, p2, p3);
+  if (load8(frame + 224) != 1u)
     goto after_3;
-  der_view_walk_draw_step_3(frame + 208, frame + 168, frame + 184, p3, frame + 368, 0, frame + 240);
-  if (load8(frame + 176) != 1u)
+  store64(frame + 384, p3);
+  store64(frame + 376, p2);
+  store64(frame + 368, 1);
+  store64(frame + 360, frame + 395);
+  der_view_walk_draw_step_3(frame + 200, frame + 160, frame + 176, p3, frame + 400, frame + 352,
+      frame + 232);
+  if (load8(frame + 168) != 1u)
     goto after_3;
   v13 = 0;
-  store64(frame + 272, 0);
   store64(frame + 264, 0);
   store64(frame + 256, 0);
   store64(frame + 248, 0);
   store64(frame + 240, 0);
   store64(frame + 232, 0);
+  store64(frame + 224, 0);
   if (p3 == 0)
     goto after_3;
 again_10:;
   v14 = p2 + v13;
   v15 = p3 - v13;
-  der_view_header_Header_read(frame + 232, v14, v15);
-  if (load8(frame + 232))
+  der_view_header_Header_read(frame + 224, v14, v15);
+  if (load8(frame + 224))
     goto after_3;
-  v16 = load64(frame + 272);
-  p4 = load8(frame + 264);
-  v17 = load64(frame + 256);
+  v16 = load64(frame + 264);
+  p4 = load8(frame + 256);
+  v17 = load64(frame + 248);
   if (v13 == v7)
     goto after_7;
   v17 = v17 + v13;
@@ -18968,51 +19406,51 @@ after_9:;
   if (v13 < p3)
     goto again_10;
 after_3:;
-  fill(frame + 32, 0, 112);
-  store32(frame + 56, load32(CONSTANT(28148) + 0));
-  store64(frame + 48, load64(CONSTANT(28140) + 0));
-  store64(frame + 40, load64(CONSTANT(28132) + 0));
-  store64(frame + 32, load64(CONSTANT(28124) + 0));
+  fill(frame + 24, 0, 112);
+  store32(frame + 48, load32(CONSTANT(28148) + 0));
+  store64(frame + 40, load64(CONSTANT(28140) + 0));
+  store64(frame + 32, load64(CONSTANT(28132) + 0));
+  store64(frame + 24, load64(CONSTANT(28124) + 0));
   p3 = load64(p5 + 16);
-  store64(frame + 264, 0);
   store64(frame + 256, 0);
   store64(frame + 248, 0);
   store64(frame + 240, 0);
   store64(frame + 232, 0);
-  t0 = itoa_integer_write_unsigned(p3, frame + 232);
+  store64(frame + 224, 0);
+  t0 = itoa_integer_write_unsigned(p3, frame + 224);
   v13 = t0;
   p3 = 40ull - v13;
   p3 = (p3 < 73) ? p3 : 73ull;
   if (p3 == 0)
     goto after_11;
-  move((frame + 32) + 28, (frame + 232) + v13, p3);
+  move((frame + 24) + 28, (frame + 224) + v13, p3);
 after_11:;
   p3 = p3 + 28;
-  v7 = (frame + 32) + p3;
+  p2 = (frame + 24) + p3;
   v13 = (uint32_t)(p3 != 101);
-  if ((v7 - CONSTANT(28039)) >= v13)
+  if ((p2 - CONSTANT(28039)) >= v13)
     goto after_12;
-  store8(v7, 46);
+  store8(p2, 46);
   goto after_13;
 after_12:;
   if (v13 == 0)
     goto after_13;
-  fill(v7, 46, v13);
+  fill(p2, 46, v13);
 after_13:;
   p3 = p3 + v13;
-  store64(frame + 136, p3);
+  store64(frame + 128, p3);
   if (load8(p5 + 1) != 1u)
     goto after_14;
-  der_view_json_write_last(frame + 16, p1, frame + 32, p3, CONSTANT(0), 0);
-  if (load8(frame + 16) == 0u)
+  der_view_json_write_last(frame + 8, p1, frame + 24, p3, CONSTANT(0), 0);
+  if (load8(frame + 8) == 0u)
     goto after_15;
-  p4 = load8(frame + 17);
+  p4 = load8(frame + 9);
   v8 = 1;
   goto after_2;
 after_14:;
-  fill(frame + 232, 0, 112);
-  der_view_line_Line_finish(frame + 232, frame + 32);
-  p3 = load64(frame + 336);
+  fill(frame + 224, 0, 112);
+  der_view_line_Line_finish(frame + 224, frame + 24);
+  p3 = load64(frame + 328);
   v13 = load64(p1 + 8);
   p5 = load64(p1 + 16);
   if (v13 < p5)
@@ -19021,7 +19459,7 @@ after_14:;
     goto after_16;
   if (p3 == 0)
     goto after_17;
-  move(load64(p1) + p5, frame + 232, p3);
+  move(load64(p1) + p5, frame + 224, p3);
 after_17:;
   p3 = p5 + p3;
   v13 = load64(p1 + 8);
@@ -19047,9 +19485,9 @@ after_15:;
 after_7:;
   p3 = v16 + v17;
   t1 = ((p4 & 0xffu) == 1u) ? ((v15 < p3) ? v15 : p3) : v15;
-  der_view_showing_show_part(frame + 24, p1, v14, t1, 2, p5);
-  p4 = load8(frame + 25);
-  v8 = load8(frame + 24);
+  der_view_showing_show_part(frame + 16, p1, v14, t1, 2, p5);
+  p4 = load8(frame + 17);
+  v8 = load8(frame + 16);
 after_2:;
   store8(p0, (uint8_t)v8);
   store8(p0 + 1, (uint8_t)p4);
@@ -20098,45 +20536,128 @@ after_23:;
 
 /* der_view::walk::draw_step::<#ec1ad888fc6273f0> */
 static void der_view_walk_draw_step_3(uint64_t p0, uint64_t p1, uint64_t p2, uint64_t p3,
-    uint64_t p4, uint32_t p5, uint64_t p6)
+    uint64_t p4, uint64_t p5, uint64_t p6)
 {
-  FRAME(320)
-  uint32_t v11 = 0, v13 = 0, v14 = 0, v15 = 0, v16 = 0, t0;
-  uint64_t v8 = 0, v9 = 0, v10 = 0, v12 = 0, v17 = 0, v18 = 0;
-  v8 = load64(p4 + 16);
-  v9 = load64(p4);
-  v10 = 0;
+  FRAME(272)
+  uint32_t v8 = 0, v12 = 0, v14 = 0, v15 = 0, v16 = 0;
+  uint64_t v9 = 0, v10 = 0, v11 = 0, v13 = 0;
+  store32(frame + 248, load32(p4 + 25));
+  store32(frame + 251, load32(p4 + 28));
+  v8 = load8(p4 + 24);
+  v9 = load64(p4 + 16);
+  v10 = load64(p4 + 8);
+  p4 = load64(p4);
+  store64(frame + 264, 0);
+  store64(frame + 256, 0);
+  store64(frame + 208, 0);
+  store64(frame + 216, 0);
+  store64(frame + 224, 0);
+  store64(frame + 232, 0);
+  store64(frame + 240, 0);
   store64(frame + 184, 0);
   store64(frame + 192, 0);
-  v11 = 0;
-  store32(frame + 176, 0);
-  store32(frame + 179, 0);
-  store64(frame + 136, 0);
-  store64(frame + 144, 0);
+  store64(frame + 200, 0);
   store64(frame + 152, 0);
   store64(frame + 160, 0);
   store64(frame + 168, 0);
-  store64(frame + 112, 0);
-  store64(frame + 120, 0);
-  store64(frame + 128, 0);
-  store64(frame + 88, 0);
-  store64(frame + 96, 0);
-  store64(frame + 104, 0);
-  v12 = load64(p4 + 8);
-  v13 = load8(p4 + 24);
-  store64(frame + 80, 0);
-  store64(frame + 72, 0);
+  store64(frame + 176, 0);
   store64(frame + 64, 0);
+  store64(frame + 72, 0);
+  store64(frame + 80, 0);
   store64(frame + 56, 0);
-  store64(frame + 40, 0);
   store64(frame + 48, 0);
-  v14 = 1;
-  v15 = v13 & 1u;
-  p4 = v12 + 1;
-  v12 = v9 + load64(p6 + 16);
-  v13 = load8(p2);
-  v16 = load8(p6 + 58);
-  switch ((uint32_t)((uint64_t)v16 & 0xff)) {
+  store64(frame + 40, 0);
+  store64(frame + 32, 0);
+  store64(frame + 16, 0);
+  store64(frame + 24, 0);
+  v11 = v10 + 1;
+  store64(frame + 128, v11);
+  store64(frame + 136, v9);
+  v12 = v8 & 1u;
+  store8(frame + 144, (uint8_t)v12);
+  store32(frame + 145, 0);
+  store32(frame + 148, 0);
+  v13 = p4 + load64(p6 + 16);
+  store64(frame + 120, v13);
+  der_view_walk_opened_of_3(frame + 152, p1, p2, p3, frame + 120, p6);
+  store8(frame + 112, (uint8_t)v8);
+  store64(frame + 104, v9);
+  store64(frame + 96, v10);
+  store64(frame + 88, p4);
+  store32(frame + 113, load32(frame + 248));
+  store32(frame + 116, load32(frame + 251));
+  v14 = load8(frame + 176);
+  p4 = load64(frame + 168);
+  v15 = load8(frame + 160);
+  v8 = load8(frame + 152);
+  der_view_walk_draw_element_3(p1, p2, frame + 88, p5, p6);
+  if (v8 != 1u)
+    goto after_1;
+  v8 = load8(p6 + 24);
+  v16 = load8(p5 + 1);
+  der_view_grammar_Structure_components(frame, v15);
+  store8(frame + 209, (uint8_t)v16);
+  store8(frame + 208, (uint8_t)(uint32_t)(v8 != 1u));
+  store8(frame + 184, (uint8_t)v14);
+  store64(frame + 32, p4 + v13);
+  store64(frame + 40, v11);
+  store64(frame + 48, v9);
+  store8(frame + 56, (uint8_t)v12);
+  store64(frame + 224, load64(frame + 8));
+  store64(frame + 216, load64(frame));
+  store8(frame + 185, (uint8_t)(uint32_t)load8(p2 + 1));
+  store64(frame + 192, load64(p2 + 8));
+  store64(frame + 200, load64(p2 + 16));
+  store64(frame + 240, load64(p6 + 96) - p4);
+  store64(frame + 232, load64(p6 + 88) + p4);
+  store32(frame + 60, 0);
+  store32(frame + 57, 0);
+  der_view_walk_walk_3(frame + 64, p1, frame + 184, p3, frame + 32, frame + 208);
+  if (load8(frame + 64) != 1u)
+    goto after_2;
+  if (v8 == 1u)
+    goto after_3;
+  store64(frame + 24, load64(frame + 80));
+  store64(frame + 16, load64(frame + 72));
+  goto after_4;
+after_1:;
+  p4 = load64(p6 + 112);
+  p6 = load64(p6 + 104);
+  store64(p0, 1);
+  store64(p0 + 8, p6);
+  store64(p0 + 16, p4);
+  store64(frame + 264, p4);
+  store64(frame + 256, p6);
+  goto after_5;
+after_2:;
+  store64(p0 + 16, 0);
+  store64(p0 + 8, 0);
+  store64(p0, 0);
+  goto after_5;
+after_3:;
+  store64(frame + 24, load64(p6 + 112));
+  store64(frame + 16, load64(p6 + 104));
+after_4:;
+  store64(p0, 1);
+  store64(p0 + 8, load64(frame + 16));
+  store64(p0 + 16, load64(frame + 24));
+  goto after_5;
+after_5:;
+}
+
+/* der_view::walk::opened_of::<#ec1ad888fc6273f0> */
+static void der_view_walk_opened_of_3(uint64_t p0, uint64_t p1, uint64_t p2, uint64_t p3,
+    uint64_t p4, uint64_t p5)
+{
+  FRAME(192)
+  uint32_t v7 = 0, v8 = 0, v9 = 0, v14 = 0, t0;
+  uint64_t v10 = 0, v11 = 0, v12 = 0, v13 = 0;
+  v7 = 0;
+  store32(frame + 59, 0);
+  store32(frame + 56, 0);
+  v8 = load8(p2);
+  v9 = load8(p5 + 58);
+  switch ((uint32_t)((uint64_t)v9 & 0xff)) {
   case 6:
     goto after_1;
   case 7:
@@ -20147,259 +20668,258 @@ static void der_view_walk_draw_step_3(uint64_t p0, uint64_t p1, uint64_t p2, uin
     goto after_4;
   }
 after_1:;
-  v11 = load8(p6 + 59);
+  store32(frame + 64, 0);
+  store32(frame + 67, 0);
+  v10 = load8(p5 + 59);
+  p5 = 0;
+  v11 = 1;
+  v7 = v8;
   goto after_5;
 after_2:;
-  v17 = load64(p6 + 88);
-  v18 = load64(p6 + 96);
-  v11 = load8(p6 + 59);
-  v13 = 0;
-  store32(frame + 313, 0);
-  store8(frame + 312, (uint8_t)v15);
-  store64(frame + 304, v8);
-  store64(frame + 296, p4);
-  store64(frame + 288, v12);
-  store32(frame + 316, 0);
-  v10 = 0;
-  store64(frame + 248, 0);
-  store64(frame + 224, 0);
-  store64(frame + 200, 0);
-  store64(frame + 208, 0);
-  store64(frame + 216, 0);
-  der_view_grammar_Structure_components(frame + 24, v11);
-  store64(frame + 280, v18);
-  store64(frame + 272, v17);
-  store16(frame + 248, 256);
-  store8(frame + 224, 0);
-  store64(frame + 264, load64(frame + 32));
-  store64(frame + 256, load64(frame + 24));
-  store64(frame + 232, load64(p2 + 8));
-  store64(frame + 240, load64(p2 + 16));
-  store8(frame + 225, (uint8_t)(uint32_t)load8(p2 + 1));
-  der_view_walk_walk_3(frame + 200, p1, frame + 224, p3, frame + 288, frame + 248);
-  v14 = (uint32_t)(load8(frame + 200) == 1u);
-  v11 = v14 ? v11 : 0u;
+  v11 = load64(p5 + 88);
+  v10 = load64(p5 + 96);
+  v8 = load8(p5 + 59);
+  p5 = 0;
+  store64(frame + 120, 0);
+  store64(frame + 96, 0);
+  store64(frame + 72, 0);
+  store64(frame + 80, 0);
+  store64(frame + 88, 0);
+  store64(frame + 160, load64(p4));
+  store64(frame + 168, load64(p4 + 8));
+  store64(frame + 176, load64(p4 + 16));
+  store64(frame + 184, load64(p4 + 24));
+  der_view_grammar_Structure_components(frame + 8, v8);
+  store64(frame + 152, v10);
+  store64(frame + 144, v11);
+  store16(frame + 120, 256);
+  store8(frame + 96, 0);
+  store64(frame + 136, load64(frame + 16));
+  store64(frame + 128, load64(frame + 8));
+  store64(frame + 104, load64(p2 + 8));
+  store64(frame + 112, load64(p2 + 16));
+  store8(frame + 97, (uint8_t)(uint32_t)load8(p2 + 1));
+  der_view_walk_walk_3(frame + 72, p1, frame + 96, p3, frame + 160, frame + 120);
+  v9 = load8(frame + 72);
+  store32(frame + 123, 0);
+  store32(frame + 120, 0);
+  store32(frame + 64, load32(frame + 120));
+  store32(frame + 67, load32(frame + 123));
+  v9 = (uint32_t)(v9 == 1u);
+  v10 = (uint64_t)(v9 ? v8 : 0u) & 0xff;
+  v11 = v9;
   goto after_5;
 after_3:;
-  v17 = load64(p6 + 96);
-  if (v17 == 0)
+  v10 = 0;
+  v12 = load64(p5 + 96);
+  if (v12 != 0)
     goto after_6;
-  v14 = 0;
-  v18 = load64(p6 + 88);
-  if (load8(v18))
-    goto after_7;
-  v17 = v17 + 0xffffffffffffffff;
-  if (v17 != 0)
+  v11 = 0;
+  goto after_7;
+after_6:;
+  v13 = load64(p5 + 88);
+  if (load8(v13) == 0u)
     goto after_8;
-  v14 = 0;
+  v11 = 0;
   goto after_7;
 after_8:;
-  v11 = load8(p6 + 59);
-  v13 = 0;
-  store32(frame + 273, 0);
-  store8(frame + 272, (uint8_t)v15);
-  store64(frame + 264, v8);
-  store64(frame + 256, p4);
-  store64(frame + 248, v12);
-  store32(frame + 276, 0);
-  t0 = der_view_walk_follows_3(p1, p2, p3, frame + 248, v11, v18 + 1, v17);
-  v14 = t0;
-  v11 = v14 ? v11 : 0u;
-  v10 = v14;
+  v11 = 0;
+  v12 = v12 + 0xffffffffffffffff;
+  if (v12 == 0)
+    goto after_7;
+  v7 = load8(p5 + 59);
+  store64(frame + 48, load64(p4 + 24));
+  store64(frame + 40, load64(p4 + 16));
+  store64(frame + 32, load64(p4 + 8));
+  store64(frame + 24, load64(p4));
+  t0 = der_view_walk_follows_3(p1, p2, p3, frame + 24, v7, v13 + 1, v12);
+  v8 = t0;
+  store32(frame + 123, 0);
+  store32(frame + 120, 0);
+  store32(frame + 56, load32(frame + 120));
+  store32(frame + 59, load32(frame + 123));
+  v10 = v8 ? ((uint64_t)v7 & 0xff) : 0ull;
+  v11 = v8;
+after_7:;
+  store32(frame + 67, load32(frame + 59));
+  store32(frame + 64, load32(frame + 56));
+  v7 = 0;
+  p5 = v11;
   goto after_5;
 after_4:;
-  v14 = 1;
-  if (load8(p6 + 24) != 1u)
+  if (load8(p5 + 24) != 1u)
     goto after_9;
-  v11 = 0;
-  if (load8(p6 + 1) != 1u)
-    goto after_6;
-  if ((((uint32_t)((v16 & 0xffu) == 9u) | v13) & 1u) == 0u)
-    goto after_6;
-after_9:;
-  v11 = 84;
-  goto after_5;
-after_7:;
-  v11 = 0;
-  v13 = 0;
-  goto after_5;
-after_6:;
-  v14 = 0;
-  v13 = 0;
-after_5:;
-  if (p5 & 1u)
+  v14 = load8(p5 + 1);
+  v7 = 0;
+  store32(frame + 123, 0);
+  store32(frame + 120, 0);
+  v10 = 0;
+  if (v14 == 1u)
     goto after_10;
-  store64(frame + 280, load64(p6 + 32));
-  store64(frame + 272, load64(p6 + 24));
-  store64(frame + 264, load64(p6 + 16));
-  store64(frame + 256, load64(p6 + 8));
-  store64(frame + 248, load64(p6));
-  der_view_content_shown_len(load8(p2 + 1), frame + 248, load8(p6 + 58), load8(p6 + 59),
-      load64(p6 + 88), load64(p6 + 96));
-  v17 = p1 + 8;
-  store8(v17, (uint8_t)((uint32_t)(v9 == load64(p1)) | (uint32_t)load8(v17)));
+  v11 = 0;
+  goto after_11;
 after_10:;
-  if (v14 == 0u)
+  v11 = 0;
+  if ((((uint32_t)((v9 & 0xffu) == 9u) | v8) & 1u) == 0u)
     goto after_11;
-  v14 = load8(p6 + 24);
-  der_view_grammar_Structure_components(frame + 8, v11);
-  store8(frame + 137, (uint8_t)p5);
-  v14 = (uint32_t)(v14 != 1u);
-  store8(frame + 136, (uint8_t)v14);
-  store8(frame + 112, (uint8_t)v13);
-  store64(frame + 56, v10 + v12);
-  store64(frame + 64, p4);
-  store64(frame + 72, v8);
-  store8(frame + 80, (uint8_t)v15);
-  store64(frame + 152, load64(frame + 16));
-  store64(frame + 144, load64(frame + 8));
-  store8(frame + 113, (uint8_t)(uint32_t)load8(p2 + 1));
-  store64(frame + 120, load64(p2 + 8));
-  store64(frame + 128, load64(p2 + 16));
-  store64(frame + 168, load64(p6 + 96) - v10);
-  store64(frame + 160, load64(p6 + 88) + v10);
-  store32(frame + 84, load32(frame + 179));
-  store32(frame + 81, load32(frame + 176));
-  der_view_walk_walk_3(frame + 88, p1, frame + 112, p3, frame + 56, frame + 136);
-  if (load8(frame + 88) != 1u)
-    goto after_12;
-  if (v14 == 0u)
-    goto after_13;
-  store64(frame + 48, load64(frame + 104));
-  store64(frame + 40, load64(frame + 96));
-  goto after_14;
+after_9:;
+  store32(frame + 123, 0);
+  store32(frame + 120, 0);
+  v11 = 1;
+  v10 = 84;
+  v7 = v8;
 after_11:;
-  p4 = load64(p6 + 112);
-  p6 = load64(p6 + 104);
-  store64(p0, 1);
-  store64(p0 + 8, p6);
-  store64(p0 + 16, p4);
-  store64(frame + 192, p4);
-  store64(frame + 184, p6);
-  goto after_15;
-after_12:;
-  store64(p0 + 16, 0);
-  store64(p0 + 8, 0);
-  store64(p0, 0);
-  goto after_15;
-after_13:;
-  store64(frame + 48, load64(p6 + 112));
-  store64(frame + 40, load64(p6 + 104));
-after_14:;
-  store64(p0, 1);
-  store64(p0 + 8, load64(frame + 40));
-  store64(p0 + 16, load64(frame + 48));
-after_15:;
+  store32(frame + 67, load32(frame + 123));
+  store32(frame + 64, load32(frame + 120));
+  p5 = 0;
+after_5:;
+  store64(p0, v11);
+  store8(p0 + 24, (uint8_t)v7);
+  store64(p0 + 16, p5);
+  store64(p0 + 8, v10);
+  store32(p0 + 25, load32(frame + 64));
+  store32(p0 + 28, load32(frame + 67));
+  return;
+}
+
+/* der_view::walk::draw_element::<#ec1ad888fc6273f0> */
+static void der_view_walk_draw_element_3(uint64_t p0, uint64_t p1, uint64_t p2, uint64_t p3,
+    uint64_t p4)
+{
+  FRAME(48)
+  if (load8(p3 + 1) == 1u)
+    goto after_1;
+  p3 = load64(p2);
+  store64(frame + 40, load64(p4 + 32));
+  store64(frame + 32, load64(p4 + 24));
+  store64(frame + 24, load64(p4 + 16));
+  store64(frame + 16, load64(p4 + 8));
+  store64(frame + 8, load64(p4));
+  der_view_content_shown_len(load8(p1 + 1), frame + 8, load8(p4 + 58), load8(p4 + 59),
+      load64(p4 + 88), load64(p4 + 96));
+  p4 = p0 + 8;
+  store8(p4, (uint8_t)((uint32_t)(p3 == load64(p0)) | (uint32_t)load8(p4)));
+after_1:;
+  return;
 }
 
 /* der_view::walk::walk::<#ec1ad888fc6273f0> */
 static void der_view_walk_walk_3(uint64_t p0, uint64_t p1, uint64_t p2, uint64_t p3,
     uint64_t p4, uint64_t p5)
 {
-  FRAME(304)
-  uint32_t v7 = 0, v8 = 0, v9 = 0, v14 = 0, v18 = 0, v19 = 0;
-  uint64_t v10 = 0, v11 = 0, v12 = 0, v13 = 0, v15 = 0, v16 = 0, v17 = 0;
+  FRAME(464)
+  uint32_t v7 = 0, v8 = 0, v14 = 0, v18 = 0, v20 = 0;
+  uint64_t v9 = 0, v10 = 0, v11 = 0, v12 = 0, v13 = 0, v15 = 0, v16 = 0, v17 = 0, v19 = 0;
+  fill(frame + 144, 0, 120);
   store64(frame + 16, 0);
   store64(frame + 8, 0);
   store64(frame, 0);
-  store64(frame + 144, load64(p4));
-  store64(frame + 152, load64(p4 + 8));
-  store64(frame + 160, load64(p4 + 16));
-  store64(frame + 168, load64(p4 + 24));
+  store64(frame + 304, load64(p4));
+  store64(frame + 312, load64(p4 + 8));
+  store64(frame + 320, load64(p4 + 16));
+  store64(frame + 328, load64(p4 + 24));
+  store64(frame + 264, load64(p5));
+  store64(frame + 272, load64(p5 + 8));
+  store64(frame + 280, load64(p5 + 16));
+  store64(frame + 288, load64(p5 + 24));
+  store64(frame + 296, load64(p5 + 32));
   if (p3 == 0)
     goto after_1;
-  v7 = load8(p5);
+  v7 = load8(frame + 264);
   v8 = v7 ^ 1u;
-  v9 = v7 & 1u;
-  v10 = load64(p5 + 8);
-  v11 = load64(p5 + 24);
-  v12 = load64(p5 + 32);
-  v13 = load64(p5 + 16);
-  if (load64(frame + 152) > 63)
+  p4 = load64(frame + 296);
+  if (load64(frame + 312) > 63)
     goto after_2;
-  v14 = load8(p5 + 1);
-  v15 = frame + 184;
-  v16 = load64(frame + 144);
+  v9 = frame + 208;
+  v10 = (frame + 336) + 8;
+  v11 = (frame + 264) + 8;
+  v12 = load64(frame + 288);
+  v13 = load64(frame + 304);
 again_13:;
-  v7 = load8(p2);
-  if (v12 > 1)
+  v14 = load8(p2);
+  v15 = load64(frame + 280);
+  v16 = load64(frame + 272);
+  if (p4 > 1)
     goto after_3;
-  switch ((uint32_t)v12) {
+  switch ((uint32_t)p4) {
   case 1:
     goto after_4;
   default:
     goto after_5;
   }
 after_5:;
-  if (((v7 | v9) & 0xffu) == 0u)
+  if (((v7 | v14) & 0xffu) == 0u)
     goto after_6;
   v17 = 0;
-  v18 = v7;
+  v18 = v14;
   goto after_7;
 after_6:;
   v17 = 0;
-  if (v13 != 0)
+  if (v15 != 0)
     goto after_8;
-  v12 = 0;
+  p4 = 0;
   goto after_9;
 after_8:;
-  p4 = v10 + 1;
-  p5 = v13;
+  p5 = v16 + 1;
+  v19 = v15;
 again_10:;
-  if (load8(p4) == 0u)
+  if (load8(p5) == 0u)
     goto after_4;
-  p4 = p4 + 5;
-  p5 = p5 + 0xffffffffffffffff;
-  if (p5 != 0)
+  p5 = p5 + 5;
+  v19 = v19 + 0xffffffffffffffff;
+  if (v19 != 0)
     goto again_10;
-  v12 = 0;
+  p4 = 0;
   goto after_9;
 after_3:;
-  if (load8(v11))
+  if (load8(v12))
     goto after_4;
-  v18 = (uint32_t)(load8(v11 + 1) != 0u) | v8;
-  v19 = v18 & 1u;
-  v17 = v19 ? 0ull : 2ull;
+  v18 = (uint32_t)(load8(v12 + 1) != 0u) | v8;
+  v20 = v18 & 1u;
+  v17 = v20 ? 0ull : 2ull;
   v18 = v18 ^ 1u;
-  if (v19)
+  if (v20)
     goto after_7;
-  if (v7 & 1u)
+  if (v14 & 1u)
     goto after_7;
   v17 = 2;
-  if (v13 == 0)
+  if (v15 == 0)
     goto after_9;
-  p4 = v10 + 1;
-  p5 = v13;
+  p5 = v16 + 1;
+  v19 = v15;
 again_11:;
-  if (load8(p4) == 0u)
+  if (load8(p5) == 0u)
     goto after_4;
-  p4 = p4 + 5;
-  p5 = p5 + 0xffffffffffffffff;
-  if (p5 != 0)
+  p5 = p5 + 5;
+  v19 = v19 + 0xffffffffffffffff;
+  if (v19 != 0)
     goto again_11;
   goto after_9;
 after_7:;
   if (v18 & 1u)
     goto after_9;
 after_4:;
-  fill(frame + 176, 0, 128);
-  v7 = v7 & 1u;
-  der_view_step_step_by(frame + 176, v7, v7, v10, v13, v11, v12);
-  v7 = load8(frame + 176);
-  move(frame + 24, v15, 120);
-  if (v7 != 1u)
+  fill(frame + 336, 0, 128);
+  v14 = v14 & 1u;
+  der_view_step_step_by(frame + 336, v14, v14, v16, v15, v12, p4);
+  v14 = load8(frame + 336);
+  move(frame + 24, v10, 120);
+  if (v14 != 1u)
     goto after_1;
-  v13 = load64(frame + 96);
-  v10 = load64(frame + 88);
+  move(frame + 144, frame + 24, 120);
   p3 = p3 + 0xffffffffffffffff;
-  der_view_walk_draw_step_3(frame, p1, p2, p3, frame + 144, v14, frame + 24);
+  der_view_walk_draw_step_3(frame, p1, p2, p3, frame + 304, frame + 264, frame + 144);
   if (load8(frame) != 1u)
     goto after_12;
-  p4 = load64(frame + 16);
-  v16 = (v12 - p4) + v16;
-  store64(frame + 144, v16);
-  v11 = load64(frame + 8);
-  v12 = p4;
+  store64(v11, load64(v9));
+  store64(v11 + 8, load64(v9 + 8));
+  p5 = load64(frame + 16);
+  store64(frame + 296, p5);
+  v12 = load64(frame + 8);
+  store64(frame + 288, v12);
+  v13 = (p4 - p5) + v13;
+  store64(frame + 304, v13);
+  p4 = p5;
   if (p3 != 0)
     goto again_13;
   goto after_1;
@@ -20409,73 +20929,78 @@ after_12:;
   store64(p0, 0);
   goto after_14;
 after_2:;
-  v7 = load8(p2);
-  if (v12 > 1)
+  v14 = load8(p2);
+  v12 = load64(frame + 288);
+  p5 = load64(frame + 280);
+  v19 = load64(frame + 272);
+  if (p4 > 1)
     goto after_15;
-  switch ((uint32_t)v12) {
+  switch ((uint32_t)p4) {
   case 1:
     goto after_1;
   default:
     goto after_16;
   }
 after_16:;
-  if (((v7 | v9) & 0xffu) == 0u)
+  if (((v7 | v14) & 0xffu) == 0u)
     goto after_17;
   v17 = 0;
-  v14 = v7;
+  v7 = v14;
   goto after_18;
 after_17:;
-  v12 = 0;
-  if (v13 != 0)
+  p4 = 0;
+  if (p5 != 0)
     goto after_19;
   v17 = 0;
   goto after_9;
 after_19:;
-  p4 = v10 + 1;
+  v19 = v19 + 1;
 again_20:;
-  if (load8(p4) == 0u)
+  if (load8(v19) == 0u)
     goto after_1;
-  p4 = p4 + 5;
-  v13 = v13 + 0xffffffffffffffff;
-  if (v13 != 0)
+  v19 = v19 + 5;
+  p5 = p5 + 0xffffffffffffffff;
+  if (p5 != 0)
     goto again_20;
   v17 = 0;
   goto after_9;
 after_15:;
-  if (load8(v11))
+  if (load8(v12))
     goto after_1;
-  v14 = (uint32_t)(load8(v11 + 1) != 0u) | v8;
-  v9 = v14 & 1u;
-  v17 = v9 ? 0ull : 2ull;
-  v14 = v14 ^ 1u;
-  if (v9)
+  v7 = (uint32_t)(load8(v12 + 1) != 0u) | v8;
+  v18 = v7 & 1u;
+  v17 = v18 ? 0ull : 2ull;
+  v7 = v7 ^ 1u;
+  if (v18)
     goto after_18;
-  if (v7 & 1u)
+  if (v14 & 1u)
     goto after_18;
   v17 = 2;
-  if (v13 == 0)
+  if (p5 == 0)
     goto after_9;
-  p4 = v10 + 1;
+  v19 = v19 + 1;
 again_21:;
-  if (load8(p4) == 0u)
+  if (load8(v19) == 0u)
     goto after_1;
-  p4 = p4 + 5;
-  v13 = v13 + 0xffffffffffffffff;
-  if (v13 != 0)
+  v19 = v19 + 5;
+  p5 = p5 + 0xffffffffffffffff;
+  if (p5 != 0)
     goto again_21;
   goto after_9;
 after_18:;
-  if (v14 & 1u)
+  if (v7 & 1u)
     goto after_9;
 after_1:;
+  der_view_walk_draw_left_3();
   store64(p0 + 16, 0);
   store64(p0 + 8, 0);
   store64(p0, 0);
   goto after_14;
 after_9:;
+  der_view_walk_draw_end_3();
   store64(p0, 1);
-  store64(p0 + 16, v12 - v17);
-  store64(p0 + 8, v11 + v17);
+  store64(p0 + 16, p4 - v17);
+  store64(p0 + 8, v12 + v17);
 after_14:;
 }
 
@@ -20508,13 +21033,25 @@ static uint32_t der_view_walk_follows_3(uint64_t p0, uint64_t p1, uint64_t p2, u
   return (uint32_t)(p4 == 1u);
 }
 
+/* der_view::walk::draw_left::<#ec1ad888fc6273f0> */
+static void der_view_walk_draw_left_3(void)
+{
+  return;
+}
+
+/* der_view::walk::draw_end::<#ec1ad888fc6273f0> */
+static void der_view_walk_draw_end_3(void)
+{
+  return;
+}
+
 /* der_view::form::draw_rows::<#927bfe390f535f75> */
 static void der_view_form_draw_rows(uint64_t p0, uint64_t p1, uint64_t p2, uint64_t p3, uint32_t p4)
 {
   FRAME(640)
   uint32_t v6 = 0, v7 = 0, v8 = 0, v9 = 0, v10 = 0, v11 = 0, v12 = 0, v13 = 0, v14 = 0, v17 = 0,
-      v18 = 0, t0;
-  uint64_t v15 = 0, v16 = 0, v19 = 0, v20 = 0;
+      v18 = 0, t1;
+  uint64_t v15 = 0, v16 = 0, v19 = 0, t0;
   v6 = load8(p1 + 8);
   v7 = load8(p1 + 6);
   v8 = load8(p1 + 5);
@@ -20617,25 +21154,27 @@ after_4:;
   p1 = load64(frame + 48);
   if (p1 == 0)
     goto after_2;
-  p2 = p3 - p1;
-  v19 = (v15 < p2) ? v15 : p2;
-  v15 = v15 - v19;
-  v20 = (v15 < p1) ? v15 : p1;
-  v16 = v16 + v19;
+  p2 = load64(frame + 24);
+  v15 = p3 - p1;
+  t0 = p2;
+  p2 = (p2 < v15) ? p2 : v15;
+  v16 = t0 - p2;
+  v16 = (v16 < p1) ? v16 : p1;
+  v19 = load64(frame + 16) + p2;
   p4 = 3;
-  v15 = 1;
+  p2 = 1;
   if (p3 != p1)
     goto after_7;
-  t0 = (uint32_t)(load8(p0 + 8) != 1u) | (uint32_t)(((uint32_t)load8(p0 + 14) & 0xffu) != 0u);
-  v8 = t0 | (uint32_t)load8(p0 + 18);
+  t1 = (uint32_t)(load8(p0 + 8) != 1u) | (uint32_t)(((uint32_t)load8(p0 + 14) & 0xffu) != 0u);
+  v8 = t1 | (uint32_t)load8(p0 + 18);
   p4 = (v8 & 1u) ? 0u : 2u;
-  v15 = (uint64_t)(v8 ^ 0xffffffffu) & 1;
+  p2 = (uint64_t)(v8 ^ 0xffffffffu) & 1;
 after_7:;
   store32(frame + 289, 0);
   store8(frame + 288, (uint8_t)v17);
   store64(frame + 280, p3);
   store64(frame + 272, 0);
-  store64(frame + 264, p2);
+  store64(frame + 264, v15);
   store64(frame + 368, 0);
   store64(frame + 360, p1);
   store64(frame + 352, 0);
@@ -20651,12 +21190,12 @@ after_7:;
   store64(frame + 384, 0);
   store64(frame + 392, 0);
   store32(frame + 424, p4);
-  store64(frame + 416, v15);
+  store64(frame + 416, p2);
   store64(frame + 408, 0);
   store64(frame + 400, CONSTANT(0));
   fill(frame + 428, 0, 180);
-  store64(frame + 632, v20);
-  store64(frame + 624, v16);
+  store64(frame + 632, v16);
+  store64(frame + 624, v19);
   store64(frame + 616, 0);
   store64(frame + 608, CONSTANT(0));
   der_view_printer_Printer_tell(p0, frame + 264);
@@ -20702,273 +21241,111 @@ after_2:;
 static void der_view_walk_draw_step_6(uint64_t p0, uint64_t p1, uint64_t p2, uint64_t p3,
     uint64_t p4, uint64_t p5, uint64_t p6)
 {
-  FRAME(816)
-  uint32_t v8 = 0, v12 = 0, v13 = 0, v14 = 0, v17 = 0, v18 = 0, t0;
-  uint64_t v9 = 0, v10 = 0, v11 = 0, v15 = 0, v16 = 0, v19 = 0, v20 = 0, v21 = 0, v22 = 0,
-      v23 = 0, v24 = 0, v25 = 0, v26 = 0, v27 = 0, v28 = 0, v29 = 0, t1, t2;
-  store32(frame + 184, load32(p4 + 25));
-  store32(frame + 187, load32(p4 + 28));
+  FRAME(272)
+  uint32_t v8 = 0, v12 = 0, v14 = 0, v15 = 0, v16 = 0;
+  uint64_t v9 = 0, v10 = 0, v11 = 0, v13 = 0;
+  store32(frame + 248, load32(p4 + 25));
+  store32(frame + 251, load32(p4 + 28));
   v8 = load8(p4 + 24);
   v9 = load64(p4 + 16);
   v10 = load64(p4 + 8);
   p4 = load64(p4);
-  v11 = 0;
-  store64(frame + 200, 0);
+  store64(frame + 264, 0);
+  store64(frame + 256, 0);
+  store64(frame + 208, 0);
+  store64(frame + 216, 0);
+  store64(frame + 224, 0);
+  store64(frame + 232, 0);
+  store64(frame + 240, 0);
+  store64(frame + 184, 0);
   store64(frame + 192, 0);
-  v12 = 0;
-  store32(frame + 176, 0);
-  store32(frame + 179, 0);
-  store64(frame + 136, 0);
-  store64(frame + 144, 0);
+  store64(frame + 200, 0);
   store64(frame + 152, 0);
   store64(frame + 160, 0);
   store64(frame + 168, 0);
-  store64(frame + 112, 0);
-  store64(frame + 120, 0);
-  store64(frame + 128, 0);
-  store64(frame + 88, 0);
-  store64(frame + 96, 0);
-  store64(frame + 104, 0);
-  store64(frame + 80, 0);
-  store64(frame + 72, 0);
+  store64(frame + 176, 0);
   store64(frame + 64, 0);
+  store64(frame + 72, 0);
+  store64(frame + 80, 0);
   store64(frame + 56, 0);
   store64(frame + 48, 0);
   store64(frame + 40, 0);
-  v13 = 1;
-  v14 = v8 & 1u;
-  v15 = v10 + 1;
-  v16 = p4 + load64(p6 + 16);
-  v17 = load8(p2);
-  v18 = load8(p6 + 58);
-  switch ((uint32_t)((uint64_t)v18 & 0xff)) {
-  case 6:
+  store64(frame + 32, 0);
+  store64(frame + 16, 0);
+  store64(frame + 24, 0);
+  v11 = v10 + 1;
+  store64(frame + 128, v11);
+  store64(frame + 136, v9);
+  v12 = v8 & 1u;
+  store8(frame + 144, (uint8_t)v12);
+  store32(frame + 145, 0);
+  store32(frame + 148, 0);
+  v13 = p4 + load64(p6 + 16);
+  store64(frame + 120, v13);
+  der_view_walk_opened_of_6(frame + 152, p1, p2, p3, frame + 120, p6);
+  store8(frame + 112, (uint8_t)v8);
+  store64(frame + 104, v9);
+  store64(frame + 96, v10);
+  store64(frame + 88, p4);
+  store32(frame + 113, load32(frame + 248));
+  store32(frame + 116, load32(frame + 251));
+  v14 = load8(frame + 176);
+  p4 = load64(frame + 168);
+  v15 = load8(frame + 160);
+  v8 = load8(frame + 152);
+  der_view_walk_draw_element_6(p1, p2, frame + 88, p5, (uint32_t)(v8 == 1u), p6);
+  if (v8 != 1u)
     goto after_1;
-  case 7:
+  v8 = load8(p6 + 24);
+  v16 = load8(p5 + 1);
+  der_view_grammar_Structure_components(frame, v15);
+  store8(frame + 209, (uint8_t)v16);
+  store8(frame + 208, (uint8_t)(uint32_t)(v8 != 1u));
+  store8(frame + 184, (uint8_t)v14);
+  store64(frame + 32, p4 + v13);
+  store64(frame + 40, v11);
+  store64(frame + 48, v9);
+  store8(frame + 56, (uint8_t)v12);
+  store64(frame + 224, load64(frame + 8));
+  store64(frame + 216, load64(frame));
+  store8(frame + 185, (uint8_t)(uint32_t)load8(p2 + 1));
+  store64(frame + 192, load64(p2 + 8));
+  store64(frame + 200, load64(p2 + 16));
+  store64(frame + 240, load64(p6 + 96) - p4);
+  store64(frame + 232, load64(p6 + 88) + p4);
+  store32(frame + 60, 0);
+  store32(frame + 57, 0);
+  der_view_walk_walk_6(frame + 64, p1, frame + 184, p3, frame + 32, frame + 208);
+  if (load8(frame + 64) != 1u)
     goto after_2;
-  case 8:
+  if (v8 == 1u)
     goto after_3;
-  default:
-    goto after_4;
-  }
+  store64(frame + 24, load64(frame + 80));
+  store64(frame + 16, load64(frame + 72));
+  goto after_4;
 after_1:;
-  v12 = load8(p6 + 59);
-  goto after_5;
-after_2:;
-  v19 = load64(p6 + 88);
-  v20 = load64(p6 + 96);
-  v12 = load8(p6 + 59);
-  v17 = 0;
-  store32(frame + 233, 0);
-  store8(frame + 232, (uint8_t)v14);
-  store64(frame + 224, v9);
-  store64(frame + 216, v15);
-  store64(frame + 208, v16);
-  store32(frame + 236, 0);
-  v11 = 0;
-  store64(frame + 408, 0);
-  store64(frame + 344, 0);
-  store64(frame + 784, 0);
-  store64(frame + 792, 0);
-  store64(frame + 800, 0);
-  der_view_grammar_Structure_components(frame + 24, v12);
-  store64(frame + 440, v20);
-  store64(frame + 432, v19);
-  store16(frame + 408, 256);
-  store8(frame + 344, 0);
-  store64(frame + 424, load64(frame + 32));
-  store64(frame + 416, load64(frame + 24));
-  store64(frame + 352, load64(p2 + 8));
-  store64(frame + 360, load64(p2 + 16));
-  store8(frame + 345, (uint8_t)(uint32_t)load8(p2 + 1));
-  der_view_walk_walk_6(frame + 784, p1, frame + 344, p3, frame + 208, frame + 408);
-  v13 = (uint32_t)(load8(frame + 784) == 1u);
-  v12 = v13 ? v12 : 0u;
-  goto after_5;
-after_3:;
-  v19 = load64(p6 + 96);
-  if (v19 == 0)
-    goto after_6;
-  v13 = 0;
-  v20 = load64(p6 + 88);
-  if (load8(v20))
-    goto after_7;
-  v19 = v19 + 0xffffffffffffffff;
-  if (v19 != 0)
-    goto after_8;
-  v13 = 0;
-  goto after_7;
-after_8:;
-  v12 = load8(p6 + 59);
-  v17 = 0;
-  store32(frame + 433, 0);
-  store8(frame + 432, (uint8_t)v14);
-  store64(frame + 424, v9);
-  store64(frame + 416, v15);
-  store64(frame + 408, v16);
-  store32(frame + 436, 0);
-  t0 = der_view_walk_follows_6(p1, p2, p3, frame + 408, v12, v20 + 1, v19);
-  v13 = t0;
-  v12 = v13 ? v12 : 0u;
-  v11 = v13;
-  goto after_5;
-after_4:;
-  v13 = 1;
-  if (load8(p6 + 24) != 1u)
-    goto after_9;
-  v12 = 0;
-  if (load8(p6 + 1) != 1u)
-    goto after_6;
-  if ((((uint32_t)((v18 & 0xffu) == 9u) | v17) & 1u) == 0u)
-    goto after_6;
-after_9:;
-  v12 = 84;
-  goto after_5;
-after_7:;
-  v12 = 0;
-  v17 = 0;
-  goto after_5;
-after_6:;
-  v13 = 0;
-  v17 = 0;
-after_5:;
-  v19 = (frame + 208) + 56;
-  fill(v19, 0, 80);
-  if (load8(p5 + 1))
-    goto after_10;
-  store64(frame + 376, load64(p6 + 32));
-  store64(frame + 368, load64(p6 + 24));
-  store64(frame + 360, load64(p6 + 16));
-  store64(frame + 352, load64(p6 + 8));
-  store64(frame + 344, load64(p6));
-  v21 = load64(p6 + 88);
-  v20 = load64(p6 + 96);
-  t1 = der_view_content_shown_len(load8(p2 + 1), frame + 344, load8(p6 + 58), load8(p6 + 59),
-      v21, v20);
-  v22 = t1;
-  v23 = CONSTANT(0);
-  v24 = 0;
-  v25 = 0;
-  v26 = CONSTANT(0);
-  v18 = load8(p6 + 80);
-  if (v18)
-    goto after_11;
-  v25 = load64(p5 + 16);
-  v26 = load64(p5 + 8);
-after_11:;
-  v27 = p6 + 40;
-  v28 = p6 + 56;
-  v29 = (load8(frame + 368) == 1u) ? v20 : 0ull;
-  if (v13)
-    goto after_12;
-  v23 = load64(p2 + 16);
-  v24 = load64(frame + 360) + p4;
-  t2 = v23;
-  v23 = (v23 < v24) ? v23 : v24;
-  v24 = t2 - v23;
-  v24 = (v24 < v20) ? v24 : v20;
-  v23 = load64(p2 + 8) + v23;
-after_12:;
-  store32(v19, load32(v28));
-  store8(v19 + 4, (uint8_t)(uint32_t)load8(v28 + 4));
-  store64(frame + 240, load64(p6 + 32));
-  store64(frame + 232, load64(p6 + 24));
-  store64(frame + 224, load64(p6 + 16));
-  store64(frame + 216, load64(p6 + 8));
-  store64(frame + 208, load64(p6));
-  store64(frame + 248, load64(v27));
-  store64(frame + 256, load64(v27 + 8));
-  store8(frame + 336, (uint8_t)v13);
-  store64(frame + 328, v24);
-  store64(frame + 320, v23);
-  store64(frame + 312, v22);
-  store64(frame + 304, v21);
-  store64(frame + 296, v29);
-  store8(frame + 288, (uint8_t)v18);
-  store64(frame + 280, v25);
-  store64(frame + 272, v26);
-  store8(frame + 808, (uint8_t)v8);
-  store64(frame + 800, v9);
-  store64(frame + 792, v10);
-  store64(frame + 784, p4);
-  store32(frame + 809, load32(frame + 184));
-  store32(frame + 812, load32(frame + 187));
-  fill(frame + 408, 0, 376);
-  store64(frame + 400, load64(p1 + 16));
-  store64(frame + 392, load64(p1 + 8));
-  store64(frame + 384, load64(p1));
-  der_view_facts_RowFacts_of_element(frame + 408, frame + 384, 0, frame + 784, frame + 208);
-  if (load8(p1 + 24) == 1u)
-    goto after_10;
-  p4 = load64(frame + 408);
-  if (load8(frame + 560) == 1u)
-    goto after_13;
-  if (((uint32_t)load8(frame + 592) & 0xffu) == 1u)
-    goto after_13;
-  if (((uint32_t)load8(frame + 624) & 0xffu) == 1u)
-    goto after_13;
-  if (((uint32_t)load8(frame + 656) & 0xffu) == 1u)
-    goto after_13;
-  if (((uint32_t)load8(frame + 688) & 0xffu) == 1u)
-    goto after_13;
-  if (((uint32_t)load8(frame + 720) & 0xffu) != 1u)
-    goto after_10;
-after_13:;
-  store64(p1 + 32, p4);
-  store64(p1 + 24, 1);
-after_10:;
-  if (v13 == 0u)
-    goto after_14;
-  v13 = load8(p6 + 24);
-  v8 = load8(p5 + 1);
-  der_view_grammar_Structure_components(frame + 8, v12);
-  store8(frame + 137, (uint8_t)v8);
-  v13 = (uint32_t)(v13 != 1u);
-  store8(frame + 136, (uint8_t)v13);
-  store8(frame + 112, (uint8_t)v17);
-  store64(frame + 56, v11 + v16);
-  store64(frame + 64, v15);
-  store64(frame + 72, v9);
-  store8(frame + 80, (uint8_t)v14);
-  store64(frame + 152, load64(frame + 16));
-  store64(frame + 144, load64(frame + 8));
-  store8(frame + 113, (uint8_t)(uint32_t)load8(p2 + 1));
-  store64(frame + 120, load64(p2 + 8));
-  store64(frame + 128, load64(p2 + 16));
-  store64(frame + 168, load64(p6 + 96) - v11);
-  store64(frame + 160, load64(p6 + 88) + v11);
-  store32(frame + 84, load32(frame + 179));
-  store32(frame + 81, load32(frame + 176));
-  der_view_walk_walk_6(frame + 88, p1, frame + 112, p3, frame + 56, frame + 136);
-  if (load8(frame + 88) != 1u)
-    goto after_15;
-  if (v13 == 0u)
-    goto after_16;
-  store64(frame + 48, load64(frame + 104));
-  store64(frame + 40, load64(frame + 96));
-  goto after_17;
-after_14:;
   p4 = load64(p6 + 112);
   p6 = load64(p6 + 104);
   store64(p0, 1);
   store64(p0 + 8, p6);
   store64(p0 + 16, p4);
-  store64(frame + 200, p4);
-  store64(frame + 192, p6);
-  goto after_18;
-after_15:;
+  store64(frame + 264, p4);
+  store64(frame + 256, p6);
+  goto after_5;
+after_2:;
   store64(p0 + 16, 0);
   store64(p0 + 8, 0);
   store64(p0, 0);
-  goto after_18;
-after_16:;
-  store64(frame + 48, load64(p6 + 112));
-  store64(frame + 40, load64(p6 + 104));
-after_17:;
+  goto after_5;
+after_3:;
+  store64(frame + 24, load64(p6 + 112));
+  store64(frame + 16, load64(p6 + 104));
+after_4:;
   store64(p0, 1);
-  store64(p0 + 8, load64(frame + 40));
-  store64(p0 + 16, load64(frame + 48));
-after_18:;
+  store64(p0 + 8, load64(frame + 16));
+  store64(p0 + 16, load64(frame + 24));
+  goto after_5;
+after_5:;
 }
 
 /* der_view::said::first_line */
@@ -22674,257 +23051,111 @@ after_1:;
 static void der_view_walk_draw_step_7(uint64_t p0, uint64_t p1, uint64_t p2, uint64_t p3,
     uint64_t p4, uint64_t p5, uint64_t p6)
 {
-  FRAME(816)
-  uint32_t v8 = 0, v12 = 0, v13 = 0, v14 = 0, v17 = 0, v18 = 0, t0;
-  uint64_t v9 = 0, v10 = 0, v11 = 0, v15 = 0, v16 = 0, v19 = 0, v20 = 0, v21 = 0, v22 = 0,
-      v23 = 0, v24 = 0, v25 = 0, v26 = 0, v27 = 0, v28 = 0, v29 = 0, t1, t2;
-  store32(frame + 184, load32(p4 + 25));
-  store32(frame + 187, load32(p4 + 28));
+  FRAME(272)
+  uint32_t v8 = 0, v12 = 0, v14 = 0, v15 = 0, v16 = 0;
+  uint64_t v9 = 0, v10 = 0, v11 = 0, v13 = 0;
+  store32(frame + 248, load32(p4 + 25));
+  store32(frame + 251, load32(p4 + 28));
   v8 = load8(p4 + 24);
   v9 = load64(p4 + 16);
   v10 = load64(p4 + 8);
   p4 = load64(p4);
-  v11 = 0;
-  store64(frame + 200, 0);
+  store64(frame + 264, 0);
+  store64(frame + 256, 0);
+  store64(frame + 208, 0);
+  store64(frame + 216, 0);
+  store64(frame + 224, 0);
+  store64(frame + 232, 0);
+  store64(frame + 240, 0);
+  store64(frame + 184, 0);
   store64(frame + 192, 0);
-  v12 = 0;
-  store32(frame + 176, 0);
-  store32(frame + 179, 0);
-  store64(frame + 136, 0);
-  store64(frame + 144, 0);
+  store64(frame + 200, 0);
   store64(frame + 152, 0);
   store64(frame + 160, 0);
   store64(frame + 168, 0);
-  store64(frame + 112, 0);
-  store64(frame + 120, 0);
-  store64(frame + 128, 0);
-  store64(frame + 88, 0);
-  store64(frame + 96, 0);
-  store64(frame + 104, 0);
-  store64(frame + 80, 0);
-  store64(frame + 72, 0);
+  store64(frame + 176, 0);
   store64(frame + 64, 0);
+  store64(frame + 72, 0);
+  store64(frame + 80, 0);
   store64(frame + 56, 0);
   store64(frame + 48, 0);
   store64(frame + 40, 0);
-  v13 = 1;
-  v14 = v8 & 1u;
-  v15 = v10 + 1;
-  v16 = p4 + load64(p6 + 16);
-  v17 = load8(p2);
-  v18 = load8(p6 + 58);
-  switch ((uint32_t)((uint64_t)v18 & 0xff)) {
-  case 6:
+  store64(frame + 32, 0);
+  store64(frame + 16, 0);
+  store64(frame + 24, 0);
+  v11 = v10 + 1;
+  store64(frame + 128, v11);
+  store64(frame + 136, v9);
+  v12 = v8 & 1u;
+  store8(frame + 144, (uint8_t)v12);
+  store32(frame + 145, 0);
+  store32(frame + 148, 0);
+  v13 = p4 + load64(p6 + 16);
+  store64(frame + 120, v13);
+  der_view_walk_opened_of_7(frame + 152, p1, p2, p3, frame + 120, p6);
+  store8(frame + 112, (uint8_t)v8);
+  store64(frame + 104, v9);
+  store64(frame + 96, v10);
+  store64(frame + 88, p4);
+  store32(frame + 113, load32(frame + 248));
+  store32(frame + 116, load32(frame + 251));
+  v14 = load8(frame + 176);
+  p4 = load64(frame + 168);
+  v15 = load8(frame + 160);
+  v8 = load8(frame + 152);
+  der_view_walk_draw_element_7(p1, p2, frame + 88, p5, (uint32_t)(v8 == 1u), p6);
+  if (v8 != 1u)
     goto after_1;
-  case 7:
+  v8 = load8(p6 + 24);
+  v16 = load8(p5 + 1);
+  der_view_grammar_Structure_components(frame, v15);
+  store8(frame + 209, (uint8_t)v16);
+  store8(frame + 208, (uint8_t)(uint32_t)(v8 != 1u));
+  store8(frame + 184, (uint8_t)v14);
+  store64(frame + 32, p4 + v13);
+  store64(frame + 40, v11);
+  store64(frame + 48, v9);
+  store8(frame + 56, (uint8_t)v12);
+  store64(frame + 224, load64(frame + 8));
+  store64(frame + 216, load64(frame));
+  store8(frame + 185, (uint8_t)(uint32_t)load8(p2 + 1));
+  store64(frame + 192, load64(p2 + 8));
+  store64(frame + 200, load64(p2 + 16));
+  store64(frame + 240, load64(p6 + 96) - p4);
+  store64(frame + 232, load64(p6 + 88) + p4);
+  store32(frame + 60, 0);
+  store32(frame + 57, 0);
+  der_view_walk_walk_7(frame + 64, p1, frame + 184, p3, frame + 32, frame + 208);
+  if (load8(frame + 64) != 1u)
     goto after_2;
-  case 8:
+  if (v8 == 1u)
     goto after_3;
-  default:
-    goto after_4;
-  }
+  store64(frame + 24, load64(frame + 80));
+  store64(frame + 16, load64(frame + 72));
+  goto after_4;
 after_1:;
-  v12 = load8(p6 + 59);
-  goto after_5;
-after_2:;
-  v19 = load64(p6 + 88);
-  v20 = load64(p6 + 96);
-  v12 = load8(p6 + 59);
-  v17 = 0;
-  store32(frame + 233, 0);
-  store8(frame + 232, (uint8_t)v14);
-  store64(frame + 224, v9);
-  store64(frame + 216, v15);
-  store64(frame + 208, v16);
-  store32(frame + 236, 0);
-  v11 = 0;
-  store64(frame + 408, 0);
-  store64(frame + 344, 0);
-  store64(frame + 784, 0);
-  store64(frame + 792, 0);
-  store64(frame + 800, 0);
-  der_view_grammar_Structure_components(frame + 24, v12);
-  store64(frame + 440, v20);
-  store64(frame + 432, v19);
-  store16(frame + 408, 256);
-  store8(frame + 344, 0);
-  store64(frame + 424, load64(frame + 32));
-  store64(frame + 416, load64(frame + 24));
-  store64(frame + 352, load64(p2 + 8));
-  store64(frame + 360, load64(p2 + 16));
-  store8(frame + 345, (uint8_t)(uint32_t)load8(p2 + 1));
-  der_view_walk_walk_7(frame + 784, p1, frame + 344, p3, frame + 208, frame + 408);
-  v13 = (uint32_t)(load8(frame + 784) == 1u);
-  v12 = v13 ? v12 : 0u;
-  goto after_5;
-after_3:;
-  v19 = load64(p6 + 96);
-  if (v19 == 0)
-    goto after_6;
-  v13 = 0;
-  v20 = load64(p6 + 88);
-  if (load8(v20))
-    goto after_7;
-  v19 = v19 + 0xffffffffffffffff;
-  if (v19 != 0)
-    goto after_8;
-  v13 = 0;
-  goto after_7;
-after_8:;
-  v12 = load8(p6 + 59);
-  v17 = 0;
-  store32(frame + 433, 0);
-  store8(frame + 432, (uint8_t)v14);
-  store64(frame + 424, v9);
-  store64(frame + 416, v15);
-  store64(frame + 408, v16);
-  store32(frame + 436, 0);
-  t0 = der_view_walk_follows_7(p1, p2, p3, frame + 408, v12, v20 + 1, v19);
-  v13 = t0;
-  v12 = v13 ? v12 : 0u;
-  v11 = v13;
-  goto after_5;
-after_4:;
-  v13 = 1;
-  if (load8(p6 + 24) != 1u)
-    goto after_9;
-  v12 = 0;
-  if (load8(p6 + 1) != 1u)
-    goto after_6;
-  if ((((uint32_t)((v18 & 0xffu) == 9u) | v17) & 1u) == 0u)
-    goto after_6;
-after_9:;
-  v12 = 84;
-  goto after_5;
-after_7:;
-  v12 = 0;
-  v17 = 0;
-  goto after_5;
-after_6:;
-  v13 = 0;
-  v17 = 0;
-after_5:;
-  v19 = (frame + 208) + 56;
-  fill(v19, 0, 80);
-  if (load8(p5 + 1))
-    goto after_10;
-  store64(frame + 376, load64(p6 + 32));
-  store64(frame + 368, load64(p6 + 24));
-  store64(frame + 360, load64(p6 + 16));
-  store64(frame + 352, load64(p6 + 8));
-  store64(frame + 344, load64(p6));
-  v21 = load64(p6 + 88);
-  v20 = load64(p6 + 96);
-  t1 = der_view_content_shown_len(load8(p2 + 1), frame + 344, load8(p6 + 58), load8(p6 + 59),
-      v21, v20);
-  v22 = t1;
-  v23 = CONSTANT(0);
-  v24 = 0;
-  v25 = 0;
-  v26 = CONSTANT(0);
-  v18 = load8(p6 + 80);
-  if (v18)
-    goto after_11;
-  v25 = load64(p5 + 16);
-  v26 = load64(p5 + 8);
-after_11:;
-  v27 = p6 + 40;
-  v28 = p6 + 56;
-  v29 = (load8(frame + 368) == 1u) ? v20 : 0ull;
-  if (v13)
-    goto after_12;
-  v23 = load64(p2 + 16);
-  v24 = load64(frame + 360) + p4;
-  t2 = v23;
-  v23 = (v23 < v24) ? v23 : v24;
-  v24 = t2 - v23;
-  v24 = (v24 < v20) ? v24 : v20;
-  v23 = load64(p2 + 8) + v23;
-after_12:;
-  store32(v19, load32(v28));
-  store8(v19 + 4, (uint8_t)(uint32_t)load8(v28 + 4));
-  store64(frame + 240, load64(p6 + 32));
-  store64(frame + 232, load64(p6 + 24));
-  store64(frame + 224, load64(p6 + 16));
-  store64(frame + 216, load64(p6 + 8));
-  store64(frame + 208, load64(p6));
-  store64(frame + 248, load64(v27));
-  store64(frame + 256, load64(v27 + 8));
-  store8(frame + 336, (uint8_t)v13);
-  store64(frame + 328, v24);
-  store64(frame + 320, v23);
-  store64(frame + 312, v22);
-  store64(frame + 304, v21);
-  store64(frame + 296, v29);
-  store8(frame + 288, (uint8_t)v18);
-  store64(frame + 280, v25);
-  store64(frame + 272, v26);
-  store8(frame + 808, (uint8_t)v8);
-  store64(frame + 800, v9);
-  store64(frame + 792, v10);
-  store64(frame + 784, p4);
-  store32(frame + 809, load32(frame + 184));
-  store32(frame + 812, load32(frame + 187));
-  fill(frame + 408, 0, 376);
-  store64(frame + 400, load64(p1 + 24));
-  store64(frame + 392, load64(p1 + 16));
-  store64(frame + 384, load64(p1 + 8));
-  der_view_facts_RowFacts_of_element(frame + 408, frame + 384, load8(p1 + 32), frame + 784,
-      frame + 208);
-  der_view_printer_Printer_tell(p1, frame + 408);
-after_10:;
-  if (v13 == 0u)
-    goto after_13;
-  v13 = load8(p6 + 24);
-  v8 = load8(p5 + 1);
-  der_view_grammar_Structure_components(frame + 8, v12);
-  store8(frame + 137, (uint8_t)v8);
-  v13 = (uint32_t)(v13 != 1u);
-  store8(frame + 136, (uint8_t)v13);
-  store8(frame + 112, (uint8_t)v17);
-  store64(frame + 56, v11 + v16);
-  store64(frame + 64, v15);
-  store64(frame + 72, v9);
-  store8(frame + 80, (uint8_t)v14);
-  store64(frame + 152, load64(frame + 16));
-  store64(frame + 144, load64(frame + 8));
-  store8(frame + 113, (uint8_t)(uint32_t)load8(p2 + 1));
-  store64(frame + 120, load64(p2 + 8));
-  store64(frame + 128, load64(p2 + 16));
-  store64(frame + 168, load64(p6 + 96) - v11);
-  store64(frame + 160, load64(p6 + 88) + v11);
-  store32(frame + 84, load32(frame + 179));
-  store32(frame + 81, load32(frame + 176));
-  der_view_walk_walk_7(frame + 88, p1, frame + 112, p3, frame + 56, frame + 136);
-  if (load8(frame + 88) != 1u)
-    goto after_14;
-  if (v13 == 0u)
-    goto after_15;
-  store64(frame + 48, load64(frame + 104));
-  store64(frame + 40, load64(frame + 96));
-  goto after_16;
-after_13:;
   p4 = load64(p6 + 112);
   p6 = load64(p6 + 104);
   store64(p0, 1);
   store64(p0 + 8, p6);
   store64(p0 + 16, p4);
-  store64(frame + 200, p4);
-  store64(frame + 192, p6);
-  goto after_17;
-after_14:;
+  store64(frame + 264, p4);
+  store64(frame + 256, p6);
+  goto after_5;
+after_2:;
   store64(p0 + 16, 0);
   store64(p0 + 8, 0);
   store64(p0, 0);
-  goto after_17;
-after_15:;
-  store64(frame + 48, load64(p6 + 112));
-  store64(frame + 40, load64(p6 + 104));
-after_16:;
+  goto after_5;
+after_3:;
+  store64(frame + 24, load64(p6 + 112));
+  store64(frame + 16, load64(p6 + 104));
+after_4:;
   store64(p0, 1);
-  store64(p0 + 8, load64(frame + 40));
-  store64(p0 + 16, load64(frame + 48));
-after_17:;
+  store64(p0 + 8, load64(frame + 16));
+  store64(p0 + 16, load64(frame + 24));
+  goto after_5;
+after_5:;
 }
 
 /* der_view::line::Line::push_mark */
@@ -26717,360 +26948,420 @@ after_11:;
 after_5:;
 }
 
+/* der_view::walk::opened_of::<#927bfe390f535f75> */
+static void der_view_walk_opened_of_7(uint64_t p0, uint64_t p1, uint64_t p2, uint64_t p3,
+    uint64_t p4, uint64_t p5)
+{
+  FRAME(192)
+  uint32_t v7 = 0, v8 = 0, v9 = 0, v14 = 0, t0;
+  uint64_t v10 = 0, v11 = 0, v12 = 0, v13 = 0;
+  v7 = 0;
+  store32(frame + 59, 0);
+  store32(frame + 56, 0);
+  v8 = load8(p2);
+  v9 = load8(p5 + 58);
+  switch ((uint32_t)((uint64_t)v9 & 0xff)) {
+  case 6:
+    goto after_1;
+  case 7:
+    goto after_2;
+  case 8:
+    goto after_3;
+  default:
+    goto after_4;
+  }
+after_1:;
+  store32(frame + 64, 0);
+  store32(frame + 67, 0);
+  v10 = load8(p5 + 59);
+  p5 = 0;
+  v11 = 1;
+  v7 = v8;
+  goto after_5;
+after_2:;
+  v11 = load64(p5 + 88);
+  v10 = load64(p5 + 96);
+  v8 = load8(p5 + 59);
+  p5 = 0;
+  store64(frame + 120, 0);
+  store64(frame + 96, 0);
+  store64(frame + 72, 0);
+  store64(frame + 80, 0);
+  store64(frame + 88, 0);
+  store64(frame + 160, load64(p4));
+  store64(frame + 168, load64(p4 + 8));
+  store64(frame + 176, load64(p4 + 16));
+  store64(frame + 184, load64(p4 + 24));
+  der_view_grammar_Structure_components(frame + 8, v8);
+  store64(frame + 152, v10);
+  store64(frame + 144, v11);
+  store16(frame + 120, 256);
+  store8(frame + 96, 0);
+  store64(frame + 136, load64(frame + 16));
+  store64(frame + 128, load64(frame + 8));
+  store64(frame + 104, load64(p2 + 8));
+  store64(frame + 112, load64(p2 + 16));
+  store8(frame + 97, (uint8_t)(uint32_t)load8(p2 + 1));
+  der_view_walk_walk_7(frame + 72, p1, frame + 96, p3, frame + 160, frame + 120);
+  v9 = load8(frame + 72);
+  store32(frame + 123, 0);
+  store32(frame + 120, 0);
+  store32(frame + 64, load32(frame + 120));
+  store32(frame + 67, load32(frame + 123));
+  v9 = (uint32_t)(v9 == 1u);
+  v10 = (uint64_t)(v9 ? v8 : 0u) & 0xff;
+  v11 = v9;
+  goto after_5;
+after_3:;
+  v10 = 0;
+  v12 = load64(p5 + 96);
+  if (v12 != 0)
+    goto after_6;
+  v11 = 0;
+  goto after_7;
+after_6:;
+  v13 = load64(p5 + 88);
+  if (load8(v13) == 0u)
+    goto after_8;
+  v11 = 0;
+  goto after_7;
+after_8:;
+  v11 = 0;
+  v12 = v12 + 0xffffffffffffffff;
+  if (v12 == 0)
+    goto after_7;
+  v7 = load8(p5 + 59);
+  store64(frame + 48, load64(p4 + 24));
+  store64(frame + 40, load64(p4 + 16));
+  store64(frame + 32, load64(p4 + 8));
+  store64(frame + 24, load64(p4));
+  t0 = der_view_walk_follows_7(p1, p2, p3, frame + 24, v7, v13 + 1, v12);
+  v8 = t0;
+  store32(frame + 123, 0);
+  store32(frame + 120, 0);
+  store32(frame + 56, load32(frame + 120));
+  store32(frame + 59, load32(frame + 123));
+  v10 = v8 ? ((uint64_t)v7 & 0xff) : 0ull;
+  v11 = v8;
+after_7:;
+  store32(frame + 67, load32(frame + 59));
+  store32(frame + 64, load32(frame + 56));
+  v7 = 0;
+  p5 = v11;
+  goto after_5;
+after_4:;
+  if (load8(p5 + 24) != 1u)
+    goto after_9;
+  v14 = load8(p5 + 1);
+  v7 = 0;
+  store32(frame + 123, 0);
+  store32(frame + 120, 0);
+  v10 = 0;
+  if (v14 == 1u)
+    goto after_10;
+  v11 = 0;
+  goto after_11;
+after_10:;
+  v11 = 0;
+  if ((((uint32_t)((v9 & 0xffu) == 9u) | v8) & 1u) == 0u)
+    goto after_11;
+after_9:;
+  store32(frame + 123, 0);
+  store32(frame + 120, 0);
+  v11 = 1;
+  v10 = 84;
+  v7 = v8;
+after_11:;
+  store32(frame + 67, load32(frame + 123));
+  store32(frame + 64, load32(frame + 120));
+  p5 = 0;
+after_5:;
+  store64(p0, v11);
+  store8(p0 + 24, (uint8_t)v7);
+  store64(p0 + 16, p5);
+  store64(p0 + 8, v10);
+  store32(p0 + 25, load32(frame + 64));
+  store32(p0 + 28, load32(frame + 67));
+  return;
+}
+
+/* der_view::walk::draw_element::<#927bfe390f535f75> */
+static void der_view_walk_draw_element_7(uint64_t p0, uint64_t p1, uint64_t p2, uint64_t p3,
+    uint32_t p4, uint64_t p5)
+{
+  FRAME(608)
+  uint32_t v15 = 0;
+  uint64_t v7 = 0, v8 = 0, v9 = 0, v10 = 0, v11 = 0, v12 = 0, v13 = 0, v14 = 0, v16 = 0,
+      v17 = 0, t0, t1;
+  v7 = load64(p2);
+  fill(frame + 56, 0, 80);
+  if (load8(p3 + 1) == 1u)
+    goto after_1;
+  store64(frame + 168, load64(p5 + 32));
+  store64(frame + 160, load64(p5 + 24));
+  store64(frame + 152, load64(p5 + 16));
+  store64(frame + 144, load64(p5 + 8));
+  store64(frame + 136, load64(p5));
+  v8 = load64(p5 + 88);
+  v9 = load64(p5 + 96);
+  t0 = der_view_content_shown_len(load8(p1 + 1), frame + 136, load8(p5 + 58), load8(p5 + 59),
+      v8, v9);
+  v10 = t0;
+  v11 = CONSTANT(0);
+  v12 = 0;
+  v13 = 0;
+  v14 = CONSTANT(0);
+  v15 = load8(p5 + 80);
+  if (v15)
+    goto after_2;
+  v13 = load64(p3 + 16);
+  v14 = load64(p3 + 8);
+after_2:;
+  p2 = p2 + 8;
+  p3 = p5 + 40;
+  v16 = p5 + 56;
+  v17 = (load8(frame + 160) == 1u) ? v9 : 0ull;
+  if (p4)
+    goto after_3;
+  v11 = load64(p1 + 16);
+  v12 = load64(frame + 152) + v7;
+  t1 = v11;
+  v11 = (v11 < v12) ? v11 : v12;
+  v12 = t1 - v11;
+  v12 = (v12 < v9) ? v12 : v9;
+  v11 = load64(p1 + 8) + v11;
+after_3:;
+  store64(frame + 32, load64(p5 + 32));
+  store64(frame + 24, load64(p5 + 24));
+  store64(frame + 16, load64(p5 + 16));
+  store64(frame + 8, load64(p5 + 8));
+  store64(frame, load64(p5));
+  store64(frame + 40, load64(p3));
+  store64(frame + 48, load64(p3 + 8));
+  store32(frame + 56, load32(v16));
+  store8(frame + 60, (uint8_t)(uint32_t)load8(v16 + 4));
+  store8(frame + 128, (uint8_t)p4);
+  store64(frame + 120, v12);
+  store64(frame + 112, v11);
+  store64(frame + 104, v10);
+  store64(frame + 96, v8);
+  store64(frame + 88, v17);
+  store8(frame + 80, (uint8_t)v15);
+  store64(frame + 72, v13);
+  store64(frame + 64, v14);
+  store64(frame + 576, v7);
+  store64(frame + 584, load64(p2));
+  store64(frame + 592, load64(p2 + 8));
+  store64(frame + 600, load64(p2 + 16));
+  fill(frame + 200, 0, 376);
+  store64(frame + 192, load64(p0 + 24));
+  store64(frame + 184, load64(p0 + 16));
+  store64(frame + 176, load64(p0 + 8));
+  der_view_facts_RowFacts_of_element(frame + 200, frame + 176, load8(p0 + 32), frame + 576, frame);
+  der_view_printer_Printer_tell(p0, frame + 200);
+after_1:;
+  return;
+}
+
 /* der_view::walk::walk::<#927bfe390f535f75> */
 static void der_view_walk_walk_7(uint64_t p0, uint64_t p1, uint64_t p2, uint64_t p3,
     uint64_t p4, uint64_t p5)
 {
-  FRAME(592)
-  uint32_t v9 = 0, v10 = 0, v15 = 0, v19 = 0, v21 = 0, t0, t1;
-  uint64_t v7 = 0, v8 = 0, v11 = 0, v12 = 0, v13 = 0, v14 = 0, v16 = 0, v17 = 0, v18 = 0, v20 = 0;
+  FRAME(464)
+  uint32_t v7 = 0, v8 = 0, v14 = 0, v18 = 0, v20 = 0;
+  uint64_t v9 = 0, v10 = 0, v11 = 0, v12 = 0, v13 = 0, v15 = 0, v16 = 0, v17 = 0, v19 = 0;
+  fill(frame + 144, 0, 120);
   store64(frame + 16, 0);
   store64(frame + 8, 0);
   store64(frame, 0);
-  store64(frame + 184, load64(p4));
-  store64(frame + 192, load64(p4 + 8));
-  store64(frame + 200, load64(p4 + 16));
-  store64(frame + 208, load64(p4 + 24));
-  store64(frame + 144, load64(p5));
-  store64(frame + 152, load64(p5 + 8));
-  store64(frame + 160, load64(p5 + 16));
-  store64(frame + 168, load64(p5 + 24));
-  store64(frame + 176, load64(p5 + 32));
-  v7 = load64(frame + 184);
-  if (p3 != 0)
+  store64(frame + 304, load64(p4));
+  store64(frame + 312, load64(p4 + 8));
+  store64(frame + 320, load64(p4 + 16));
+  store64(frame + 328, load64(p4 + 24));
+  store64(frame + 264, load64(p5));
+  store64(frame + 272, load64(p5 + 8));
+  store64(frame + 280, load64(p5 + 16));
+  store64(frame + 288, load64(p5 + 24));
+  store64(frame + 296, load64(p5 + 32));
+  if (p3 == 0)
     goto after_1;
-  v8 = load64(frame + 192);
-  goto after_2;
-after_1:;
-  v9 = load8(frame + 144);
-  v10 = v9 ^ 1u;
-  p4 = load64(frame + 176);
-  v8 = load64(frame + 192);
-  if (v8 > 63)
-    goto after_3;
-  v11 = (frame + 216) + 8;
-  v12 = (frame + 144) + 8;
-  v13 = frame + 88;
-  v14 = load64(frame + 168);
-again_15:;
-  v15 = load8(p2);
-  v16 = load64(frame + 160);
-  v17 = load64(frame + 152);
+  v7 = load8(frame + 264);
+  v8 = v7 ^ 1u;
+  p4 = load64(frame + 296);
+  if (load64(frame + 312) > 63)
+    goto after_2;
+  v9 = frame + 208;
+  v10 = (frame + 336) + 8;
+  v11 = (frame + 264) + 8;
+  v12 = load64(frame + 288);
+  v13 = load64(frame + 304);
+again_13:;
+  v14 = load8(p2);
+  v15 = load64(frame + 280);
+  v16 = load64(frame + 272);
   if (p4 > 1)
-    goto after_4;
+    goto after_3;
   switch ((uint32_t)p4) {
   case 1:
-    goto after_5;
+    goto after_4;
   default:
-    goto after_6;
+    goto after_5;
   }
+after_5:;
+  if (((v7 | v14) & 0xffu) == 0u)
+    goto after_6;
+  v17 = 0;
+  v18 = v14;
+  goto after_7;
 after_6:;
-  if (((v9 | v15) & 0xffu) == 0u)
-    goto after_7;
-  v18 = 0;
-  v19 = v15;
-  goto after_8;
-after_7:;
-  v18 = 0;
-  if (v16 != 0)
-    goto after_9;
-  v16 = 0;
+  v17 = 0;
+  if (v15 != 0)
+    goto after_8;
   p4 = 0;
-  goto after_10;
-after_9:;
-  p5 = v17 + 1;
-  v20 = v16;
+  goto after_9;
+after_8:;
+  p5 = v16 + 1;
+  v19 = v15;
+again_10:;
+  if (load8(p5) == 0u)
+    goto after_4;
+  p5 = p5 + 5;
+  v19 = v19 + 0xffffffffffffffff;
+  if (v19 != 0)
+    goto again_10;
+  p4 = 0;
+  goto after_9;
+after_3:;
+  if (load8(v12))
+    goto after_4;
+  v18 = (uint32_t)(load8(v12 + 1) != 0u) | v8;
+  v20 = v18 & 1u;
+  v17 = v20 ? 0ull : 2ull;
+  v18 = v18 ^ 1u;
+  if (v20)
+    goto after_7;
+  if (v14 & 1u)
+    goto after_7;
+  v17 = 2;
+  if (v15 == 0)
+    goto after_9;
+  p5 = v16 + 1;
+  v19 = v15;
 again_11:;
   if (load8(p5) == 0u)
-    goto after_5;
+    goto after_4;
   p5 = p5 + 5;
-  v20 = v20 + 0xffffffffffffffff;
-  if (v20 != 0)
+  v19 = v19 + 0xffffffffffffffff;
+  if (v19 != 0)
     goto again_11;
-  p4 = 0;
-  goto after_10;
+  goto after_9;
+after_7:;
+  if (v18 & 1u)
+    goto after_9;
 after_4:;
-  if (load8(v14))
-    goto after_5;
-  v19 = (uint32_t)(load8(v14 + 1) != 0u) | v10;
-  v21 = v19 & 1u;
-  v18 = v21 ? 0ull : 2ull;
-  v19 = v19 ^ 1u;
-  if (v21)
-    goto after_8;
-  if (v15 & 1u)
-    goto after_8;
-  v18 = 2;
-  if (v16 != 0)
-    goto after_12;
-  v16 = 0;
-  goto after_10;
-after_12:;
-  p5 = v17 + 1;
-  v20 = v16;
-again_13:;
-  if (load8(p5) == 0u)
-    goto after_5;
-  p5 = p5 + 5;
-  v20 = v20 + 0xffffffffffffffff;
-  if (v20 != 0)
-    goto again_13;
-  goto after_10;
-after_8:;
-  if (v19 & 1u)
-    goto after_10;
-after_5:;
-  fill(frame + 216, 0, 128);
-  v15 = v15 & 1u;
-  der_view_step_step_by(frame + 216, v15, v15, v17, v16, v14, p4);
-  v15 = load8(frame + 216);
-  move(frame + 24, v11, 120);
-  if (v15 != 1u)
-    goto after_2;
+  fill(frame + 336, 0, 128);
+  v14 = v14 & 1u;
+  der_view_step_step_by(frame + 336, v14, v14, v16, v15, v12, p4);
+  v14 = load8(frame + 336);
+  move(frame + 24, v10, 120);
+  if (v14 != 1u)
+    goto after_1;
+  move(frame + 144, frame + 24, 120);
   p3 = p3 + 0xffffffffffffffff;
-  der_view_walk_draw_step_7(frame, p1, p2, p3, frame + 184, frame + 144, frame + 24);
+  der_view_walk_draw_step_7(frame, p1, p2, p3, frame + 304, frame + 264, frame + 144);
   if (load8(frame) != 1u)
-    goto after_14;
-  store64(v12, load64(v13));
-  store64(v12 + 8, load64(v13 + 8));
+    goto after_12;
+  store64(v11, load64(v9));
+  store64(v11 + 8, load64(v9 + 8));
   p5 = load64(frame + 16);
-  store64(frame + 176, p5);
-  v14 = load64(frame + 8);
-  store64(frame + 168, v14);
-  v7 = (p4 - p5) + v7;
-  store64(frame + 184, v7);
+  store64(frame + 296, p5);
+  v12 = load64(frame + 8);
+  store64(frame + 288, v12);
+  v13 = (p4 - p5) + v13;
+  store64(frame + 304, v13);
   p4 = p5;
-  if (p3 == 0)
-    goto after_2;
-  goto again_15;
-after_14:;
+  if (p3 != 0)
+    goto again_13;
+  goto after_1;
+after_12:;
   store64(p0 + 16, 0);
   store64(p0 + 8, 0);
   store64(p0, 0);
-  goto after_16;
-after_3:;
-  v15 = load8(p2);
-  v14 = load64(frame + 168);
-  v16 = load64(frame + 160);
-  v17 = load64(frame + 152);
+  goto after_14;
+after_2:;
+  v14 = load8(p2);
+  v12 = load64(frame + 288);
+  p5 = load64(frame + 280);
+  v19 = load64(frame + 272);
   if (p4 > 1)
-    goto after_17;
+    goto after_15;
   switch ((uint32_t)p4) {
   case 1:
-    goto after_2;
+    goto after_1;
   default:
-    goto after_18;
+    goto after_16;
   }
-after_18:;
-  if (((v9 | v15) & 0xffu) == 0u)
-    goto after_19;
-  v18 = 0;
-  v9 = v15;
-  goto after_20;
-after_19:;
-  p4 = 0;
-  if (v16 != 0)
-    goto after_21;
-  v16 = 0;
-  v18 = 0;
-  goto after_10;
-after_21:;
-  p5 = v17 + 1;
-  v20 = v16;
-again_22:;
-  if (load8(p5) == 0u)
-    goto after_2;
-  p5 = p5 + 5;
-  v20 = v20 + 0xffffffffffffffff;
-  if (v20 != 0)
-    goto again_22;
-  v18 = 0;
-  goto after_10;
+after_16:;
+  if (((v7 | v14) & 0xffu) == 0u)
+    goto after_17;
+  v17 = 0;
+  v7 = v14;
+  goto after_18;
 after_17:;
-  if (load8(v14))
-    goto after_2;
-  v9 = (uint32_t)(load8(v14 + 1) != 0u) | v10;
-  v19 = v9 & 1u;
-  v18 = v19 ? 0ull : 2ull;
-  v9 = v9 ^ 1u;
-  if (v19)
-    goto after_20;
-  if (v15 & 1u)
-    goto after_20;
-  v18 = 2;
-  if (v16 != 0)
-    goto after_23;
-  v16 = 0;
-  goto after_10;
-after_23:;
-  p5 = v17 + 1;
-  v20 = v16;
-again_24:;
-  if (load8(p5) == 0u)
-    goto after_2;
-  p5 = p5 + 5;
-  v20 = v20 + 0xffffffffffffffff;
-  if (v20 != 0)
-    goto again_24;
-  goto after_10;
-after_20:;
-  if ((v9 & 1u) == 0u)
-    goto after_2;
-after_10:;
-  if (load8(frame + 145))
-    goto after_25;
-  v15 = load8(frame + 208);
-  p3 = load64(frame + 200);
-  if (v16 == 0)
-    goto after_26;
-  p2 = frame + 209;
-  p5 = v17 + 1;
-  v20 = v16;
-again_28:;
-  if (load8(p5) == 0u)
-    goto after_27;
-  p5 = p5 + 5;
-  v20 = v20 + 0xffffffffffffffff;
-  if (v20 != 0)
-    goto again_28;
-  goto after_26;
-after_27:;
-  if (v8 != 0)
-    goto after_29;
-  if (v7 == 0)
-    goto after_29;
-  v9 = 3;
-  p5 = 1;
-  goto after_30;
-after_29:;
-  t0 = (uint32_t)(load8(p1 + 8) != 1u) | (uint32_t)(((uint32_t)load8(p1 + 14) & 0xffu) != 0u);
-  v19 = t0 | (uint32_t)load8(p1 + 18);
-  v9 = (v19 & 1u) ? 0u : 2u;
-  p5 = (uint64_t)(v19 ^ 0xffffffffu) & 1;
-after_30:;
-  store8(frame + 240, (uint8_t)v15);
-  store64(frame + 232, p3);
-  store64(frame + 224, v8);
-  store64(frame + 216, v7);
-  store64(frame + 288, 0);
-  store64(frame + 280, 1);
-  store64(frame + 272, 0);
-  store64(frame + 264, CONSTANT(0));
-  store32(frame + 260, 0);
-  store64(frame + 252, 0);
-  store32(frame + 248, 2);
-  store64(frame + 296, 0);
-  store64(frame + 304, 0);
-  store64(frame + 312, 0);
-  store64(frame + 320, 0);
-  store64(frame + 328, 0);
-  store64(frame + 336, 0);
-  store64(frame + 344, 0);
-  store32(frame + 241, load32(p2));
-  store32(frame + 244, load32(p2 + 3));
-  store32(frame + 376, v9);
-  store64(frame + 368, p5);
-  store64(frame + 360, 0);
-  store64(frame + 352, CONSTANT(0));
-  fill(frame + 380, 0, 180);
-  store64(frame + 584, 0);
-  store64(frame + 576, CONSTANT(0));
-  store64(frame + 568, v16);
-  store64(frame + 560, v17);
-  der_view_printer_Printer_tell(p1, frame + 216);
-after_26:;
-  if (v18 == 0)
-    goto after_25;
-  store32(frame + 241, 0);
-  store8(frame + 240, (uint8_t)v15);
-  store64(frame + 232, p3);
-  store64(frame + 216, v7);
-  store64(frame + 288, 0);
-  store64(frame + 280, 1);
-  store64(frame + 272, 2);
-  store64(frame + 264, CONSTANT(1941));
-  store32(frame + 260, 0);
-  store64(frame + 252, 0);
-  store64(frame + 244, 0x100000000);
-  store64(frame + 296, 0);
-  store64(frame + 304, 0);
-  store64(frame + 312, 0);
-  store64(frame + 320, 0);
-  store64(frame + 328, 0);
-  store64(frame + 336, 0);
-  store64(frame + 344, 0);
-  store64(frame + 224, v8 - (uint64_t)(uint32_t)(v8 != 0));
-  store64(frame + 352, CONSTANT(0));
-  fill(frame + 360, 0, 200);
-  store64(frame + 584, 0);
-  store64(frame + 576, CONSTANT(0));
-  store64(frame + 568, 0);
-  store64(frame + 560, CONSTANT(0));
-  der_view_printer_Printer_tell(p1, frame + 216);
-after_25:;
-  store64(p0, 1);
-  store64(p0 + 16, p4 - v18);
-  store64(p0 + 8, v14 + v18);
-  goto after_16;
-after_2:;
-  if (load8(frame + 145))
-    goto after_31;
-  p4 = load64(frame + 208);
-  p5 = load64(p2 + 16);
-  v20 = (p5 < v7) ? p5 : v7;
-  p3 = p5 - v20;
-  v14 = load64(frame + 200);
-  p5 = v14 - v7;
-  p3 = (p3 < p5) ? p3 : p5;
-  v20 = load64(p2 + 8) + v20;
-  p2 = load64(frame + 160);
-  v16 = load64(frame + 152);
-  if (v8 != 0)
-    goto after_32;
-  if (v7 == 0)
-    goto after_32;
-  v15 = 3;
-  v17 = 1;
-  goto after_33;
-after_32:;
-  t1 = (uint32_t)(load8(p1 + 8) != 1u) | (uint32_t)(((uint32_t)load8(p1 + 14) & 0xffu) != 0u);
-  v9 = t1 | (uint32_t)load8(p1 + 18);
-  v15 = (v9 & 1u) ? 0u : 2u;
-  v17 = (uint64_t)(v9 ^ 0xffffffffu) & 1;
-after_33:;
-  store64(frame + 320, 0);
-  store64(frame + 312, p5);
-  store64(frame + 304, 0);
-  store64(frame + 296, p5);
-  store64(frame + 288, p5);
-  store64(frame + 280, 1);
-  store64(frame + 272, 0);
-  store64(frame + 264, CONSTANT(0));
-  store32(frame + 260, 0);
-  store64(frame + 252, 0);
-  store32(frame + 248, 2);
-  store64(frame + 240, p4);
-  store64(frame + 232, v14);
-  store64(frame + 224, v8);
-  store64(frame + 216, v7);
-  store64(frame + 328, 0);
-  store64(frame + 336, 0);
-  store64(frame + 344, 0);
-  store32(frame + 376, v15);
-  store64(frame + 368, v17);
-  store64(frame + 360, 0);
-  store64(frame + 352, CONSTANT(0));
-  fill(frame + 380, 0, 180);
-  store64(frame + 584, p3);
-  store64(frame + 576, v20);
-  store64(frame + 568, p2);
-  store64(frame + 560, v16);
-  der_view_printer_Printer_tell(p1, frame + 216);
-after_31:;
+  p4 = 0;
+  if (p5 != 0)
+    goto after_19;
+  v17 = 0;
+  goto after_9;
+after_19:;
+  v19 = v19 + 1;
+again_20:;
+  if (load8(v19) == 0u)
+    goto after_1;
+  v19 = v19 + 5;
+  p5 = p5 + 0xffffffffffffffff;
+  if (p5 != 0)
+    goto again_20;
+  v17 = 0;
+  goto after_9;
+after_15:;
+  if (load8(v12))
+    goto after_1;
+  v7 = (uint32_t)(load8(v12 + 1) != 0u) | v8;
+  v18 = v7 & 1u;
+  v17 = v18 ? 0ull : 2ull;
+  v7 = v7 ^ 1u;
+  if (v18)
+    goto after_18;
+  if (v14 & 1u)
+    goto after_18;
+  v17 = 2;
+  if (p5 == 0)
+    goto after_9;
+  v19 = v19 + 1;
+again_21:;
+  if (load8(v19) == 0u)
+    goto after_1;
+  v19 = v19 + 5;
+  p5 = p5 + 0xffffffffffffffff;
+  if (p5 != 0)
+    goto again_21;
+  goto after_9;
+after_18:;
+  if (v7 & 1u)
+    goto after_9;
+after_1:;
+  der_view_walk_draw_left_7(p1, p2, frame + 304, frame + 264);
   store64(p0 + 16, 0);
   store64(p0 + 8, 0);
   store64(p0, 0);
-after_16:;
+  goto after_14;
+after_9:;
+  der_view_walk_draw_end_7(p1, frame + 304, frame + 264, v17);
+  store64(p0 + 16, p4 - v17);
+  store64(p0 + 8, v12 + v17);
+  store64(p0, 1);
+after_14:;
 }
 
 /* der_view::walk::follows::<#927bfe390f535f75> */
@@ -27102,42 +27393,442 @@ static uint32_t der_view_walk_follows_7(uint64_t p0, uint64_t p1, uint64_t p2, u
   return (uint32_t)(p4 == 1u);
 }
 
+/* der_view::walk::draw_left::<#927bfe390f535f75> */
+static void der_view_walk_draw_left_7(uint64_t p0, uint64_t p1, uint64_t p2, uint64_t p3)
+{
+  FRAME(384)
+  uint32_t v12 = 0, v13 = 0, t0;
+  uint64_t v5 = 0, v6 = 0, v7 = 0, v8 = 0, v9 = 0, v10 = 0, v11 = 0;
+  v5 = 1;
+  if (load8(p3 + 1) == 1u)
+    goto after_1;
+  v6 = load64(p2 + 24);
+  v7 = load64(p1 + 16);
+  v8 = load64(p2);
+  v9 = (v7 < v8) ? v7 : v8;
+  v10 = v7 - v9;
+  v11 = load64(p2 + 16);
+  v7 = v11 - v8;
+  v10 = (v10 < v7) ? v10 : v7;
+  p1 = load64(p1 + 8) + v9;
+  v9 = load64(p3 + 16);
+  p3 = load64(p3 + 8);
+  p2 = load64(p2 + 8);
+  if (p2 != 0)
+    goto after_2;
+  v12 = 3;
+  if (v8 != 0)
+    goto after_3;
+after_2:;
+  t0 = (uint32_t)(load8(p0 + 8) != 1u) | (uint32_t)(((uint32_t)load8(p0 + 14) & 0xffu) != 0u);
+  v13 = t0 | (uint32_t)load8(p0 + 18);
+  v12 = (v13 & 1u) ? 0u : 2u;
+  v5 = (uint64_t)(v13 ^ 0xffffffffu) & 1;
+after_3:;
+  store64(frame + 112, 0);
+  store64(frame + 104, v7);
+  store64(frame + 96, 0);
+  store64(frame + 88, v7);
+  store64(frame + 80, v7);
+  store64(frame + 72, 1);
+  store64(frame + 64, 0);
+  store64(frame + 56, CONSTANT(0));
+  store32(frame + 52, 0);
+  store64(frame + 44, 0);
+  store32(frame + 40, 2);
+  store64(frame + 32, v6);
+  store64(frame + 24, v11);
+  store64(frame + 16, p2);
+  store64(frame + 8, v8);
+  store64(frame + 120, 0);
+  store64(frame + 128, 0);
+  store64(frame + 136, 0);
+  store32(frame + 168, v12);
+  store64(frame + 160, v5);
+  store64(frame + 152, 0);
+  store64(frame + 144, CONSTANT(0));
+  fill(frame + 172, 0, 180);
+  store64(frame + 376, v10);
+  store64(frame + 368, p1);
+  store64(frame + 360, v9);
+  store64(frame + 352, p3);
+  der_view_printer_Printer_tell(p0, frame + 8);
+after_1:;
+  return;
+}
+
+/* der_view::walk::draw_end::<#927bfe390f535f75> */
+static void der_view_walk_draw_end_7(uint64_t p0, uint64_t p1, uint64_t p2, uint64_t p3)
+{
+  FRAME(384)
+  uint32_t v5 = 0, v12 = 0, v13 = 0, t0;
+  uint64_t v6 = 0, v7 = 0, v8 = 0, v9 = 0, v10 = 0, v11 = 0;
+  if (load8(p2 + 1) == 1u)
+    goto after_1;
+  v5 = load8(p1 + 24);
+  v6 = load64(p1 + 16);
+  v7 = load64(p1 + 8);
+  v8 = load64(p1);
+  v9 = load64(p2 + 16);
+  if (v9 == 0)
+    goto after_2;
+  v10 = p1 + 25;
+  v11 = load64(p2 + 8);
+  p1 = v11 + 1;
+  p2 = v9;
+again_4:;
+  if (load8(p1) == 0u)
+    goto after_3;
+  p1 = p1 + 5;
+  p2 = p2 + 0xffffffffffffffff;
+  if (p2 != 0)
+    goto again_4;
+  goto after_2;
+after_3:;
+  if (v7 != 0)
+    goto after_5;
+  if (v8 == 0)
+    goto after_5;
+  v12 = 3;
+  p1 = 1;
+  goto after_6;
+after_5:;
+  t0 = (uint32_t)(load8(p0 + 8) != 1u) | (uint32_t)(((uint32_t)load8(p0 + 14) & 0xffu) != 0u);
+  v13 = t0 | (uint32_t)load8(p0 + 18);
+  v12 = (v13 & 1u) ? 0u : 2u;
+  p1 = (uint64_t)(v13 ^ 0xffffffffu) & 1;
+after_6:;
+  store8(frame + 32, (uint8_t)v5);
+  store64(frame + 24, v6);
+  store64(frame + 16, v7);
+  store64(frame + 8, v8);
+  store64(frame + 80, 0);
+  store64(frame + 72, 1);
+  store64(frame + 64, 0);
+  store64(frame + 56, CONSTANT(0));
+  store32(frame + 52, 0);
+  store64(frame + 44, 0);
+  store32(frame + 40, 2);
+  store64(frame + 88, 0);
+  store64(frame + 96, 0);
+  store64(frame + 104, 0);
+  store64(frame + 112, 0);
+  store64(frame + 120, 0);
+  store64(frame + 128, 0);
+  store64(frame + 136, 0);
+  store32(frame + 33, load32(v10));
+  store32(frame + 36, load32(v10 + 3));
+  store32(frame + 168, v12);
+  store64(frame + 160, p1);
+  store64(frame + 152, 0);
+  store64(frame + 144, CONSTANT(0));
+  fill(frame + 172, 0, 180);
+  store64(frame + 376, 0);
+  store64(frame + 368, CONSTANT(0));
+  store64(frame + 360, v9);
+  store64(frame + 352, v11);
+  der_view_printer_Printer_tell(p0, frame + 8);
+after_2:;
+  if (p3 == 0)
+    goto after_1;
+  store32(frame + 33, 0);
+  store8(frame + 32, (uint8_t)v5);
+  store64(frame + 24, v6);
+  store64(frame + 8, v8);
+  store64(frame + 80, 0);
+  store64(frame + 72, 1);
+  store64(frame + 64, 2);
+  store64(frame + 56, CONSTANT(1941));
+  store32(frame + 52, 0);
+  store64(frame + 44, 0);
+  store64(frame + 36, 0x100000000);
+  store64(frame + 88, 0);
+  store64(frame + 96, 0);
+  store64(frame + 104, 0);
+  store64(frame + 112, 0);
+  store64(frame + 120, 0);
+  store64(frame + 128, 0);
+  store64(frame + 136, 0);
+  store64(frame + 16, v7 - (uint64_t)(uint32_t)(v7 != 0));
+  store64(frame + 144, CONSTANT(0));
+  fill(frame + 152, 0, 200);
+  store64(frame + 376, 0);
+  store64(frame + 368, CONSTANT(0));
+  store64(frame + 360, 0);
+  store64(frame + 352, CONSTANT(0));
+  der_view_printer_Printer_tell(p0, frame + 8);
+after_1:;
+  return;
+}
+
+/* der_view::walk::opened_of::<#058ff82db2a1a4d6> */
+static void der_view_walk_opened_of_6(uint64_t p0, uint64_t p1, uint64_t p2, uint64_t p3,
+    uint64_t p4, uint64_t p5)
+{
+  FRAME(192)
+  uint32_t v7 = 0, v8 = 0, v9 = 0, v14 = 0, t0;
+  uint64_t v10 = 0, v11 = 0, v12 = 0, v13 = 0;
+  v7 = 0;
+  store32(frame + 59, 0);
+  store32(frame + 56, 0);
+  v8 = load8(p2);
+  v9 = load8(p5 + 58);
+  switch ((uint32_t)((uint64_t)v9 & 0xff)) {
+  case 6:
+    goto after_1;
+  case 7:
+    goto after_2;
+  case 8:
+    goto after_3;
+  default:
+    goto after_4;
+  }
+after_1:;
+  store32(frame + 64, 0);
+  store32(frame + 67, 0);
+  v10 = load8(p5 + 59);
+  p5 = 0;
+  v11 = 1;
+  v7 = v8;
+  goto after_5;
+after_2:;
+  v11 = load64(p5 + 88);
+  v10 = load64(p5 + 96);
+  v8 = load8(p5 + 59);
+  p5 = 0;
+  store64(frame + 120, 0);
+  store64(frame + 96, 0);
+  store64(frame + 72, 0);
+  store64(frame + 80, 0);
+  store64(frame + 88, 0);
+  store64(frame + 160, load64(p4));
+  store64(frame + 168, load64(p4 + 8));
+  store64(frame + 176, load64(p4 + 16));
+  store64(frame + 184, load64(p4 + 24));
+  der_view_grammar_Structure_components(frame + 8, v8);
+  store64(frame + 152, v10);
+  store64(frame + 144, v11);
+  store16(frame + 120, 256);
+  store8(frame + 96, 0);
+  store64(frame + 136, load64(frame + 16));
+  store64(frame + 128, load64(frame + 8));
+  store64(frame + 104, load64(p2 + 8));
+  store64(frame + 112, load64(p2 + 16));
+  store8(frame + 97, (uint8_t)(uint32_t)load8(p2 + 1));
+  der_view_walk_walk_6(frame + 72, p1, frame + 96, p3, frame + 160, frame + 120);
+  v9 = load8(frame + 72);
+  store32(frame + 123, 0);
+  store32(frame + 120, 0);
+  store32(frame + 64, load32(frame + 120));
+  store32(frame + 67, load32(frame + 123));
+  v9 = (uint32_t)(v9 == 1u);
+  v10 = (uint64_t)(v9 ? v8 : 0u) & 0xff;
+  v11 = v9;
+  goto after_5;
+after_3:;
+  v10 = 0;
+  v12 = load64(p5 + 96);
+  if (v12 != 0)
+    goto after_6;
+  v11 = 0;
+  goto after_7;
+after_6:;
+  v13 = load64(p5 + 88);
+  if (load8(v13) == 0u)
+    goto after_8;
+  v11 = 0;
+  goto after_7;
+after_8:;
+  v11 = 0;
+  v12 = v12 + 0xffffffffffffffff;
+  if (v12 == 0)
+    goto after_7;
+  v7 = load8(p5 + 59);
+  store64(frame + 48, load64(p4 + 24));
+  store64(frame + 40, load64(p4 + 16));
+  store64(frame + 32, load64(p4 + 8));
+  store64(frame + 24, load64(p4));
+  t0 = der_view_walk_follows_6(p1, p2, p3, frame + 24, v7, v13 + 1, v12);
+  v8 = t0;
+  store32(frame + 123, 0);
+  store32(frame + 120, 0);
+  store32(frame + 56, load32(frame + 120));
+  store32(frame + 59, load32(frame + 123));
+  v10 = v8 ? ((uint64_t)v7 & 0xff) : 0ull;
+  v11 = v8;
+after_7:;
+  store32(frame + 67, load32(frame + 59));
+  store32(frame + 64, load32(frame + 56));
+  v7 = 0;
+  p5 = v11;
+  goto after_5;
+after_4:;
+  if (load8(p5 + 24) != 1u)
+    goto after_9;
+  v14 = load8(p5 + 1);
+  v7 = 0;
+  store32(frame + 123, 0);
+  store32(frame + 120, 0);
+  v10 = 0;
+  if (v14 == 1u)
+    goto after_10;
+  v11 = 0;
+  goto after_11;
+after_10:;
+  v11 = 0;
+  if ((((uint32_t)((v9 & 0xffu) == 9u) | v8) & 1u) == 0u)
+    goto after_11;
+after_9:;
+  store32(frame + 123, 0);
+  store32(frame + 120, 0);
+  v11 = 1;
+  v10 = 84;
+  v7 = v8;
+after_11:;
+  store32(frame + 67, load32(frame + 123));
+  store32(frame + 64, load32(frame + 120));
+  p5 = 0;
+after_5:;
+  store64(p0, v11);
+  store8(p0 + 24, (uint8_t)v7);
+  store64(p0 + 16, p5);
+  store64(p0 + 8, v10);
+  store32(p0 + 25, load32(frame + 64));
+  store32(p0 + 28, load32(frame + 67));
+  return;
+}
+
+/* der_view::walk::draw_element::<#058ff82db2a1a4d6> */
+static void der_view_walk_draw_element_6(uint64_t p0, uint64_t p1, uint64_t p2, uint64_t p3,
+    uint32_t p4, uint64_t p5)
+{
+  FRAME(608)
+  uint32_t v15 = 0;
+  uint64_t v7 = 0, v8 = 0, v9 = 0, v10 = 0, v11 = 0, v12 = 0, v13 = 0, v14 = 0, v16 = 0,
+      v17 = 0, t0, t1;
+  v7 = load64(p2);
+  fill(frame + 56, 0, 80);
+  if (load8(p3 + 1) == 1u)
+    goto after_1;
+  store64(frame + 168, load64(p5 + 32));
+  store64(frame + 160, load64(p5 + 24));
+  store64(frame + 152, load64(p5 + 16));
+  store64(frame + 144, load64(p5 + 8));
+  store64(frame + 136, load64(p5));
+  v8 = load64(p5 + 88);
+  v9 = load64(p5 + 96);
+  t0 = der_view_content_shown_len(load8(p1 + 1), frame + 136, load8(p5 + 58), load8(p5 + 59),
+      v8, v9);
+  v10 = t0;
+  v11 = CONSTANT(0);
+  v12 = 0;
+  v13 = 0;
+  v14 = CONSTANT(0);
+  v15 = load8(p5 + 80);
+  if (v15)
+    goto after_2;
+  v13 = load64(p3 + 16);
+  v14 = load64(p3 + 8);
+after_2:;
+  p2 = p2 + 8;
+  p3 = p5 + 40;
+  v16 = p5 + 56;
+  v17 = (load8(frame + 160) == 1u) ? v9 : 0ull;
+  if (p4)
+    goto after_3;
+  v11 = load64(p1 + 16);
+  v12 = load64(frame + 152) + v7;
+  t1 = v11;
+  v11 = (v11 < v12) ? v11 : v12;
+  v12 = t1 - v11;
+  v12 = (v12 < v9) ? v12 : v9;
+  v11 = load64(p1 + 8) + v11;
+after_3:;
+  store64(frame + 32, load64(p5 + 32));
+  store64(frame + 24, load64(p5 + 24));
+  store64(frame + 16, load64(p5 + 16));
+  store64(frame + 8, load64(p5 + 8));
+  store64(frame, load64(p5));
+  store64(frame + 40, load64(p3));
+  store64(frame + 48, load64(p3 + 8));
+  store32(frame + 56, load32(v16));
+  store8(frame + 60, (uint8_t)(uint32_t)load8(v16 + 4));
+  store8(frame + 128, (uint8_t)p4);
+  store64(frame + 120, v12);
+  store64(frame + 112, v11);
+  store64(frame + 104, v10);
+  store64(frame + 96, v8);
+  store64(frame + 88, v17);
+  store8(frame + 80, (uint8_t)v15);
+  store64(frame + 72, v13);
+  store64(frame + 64, v14);
+  store64(frame + 576, v7);
+  store64(frame + 584, load64(p2));
+  store64(frame + 592, load64(p2 + 8));
+  store64(frame + 600, load64(p2 + 16));
+  fill(frame + 200, 0, 376);
+  store64(frame + 192, load64(p0 + 16));
+  store64(frame + 184, load64(p0 + 8));
+  store64(frame + 176, load64(p0));
+  der_view_facts_RowFacts_of_element(frame + 200, frame + 176, 0, frame + 576, frame);
+  if (load8(p0 + 24) == 1u)
+    goto after_1;
+  p5 = load64(frame + 200);
+  if (load8(frame + 352) == 1u)
+    goto after_4;
+  if (((uint32_t)load8(frame + 384) & 0xffu) == 1u)
+    goto after_4;
+  if (((uint32_t)load8(frame + 416) & 0xffu) == 1u)
+    goto after_4;
+  if (((uint32_t)load8(frame + 448) & 0xffu) == 1u)
+    goto after_4;
+  if (((uint32_t)load8(frame + 480) & 0xffu) == 1u)
+    goto after_4;
+  if (((uint32_t)load8(frame + 512) & 0xffu) != 1u)
+    goto after_1;
+after_4:;
+  store64(p0 + 32, p5);
+  store64(p0 + 24, 1);
+after_1:;
+  return;
+}
+
 /* der_view::walk::walk::<#058ff82db2a1a4d6> */
 static void der_view_walk_walk_6(uint64_t p0, uint64_t p1, uint64_t p2, uint64_t p3,
     uint64_t p4, uint64_t p5)
 {
-  FRAME(352)
-  uint32_t v8 = 0, v9 = 0, v15 = 0, v19 = 0, v20 = 0, t0, t1;
-  uint64_t v7 = 0, v10 = 0, v11 = 0, v12 = 0, v13 = 0, v14 = 0, v16 = 0, v17 = 0, v18 = 0;
-  store64(frame + 24, 0);
+  FRAME(464)
+  uint32_t v7 = 0, v8 = 0, v14 = 0, v18 = 0, v20 = 0;
+  uint64_t v9 = 0, v10 = 0, v11 = 0, v12 = 0, v13 = 0, v15 = 0, v16 = 0, v17 = 0, v19 = 0;
+  fill(frame + 144, 0, 120);
   store64(frame + 16, 0);
   store64(frame + 8, 0);
-  store64(frame + 192, load64(p4));
-  store64(frame + 200, load64(p4 + 8));
-  store64(frame + 208, load64(p4 + 16));
-  store64(frame + 216, load64(p4 + 24));
-  store64(frame + 152, load64(p5));
-  store64(frame + 160, load64(p5 + 8));
-  store64(frame + 168, load64(p5 + 16));
-  store64(frame + 176, load64(p5 + 24));
-  store64(frame + 184, load64(p5 + 32));
-  v7 = load64(frame + 192);
+  store64(frame, 0);
+  store64(frame + 304, load64(p4));
+  store64(frame + 312, load64(p4 + 8));
+  store64(frame + 320, load64(p4 + 16));
+  store64(frame + 328, load64(p4 + 24));
+  store64(frame + 264, load64(p5));
+  store64(frame + 272, load64(p5 + 8));
+  store64(frame + 280, load64(p5 + 16));
+  store64(frame + 288, load64(p5 + 24));
+  store64(frame + 296, load64(p5 + 32));
   if (p3 == 0)
     goto after_1;
-  v8 = load8(frame + 152);
-  v9 = v8 ^ 1u;
-  p4 = load64(frame + 184);
-  v10 = load64(frame + 200);
-  if (v10 > 63)
+  v7 = load8(frame + 264);
+  v8 = v7 ^ 1u;
+  p4 = load64(frame + 296);
+  if (load64(frame + 312) > 63)
     goto after_2;
-  v11 = (frame + 224) + 8;
-  v12 = (frame + 152) + 8;
-  v13 = frame + 96;
-  v14 = load64(frame + 176);
-again_16:;
-  v15 = load8(p2);
-  v16 = load64(frame + 168);
-  v17 = load64(frame + 160);
+  v9 = frame + 208;
+  v10 = (frame + 336) + 8;
+  v11 = (frame + 264) + 8;
+  v12 = load64(frame + 288);
+  v13 = load64(frame + 304);
+again_13:;
+  v14 = load8(p2);
+  v15 = load64(frame + 280);
+  v16 = load64(frame + 272);
   if (p4 > 1)
     goto after_3;
   switch ((uint32_t)p4) {
@@ -27147,211 +27838,160 @@ again_16:;
     goto after_5;
   }
 after_5:;
-  if (((v8 | v15) & 0xffu) == 0u)
+  if (((v7 | v14) & 0xffu) == 0u)
     goto after_6;
-  v18 = 0;
-  v19 = v15;
+  v17 = 0;
+  v18 = v14;
   goto after_7;
 after_6:;
-  if (v16 == 0)
+  v17 = 0;
+  if (v15 != 0)
     goto after_8;
-  p5 = v17 + 1;
-  v18 = v16;
+  p4 = 0;
+  goto after_9;
+after_8:;
+  p5 = v16 + 1;
+  v19 = v15;
 again_10:;
   if (load8(p5) == 0u)
     goto after_4;
   p5 = p5 + 5;
-  v18 = v18 + 0xffffffffffffffff;
-  if (v18 == 0)
-    goto after_9;
-  goto again_10;
+  v19 = v19 + 0xffffffffffffffff;
+  if (v19 != 0)
+    goto again_10;
+  p4 = 0;
+  goto after_9;
 after_3:;
-  if (load8(v14))
+  if (load8(v12))
     goto after_4;
-  v19 = (uint32_t)(load8(v14 + 1) != 0u) | v9;
-  v20 = v19 & 1u;
-  v18 = v20 ? 0ull : 2ull;
-  v19 = v19 ^ 1u;
+  v18 = (uint32_t)(load8(v12 + 1) != 0u) | v8;
+  v20 = v18 & 1u;
+  v17 = v20 ? 0ull : 2ull;
+  v18 = v18 ^ 1u;
   if (v20)
     goto after_7;
-  if (v15 & 1u)
+  if (v14 & 1u)
     goto after_7;
-  if (v16 != 0)
-    goto after_11;
-  v18 = 2;
-  goto after_12;
-after_11:;
-  p5 = v17 + 1;
-  v18 = v16;
-again_13:;
+  v17 = 2;
+  if (v15 == 0)
+    goto after_9;
+  p5 = v16 + 1;
+  v19 = v15;
+again_11:;
   if (load8(p5) == 0u)
     goto after_4;
   p5 = p5 + 5;
-  v18 = v18 + 0xffffffffffffffff;
-  if (v18 != 0)
-    goto again_13;
-  v18 = 2;
-  goto after_14;
+  v19 = v19 + 0xffffffffffffffff;
+  if (v19 != 0)
+    goto again_11;
+  goto after_9;
 after_7:;
-  if (v19 & 1u)
-    goto after_14;
+  if (v18 & 1u)
+    goto after_9;
 after_4:;
-  fill(frame + 224, 0, 128);
-  v15 = v15 & 1u;
-  der_view_step_step_by(frame + 224, v15, v15, v17, v16, v14, p4);
-  v15 = load8(frame + 224);
-  move(frame + 32, v11, 120);
-  if (v15 != 1u)
+  fill(frame + 336, 0, 128);
+  v14 = v14 & 1u;
+  der_view_step_step_by(frame + 336, v14, v14, v16, v15, v12, p4);
+  v14 = load8(frame + 336);
+  move(frame + 24, v10, 120);
+  if (v14 != 1u)
     goto after_1;
+  move(frame + 144, frame + 24, 120);
   p3 = p3 + 0xffffffffffffffff;
-  der_view_walk_draw_step_6(frame + 8, p1, p2, p3, frame + 192, frame + 152, frame + 32);
-  if (load8(frame + 8) != 1u)
-    goto after_15;
-  store64(v12, load64(v13));
-  store64(v12 + 8, load64(v13 + 8));
-  p5 = load64(frame + 24);
-  store64(frame + 184, p5);
-  v14 = load64(frame + 16);
-  store64(frame + 176, v14);
-  v7 = (p4 - p5) + v7;
-  store64(frame + 192, v7);
+  der_view_walk_draw_step_6(frame, p1, p2, p3, frame + 304, frame + 264, frame + 144);
+  if (load8(frame) != 1u)
+    goto after_12;
+  store64(v11, load64(v9));
+  store64(v11 + 8, load64(v9 + 8));
+  p5 = load64(frame + 16);
+  store64(frame + 296, p5);
+  v12 = load64(frame + 8);
+  store64(frame + 288, v12);
+  v13 = (p4 - p5) + v13;
+  store64(frame + 304, v13);
   p4 = p5;
   if (p3 != 0)
-    goto again_16;
+    goto again_13;
   goto after_1;
-after_15:;
+after_12:;
   store64(p0 + 16, 0);
   store64(p0 + 8, 0);
   store64(p0, 0);
-  goto after_17;
+  goto after_14;
 after_2:;
-  v15 = load8(p2);
-  v14 = load64(frame + 176);
-  v16 = load64(frame + 168);
-  v17 = load64(frame + 160);
+  v14 = load8(p2);
+  v12 = load64(frame + 288);
+  p5 = load64(frame + 280);
+  v19 = load64(frame + 272);
   if (p4 > 1)
-    goto after_18;
+    goto after_15;
   switch ((uint32_t)p4) {
   case 1:
     goto after_1;
   default:
-    goto after_19;
+    goto after_16;
   }
+after_16:;
+  if (((v7 | v14) & 0xffu) == 0u)
+    goto after_17;
+  v17 = 0;
+  v7 = v14;
+  goto after_18;
+after_17:;
+  p4 = 0;
+  if (p5 != 0)
+    goto after_19;
+  v17 = 0;
+  goto after_9;
 after_19:;
-  if (((v8 | v15) & 0xffu) == 0u)
-    goto after_20;
-  v18 = 0;
-  v8 = v15;
-  goto after_21;
-after_20:;
-  if (v16 != 0)
-    goto after_22;
-after_8:;
-  v18 = 0;
-  p4 = 0;
-  goto after_12;
-after_22:;
-  p5 = v17 + 1;
-  p4 = v16;
-again_23:;
-  if (load8(p5) == 0u)
+  v19 = v19 + 1;
+again_20:;
+  if (load8(v19) == 0u)
     goto after_1;
-  p5 = p5 + 5;
-  p4 = p4 + 0xffffffffffffffff;
-  if (p4 != 0)
-    goto again_23;
-after_9:;
-  p4 = 0;
-  v18 = 0;
-  goto after_14;
+  v19 = v19 + 5;
+  p5 = p5 + 0xffffffffffffffff;
+  if (p5 != 0)
+    goto again_20;
+  v17 = 0;
+  goto after_9;
+after_15:;
+  if (load8(v12))
+    goto after_1;
+  v7 = (uint32_t)(load8(v12 + 1) != 0u) | v8;
+  v18 = v7 & 1u;
+  v17 = v18 ? 0ull : 2ull;
+  v7 = v7 ^ 1u;
+  if (v18)
+    goto after_18;
+  if (v14 & 1u)
+    goto after_18;
+  v17 = 2;
+  if (p5 == 0)
+    goto after_9;
+  v19 = v19 + 1;
+again_21:;
+  if (load8(v19) == 0u)
+    goto after_1;
+  v19 = v19 + 5;
+  p5 = p5 + 0xffffffffffffffff;
+  if (p5 != 0)
+    goto again_21;
+  goto after_9;
 after_18:;
-  if (load8(v14))
-    goto after_1;
-  v8 = (uint32_t)(load8(v14 + 1) != 0u) | v9;
-  v19 = v8 & 1u;
-  v18 = v19 ? 0ull : 2ull;
-  v8 = v8 ^ 1u;
-  if (v19)
-    goto after_21;
-  if (v15 & 1u)
-    goto after_21;
-  if (v16 != 0)
-    goto after_24;
-  v18 = 2;
-  goto after_12;
-after_24:;
-  p5 = v17 + 1;
-  p3 = v16;
-again_25:;
-  if (load8(p5) == 0u)
-    goto after_1;
-  p5 = p5 + 5;
-  v18 = 2;
-  p3 = p3 + 0xffffffffffffffff;
-  if (p3 != 0)
-    goto again_25;
-  goto after_14;
-after_21:;
-  if (v8 & 1u)
-    goto after_14;
+  if (v7 & 1u)
+    goto after_9;
 after_1:;
-  if (load8(frame + 153))
-    goto after_26;
-  if (load64(frame + 200) != 0)
-    goto after_27;
-  v15 = 1;
-  if (v7 != 0)
-    goto after_28;
-after_27:;
-  t0 = (uint32_t)(load8(p1) == 1u) & (uint32_t)(((uint32_t)load8(p1 + 6) & 0xffu) == 0u);
-  v15 = t0 & (uint32_t)(((uint32_t)load8(p1 + 10) & 1u) == 0u);
-after_28:;
-  if (load8(p1 + 24) == 1u)
-    goto after_26;
-  if (v15 == 0u)
-    goto after_26;
-  store64(p1 + 32, v7);
-  store64(p1 + 24, 1);
-after_26:;
+  der_view_walk_draw_left_6(p1, frame + 304, frame + 264);
   store64(p0 + 16, 0);
   store64(p0 + 8, 0);
   store64(p0, 0);
-  goto after_17;
-after_14:;
-  if (load8(frame + 153))
-    goto after_12;
-  if (v16 == 0)
-    goto after_12;
-  p5 = v17 + 1;
-again_30:;
-  if (load8(p5) == 0u)
-    goto after_29;
-  p5 = p5 + 5;
-  v16 = v16 + 0xffffffffffffffff;
-  if (v16 != 0)
-    goto again_30;
-  goto after_12;
-after_29:;
-  if (v10 != 0)
-    goto after_31;
-  v15 = 1;
-  if (v7 != 0)
-    goto after_32;
-after_31:;
-  t1 = (uint32_t)(load8(p1) == 1u) & (uint32_t)(((uint32_t)load8(p1 + 6) & 0xffu) == 0u);
-  v15 = t1 & (uint32_t)(((uint32_t)load8(p1 + 10) & 1u) == 0u);
-after_32:;
-  if (load8(p1 + 24) == 1u)
-    goto after_12;
-  if (v15 == 0u)
-    goto after_12;
-  store64(p1 + 32, v7);
-  store64(p1 + 24, 1);
-after_12:;
+  goto after_14;
+after_9:;
+  der_view_walk_draw_end_6(p1, frame + 304, frame + 264);
+  store64(p0 + 16, p4 - v17);
+  store64(p0 + 8, v12 + v17);
   store64(p0, 1);
-  store64(p0 + 16, p4 - v18);
-  store64(p0 + 8, v14 + v18);
-after_17:;
+after_14:;
 }
 
 /* der_view::walk::follows::<#058ff82db2a1a4d6> */
@@ -27381,6 +28021,73 @@ static uint32_t der_view_walk_follows_6(uint64_t p0, uint64_t p1, uint64_t p2, u
   der_view_walk_walk_6(frame + 24, p0, frame + 48, p2, frame + 112, frame + 72);
   p4 = load8(frame + 24);
   return (uint32_t)(p4 == 1u);
+}
+
+/* der_view::walk::draw_left::<#058ff82db2a1a4d6> */
+static void der_view_walk_draw_left_6(uint64_t p0, uint64_t p1, uint64_t p2)
+{
+  uint32_t v3 = 0, t0;
+  v3 = 1;
+  if (load8(p2 + 1) == 1u)
+    goto after_1;
+  p2 = load64(p1);
+  if (load64(p1 + 8) != 0)
+    goto after_2;
+  if (p2 != 0)
+    goto after_3;
+after_2:;
+  t0 = (uint32_t)(load8(p0) == 1u) & (uint32_t)(((uint32_t)load8(p0 + 6) & 0xffu) == 0u);
+  v3 = t0 & (uint32_t)(((uint32_t)load8(p0 + 10) & 1u) == 0u);
+after_3:;
+  if (load8(p0 + 24) == 1u)
+    goto after_1;
+  if (v3 == 0u)
+    goto after_1;
+  store64(p0 + 32, p2);
+  store64(p0 + 24, 1);
+after_1:;
+  return;
+}
+
+/* der_view::walk::draw_end::<#058ff82db2a1a4d6> */
+static void der_view_walk_draw_end_6(uint64_t p0, uint64_t p1, uint64_t p2)
+{
+  uint32_t v5 = 0, t0;
+  uint64_t v3 = 0, v4 = 0;
+  if (load8(p2 + 1) == 1u)
+    goto after_1;
+  v3 = load64(p2 + 16);
+  if (v3 == 0)
+    goto after_1;
+  v4 = load64(p1 + 8);
+  p1 = load64(p1);
+  p2 = load64(p2 + 8) + 1;
+again_3:;
+  if (load8(p2) == 0u)
+    goto after_2;
+  p2 = p2 + 5;
+  v3 = v3 + 0xffffffffffffffff;
+  if (v3 != 0)
+    goto again_3;
+  goto after_1;
+after_2:;
+  if (v4 != 0)
+    goto after_4;
+  v5 = 1;
+  if (p1 != 0)
+    goto after_5;
+after_4:;
+  t0 = (uint32_t)(load8(p0) == 1u) & (uint32_t)(((uint32_t)load8(p0 + 6) & 0xffu) == 0u);
+  v5 = t0 & (uint32_t)(((uint32_t)load8(p0 + 10) & 1u) == 0u);
+after_5:;
+  if (load8(p0 + 24) == 1u)
+    goto after_1;
+  if (v5 == 0u)
+    goto after_1;
+  store64(p0 + 32, p1);
+  store64(p0 + 24, 1);
+after_1:;
+  return;
 }
 
 /* der_view::line::Line::push_identified */

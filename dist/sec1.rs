@@ -8282,7 +8282,7 @@ unsafe fn der_view_text_Sources_new(p0: u64, mut p1: u64, mut p2: u64) {
 
 // der_view::plan::plan_of
 unsafe fn der_view_plan_plan_of(p0: u64, p1: u64, p2: u64) {
-  let mut array = Frame::<320>::new();
+  let mut array = Frame::<352>::new();
   let frame = address(&raw mut array);
   let mut v4 = 0u64;
   let mut v5 = 0u32;
@@ -8303,35 +8303,35 @@ unsafe fn der_view_plan_plan_of(p0: u64, p1: u64, p2: u64) {
   'after_8: {
   'after_1: {
   'after_4: {
-  store8(frame.wrapping_add(84), 0);
-  store32(frame.wrapping_add(80), 0);
+  store8(frame.wrapping_add(76), 0);
+  store32(frame.wrapping_add(72), 0);
+  store64(frame.wrapping_add(40), 0);
   store64(frame.wrapping_add(48), 0);
   store64(frame.wrapping_add(56), 0);
   store64(frame.wrapping_add(64), 0);
-  store64(frame.wrapping_add(72), 0);
+  store64(frame.wrapping_add(8), 0);
   store64(frame.wrapping_add(16), 0);
   store64(frame.wrapping_add(24), 0);
-  store64(frame.wrapping_add(32), 0);
-  store16(frame.wrapping_add(46), 10);
-  store32(frame.wrapping_add(42), 0x60030);
-  store8(frame.wrapping_add(15), 10);
-  store32(frame.wrapping_add(11), 0x60030);
-  der_view_plan_shape_as(frame.wrapping_add(16), frame.wrapping_add(11), p1, p2);
-  der_view_plan_best(frame.wrapping_add(48), p1, p2, frame.wrapping_add(42),
-      frame.wrapping_add(16), constant(292), 35);
-  store8(frame.wrapping_add(15), 0);
-  store32(frame.wrapping_add(11), 0x90200);
-  v4 = load64(frame.wrapping_add(64));
-  v5 = load8(frame.wrapping_add(53)) as u32;
-  v6 = load8(frame.wrapping_add(52)) as u32;
-  v7 = load8(frame.wrapping_add(51)) as u32;
-  v8 = load8(frame.wrapping_add(50)) as u32;
-  v9 = load8(frame.wrapping_add(49)) as u32;
-  v10 = load8(frame.wrapping_add(48)) as u32;
-  v11 = load8(frame.wrapping_add(72)) as u32;
-  der_view_plan_shape_as(frame.wrapping_add(16), frame.wrapping_add(11), p1, p2);
+  store16(frame.wrapping_add(38), 10);
+  store32(frame.wrapping_add(34), 0x60030);
+  store8(frame.wrapping_add(7), 10);
+  store32(frame.wrapping_add(3), 0x60030);
+  der_view_plan_shape_as(frame.wrapping_add(8), frame.wrapping_add(3), p1, p2);
+  der_view_plan_best(frame.wrapping_add(40), p1, p2, frame.wrapping_add(34),
+      frame.wrapping_add(8), constant(292), 35);
+  store8(frame.wrapping_add(7), 0);
+  store32(frame.wrapping_add(3), 0x90200);
+  v4 = load64(frame.wrapping_add(56));
+  v5 = load8(frame.wrapping_add(45)) as u32;
+  v6 = load8(frame.wrapping_add(44)) as u32;
+  v7 = load8(frame.wrapping_add(43)) as u32;
+  v8 = load8(frame.wrapping_add(42)) as u32;
+  v9 = load8(frame.wrapping_add(41)) as u32;
+  v10 = load8(frame.wrapping_add(40)) as u32;
+  v11 = load8(frame.wrapping_add(64)) as u32;
+  der_view_plan_shape_as(frame.wrapping_add(8), frame.wrapping_add(3), p1, p2);
   v12 = 1;
-  v13 = load8(frame.wrapping_add(32)) as u32;
+  v13 = load8(frame.wrapping_add(24)) as u32;
   if (v11 & 1) != 0 {
     break 'after_1;
   }
@@ -8352,25 +8352,31 @@ unsafe fn der_view_plan_plan_of(p0: u64, p1: u64, p2: u64) {
   v12 = 0;
   break 'after_3;
   }
-  store64(frame.wrapping_add(120), 0);
   store64(frame.wrapping_add(112), 0);
-  store64(frame.wrapping_add(88), 0);
   store64(frame.wrapping_add(104), 0);
-  store64(frame.wrapping_add(96), constant(0));
-  store64(frame.wrapping_add(184), 0);
-  fill(frame.wrapping_add(192), 0, 128);
-  store64(frame.wrapping_add(168), 0);
-  store64(frame.wrapping_add(160), 0);
-  store64(frame.wrapping_add(176), p2);
-  store8(frame.wrapping_add(159), 0);
-  store32(frame.wrapping_add(155), 0x90200);
-  der_view_step_step_by(frame.wrapping_add(192), 1, 0, frame.wrapping_add(155), 1, p1, p2);
-  if (load8(frame.wrapping_add(192)) as u32) != 1 {
+  store64(frame.wrapping_add(80), 0);
+  store64(frame.wrapping_add(96), 0);
+  store64(frame.wrapping_add(88), constant(0));
+  store64(frame.wrapping_add(216), 0);
+  store64(frame.wrapping_add(144), 0);
+  fill(frame.wrapping_add(224), 0, 128);
+  store64(frame.wrapping_add(200), 0);
+  store64(frame.wrapping_add(192), 0);
+  store64(frame.wrapping_add(208), p2);
+  store8(frame.wrapping_add(191), 0);
+  store32(frame.wrapping_add(187), 0x90200);
+  der_view_step_step_by(frame.wrapping_add(224), 1, 0, frame.wrapping_add(187), 1, p1, p2);
+  if (load8(frame.wrapping_add(224)) as u32) != 1 {
     break 'after_4;
   }
-  der_view_walk_draw_step(frame.wrapping_add(128), frame.wrapping_add(112),
-      frame.wrapping_add(88), p2, frame.wrapping_add(160), 0, frame.wrapping_add(200));
-  v5 = 1u32 << ((load8(frame.wrapping_add(112)) as u32) & 31);
+  store64(frame.wrapping_add(176), p2);
+  store64(frame.wrapping_add(168), p1);
+  store64(frame.wrapping_add(160), 1);
+  store64(frame.wrapping_add(152), frame.wrapping_add(187));
+  der_view_walk_draw_step(frame.wrapping_add(120), frame.wrapping_add(104),
+      frame.wrapping_add(80), p2, frame.wrapping_add(192), frame.wrapping_add(144),
+      frame.wrapping_add(232));
+  v5 = 1u32 << ((load8(frame.wrapping_add(104)) as u32) & 31);
   if (v5 & 35) != 0 {
     break 'after_4;
   }
@@ -8385,7 +8391,7 @@ unsafe fn der_view_plan_plan_of(p0: u64, p1: u64, p2: u64) {
   break 'after_6;
   }
   v7 = 0;
-  v4 = (load64(frame.wrapping_add(120))).wrapping_add(0xffffffffffffffe4);
+  v4 = (load64(frame.wrapping_add(112))).wrapping_add(0xffffffffffffffe4);
   if v4 > 38 {
     break 'after_7;
   }
@@ -8455,14 +8461,14 @@ unsafe fn der_view_plan_plan_of(p0: u64, p1: u64, p2: u64) {
   v14 = 1;
   }
   v15 = 0;
-  fill(frame.wrapping_add(192), 0, 128);
-  der_view_step_step_by(frame.wrapping_add(192), 1, 0, constant(1762), 1, p1, p2);
+  fill(frame.wrapping_add(224), 0, 128);
+  der_view_step_step_by(frame.wrapping_add(224), 1, 0, constant(1762), 1, p1, p2);
   'after_14: {
-  if (load8(frame.wrapping_add(192)) as u32) != 1 {
+  if (load8(frame.wrapping_add(224)) as u32) != 1 {
     break 'after_14;
   }
-  let t0 = (u32::from((load8(frame.wrapping_add(224)) as u32) == 1)) &
-      (u32::from((load64(frame.wrapping_add(232))) != (load64(frame.wrapping_add(296)))));
+  let t0 = (u32::from((load8(frame.wrapping_add(256)) as u32) == 1)) &
+      (u32::from((load64(frame.wrapping_add(264))) != (load64(frame.wrapping_add(328)))));
   v15 = t0;
   }
   store8(p0.wrapping_add(10), v15 as u8);
@@ -8476,8 +8482,8 @@ unsafe fn der_view_plan_plan_of(p0: u64, p1: u64, p2: u64) {
   store8(p0.wrapping_add(2), v9 as u8);
   store8(p0.wrapping_add(1), v10 as u8);
   store8(p0, v12 as u8);
-  store32(p0.wrapping_add(11), load32(frame.wrapping_add(80)));
-  store8(p0.wrapping_add(15), (load8(frame.wrapping_add(84)) as u32) as u8);
+  store32(p0.wrapping_add(11), load32(frame.wrapping_add(72)));
+  store8(p0.wrapping_add(15), (load8(frame.wrapping_add(76)) as u32) as u8);
   store64(p0.wrapping_add(16), p2);
 }
 
@@ -8844,62 +8850,67 @@ unsafe fn core_slice_reads_slice_T_contains(p0: u64, p1: u64, p2: u64) -> u32 {
 
 // der_view::plan::shape_as
 unsafe fn der_view_plan_shape_as(p0: u64, mut p1: u64, mut p2: u64, mut p3: u64) {
-  let mut array = Frame::<240>::new();
+  let mut array = Frame::<288>::new();
   let frame = address(&raw mut array);
   let mut v5 = 0u32;
   let mut v6 = 0u32;
   'after_2: {
   'after_1: {
-  store64(frame, 0);
+  store64(frame.wrapping_add(8), 0);
+  store64(frame.wrapping_add(48), 0);
+  store64(frame.wrapping_add(32), 0);
   store64(frame.wrapping_add(40), 0);
   store64(frame.wrapping_add(24), 0);
-  store64(frame.wrapping_add(32), 0);
-  store64(frame.wrapping_add(16), 0);
-  store64(frame.wrapping_add(8), constant(0));
+  store64(frame.wrapping_add(16), constant(0));
   v5 = 0;
-  store8(frame.wrapping_add(1), 0);
-  store8(frame.wrapping_add(40), 0);
-  store64(frame.wrapping_add(232), 0);
-  fill(frame.wrapping_add(72), 0, 128);
+  store8(frame.wrapping_add(9), 0);
+  store8(frame.wrapping_add(48), 0);
+  store64(frame.wrapping_add(280), 0);
+  store64(frame.wrapping_add(208), 0);
+  fill(frame.wrapping_add(80), 0, 128);
+  store64(frame.wrapping_add(72), 0);
   store64(frame.wrapping_add(64), 0);
   store64(frame.wrapping_add(56), 0);
-  store64(frame.wrapping_add(48), 0);
-  store64(frame.wrapping_add(208), 0);
-  store64(frame.wrapping_add(216), 0);
-  store64(frame.wrapping_add(224), p3);
-  store32(frame.wrapping_add(200), load32(p1));
-  store8(frame.wrapping_add(204), (load8(p1.wrapping_add(4)) as u32) as u8);
-  der_view_step_step_by(frame.wrapping_add(72), 1, 0, frame.wrapping_add(200), 1, p2, p3);
-  if (load8(frame.wrapping_add(72)) as u32) != 1 {
+  store64(frame.wrapping_add(256), 0);
+  store64(frame.wrapping_add(264), 0);
+  store64(frame.wrapping_add(272), p3);
+  store32(frame.wrapping_add(248), load32(p1));
+  store8(frame.wrapping_add(252), (load8(p1.wrapping_add(4)) as u32) as u8);
+  der_view_step_step_by(frame.wrapping_add(80), 1, 0, frame.wrapping_add(248), 1, p2, p3);
+  if (load8(frame.wrapping_add(80)) as u32) != 1 {
     break 'after_1;
   }
-  p1 = load64(frame.wrapping_add(176));
-  p2 = load64(frame.wrapping_add(112));
-  v6 = load8(frame.wrapping_add(104)) as u32;
-  v5 = 0;
-  der_view_walk_draw_step_4(frame.wrapping_add(48), frame.wrapping_add(24), frame, p3,
-      frame.wrapping_add(208), 0, frame.wrapping_add(80));
-  if (load8(frame.wrapping_add(48)) as u32) == 0 {
+  store64(frame.wrapping_add(240), p3);
+  store64(frame.wrapping_add(232), p2);
+  store64(frame.wrapping_add(224), 1);
+  store64(frame.wrapping_add(216), frame.wrapping_add(248));
+  p1 = load64(frame.wrapping_add(184));
+  p2 = load64(frame.wrapping_add(120));
+  v6 = load8(frame.wrapping_add(112)) as u32;
+  der_view_walk_draw_step_4(frame.wrapping_add(56), frame.wrapping_add(32),
+      frame.wrapping_add(8), p3, frame.wrapping_add(256), frame.wrapping_add(208),
+      frame.wrapping_add(88));
+  if (load8(frame.wrapping_add(56)) as u32) == 0 {
     break 'after_2;
   }
   'after_3: {
-  p3 = load64(frame.wrapping_add(64));
+  p3 = load64(frame.wrapping_add(72));
   if p3 != 0 {
     break 'after_3;
   }
   v5 = (u32::from((v6 & 255) != 1)) | (u32::from(p2 == p1));
   break 'after_2;
   }
-  p1 = p3.wrapping_add(load64(frame.wrapping_add(24)));
-  store64(frame.wrapping_add(24), if p1 < p3 { 0xffffffffffffffffu64 } else { p1 });
+  p1 = p3.wrapping_add(load64(frame.wrapping_add(32)));
+  store64(frame.wrapping_add(32), if p1 < p3 { 0xffffffffffffffffu64 } else { p1 });
   break 'after_2;
   }
-  store64(frame.wrapping_add(24), p3);
+  store64(frame.wrapping_add(32), p3);
   }
-  store64(p0, load64(frame.wrapping_add(24)));
-  store64(p0.wrapping_add(8), load64(frame.wrapping_add(32)));
-  store8(frame.wrapping_add(40), v5 as u8);
-  store64(p0.wrapping_add(16), load64(frame.wrapping_add(40)));
+  store64(p0, load64(frame.wrapping_add(32)));
+  store64(p0.wrapping_add(8), load64(frame.wrapping_add(40)));
+  store8(frame.wrapping_add(48), v5 as u8);
+  store64(p0.wrapping_add(16), load64(frame.wrapping_add(48)));
 }
 
 // der_view::plan::best
@@ -9296,584 +9307,256 @@ unsafe fn der_view_step_step_by(p0: u64, mut p1: u32, mut p2: u32, mut p3: u64, 
 }
 
 // der_view::walk::draw_step::<#ba02b8222ab7e3d1>
-unsafe fn der_view_walk_draw_step(p0: u64, p1: u64, p2: u64, p3: u64, mut p4: u64, p5: u32,
+unsafe fn der_view_walk_draw_step(p0: u64, p1: u64, p2: u64, p3: u64, mut p4: u64, p5: u64,
     mut p6: u64) {
-  let mut array = Frame::<320>::new();
+  let mut array = Frame::<272>::new();
   let frame = address(&raw mut array);
-  let mut v8 = 0u64;
+  let mut v8 = 0u32;
   let mut v9 = 0u64;
   let mut v10 = 0u64;
-  let mut v11 = 0u32;
-  let mut v12 = 0u64;
-  let mut v13 = 0u32;
+  let mut v11 = 0u64;
+  let mut v12 = 0u32;
+  let mut v13 = 0u64;
   let mut v14 = 0u32;
   let mut v15 = 0u32;
   let mut v16 = 0u32;
-  let mut v17 = 0u64;
-  let mut v18 = 0u64;
-  let mut v19 = 0u32;
-  let mut v20 = 0u32;
+  store32(frame.wrapping_add(248), load32(p4.wrapping_add(25)));
+  store32(frame.wrapping_add(251), load32(p4.wrapping_add(28)));
   'after_5: {
-  'after_6: {
-  'after_7: {
-  v8 = load64(p4.wrapping_add(16));
-  v9 = load64(p4.wrapping_add(8));
-  v10 = 0;
+  v8 = load8(p4.wrapping_add(24)) as u32;
+  v9 = load64(p4.wrapping_add(16));
+  v10 = load64(p4.wrapping_add(8));
+  p4 = load64(p4);
+  store64(frame.wrapping_add(264), 0);
+  store64(frame.wrapping_add(256), 0);
+  store64(frame.wrapping_add(208), 0);
+  store64(frame.wrapping_add(216), 0);
+  store64(frame.wrapping_add(224), 0);
+  store64(frame.wrapping_add(232), 0);
+  store64(frame.wrapping_add(240), 0);
   store64(frame.wrapping_add(184), 0);
   store64(frame.wrapping_add(192), 0);
-  v11 = 0;
-  store32(frame.wrapping_add(176), 0);
-  store32(frame.wrapping_add(179), 0);
-  store64(frame.wrapping_add(136), 0);
-  store64(frame.wrapping_add(144), 0);
+  store64(frame.wrapping_add(200), 0);
   store64(frame.wrapping_add(152), 0);
   store64(frame.wrapping_add(160), 0);
   store64(frame.wrapping_add(168), 0);
-  store64(frame.wrapping_add(112), 0);
-  store64(frame.wrapping_add(120), 0);
-  store64(frame.wrapping_add(128), 0);
-  store64(frame.wrapping_add(88), 0);
-  store64(frame.wrapping_add(96), 0);
-  store64(frame.wrapping_add(104), 0);
-  v12 = load64(p4);
-  v13 = load8(p4.wrapping_add(24)) as u32;
-  store64(frame.wrapping_add(80), 0);
-  store64(frame.wrapping_add(72), 0);
+  store64(frame.wrapping_add(176), 0);
   store64(frame.wrapping_add(64), 0);
+  store64(frame.wrapping_add(72), 0);
+  store64(frame.wrapping_add(80), 0);
   store64(frame.wrapping_add(56), 0);
-  store64(frame.wrapping_add(40), 0);
   store64(frame.wrapping_add(48), 0);
-  p4 = v9.wrapping_add(1);
-  v14 = 1;
-  v15 = v13 & 1;
-  v12 = v12.wrapping_add(load64(p6.wrapping_add(16)));
-  v13 = load8(p2) as u32;
+  store64(frame.wrapping_add(40), 0);
+  store64(frame.wrapping_add(32), 0);
+  store64(frame.wrapping_add(16), 0);
+  store64(frame.wrapping_add(24), 0);
+  v11 = v10.wrapping_add(1);
+  store64(frame.wrapping_add(128), v11);
+  store64(frame.wrapping_add(136), v9);
+  v12 = v8 & 1;
+  store8(frame.wrapping_add(144), v12 as u8);
+  store32(frame.wrapping_add(145), 0);
+  store32(frame.wrapping_add(148), 0);
+  v13 = p4.wrapping_add(load64(p6.wrapping_add(16)));
+  store64(frame.wrapping_add(120), v13);
+  der_view_walk_opened_of(frame.wrapping_add(152), p1, p2, p3, frame.wrapping_add(120), p6);
+  store8(frame.wrapping_add(112), v8 as u8);
+  store64(frame.wrapping_add(104), v9);
+  store64(frame.wrapping_add(96), v10);
+  store64(frame.wrapping_add(88), p4);
+  store32(frame.wrapping_add(113), load32(frame.wrapping_add(248)));
+  store32(frame.wrapping_add(116), load32(frame.wrapping_add(251)));
+  v14 = load8(frame.wrapping_add(176)) as u32;
+  p4 = load64(frame.wrapping_add(168));
+  v15 = load8(frame.wrapping_add(160)) as u32;
+  v8 = load8(frame.wrapping_add(152)) as u32;
+  der_view_walk_draw_element(p1, p2, frame.wrapping_add(88), p5, p6);
   'after_4: {
   'after_3: {
   'after_2: {
   'after_1: {
-  v16 = load8(p6.wrapping_add(58)) as u32;
-  match ((v16 as u64) & 255) as u32 {
-  6 => {
+  if v8 != 1 {
     break 'after_1;
   }
-  7 => {
+  v8 = load8(p6.wrapping_add(24)) as u32;
+  v16 = load8(p5.wrapping_add(1)) as u32;
+  der_view_grammar_Structure_components(frame, v15);
+  store8(frame.wrapping_add(209), v16 as u8);
+  store8(frame.wrapping_add(208), (u32::from(v8 != 1)) as u8);
+  store8(frame.wrapping_add(184), v14 as u8);
+  store64(frame.wrapping_add(32), p4.wrapping_add(v13));
+  store64(frame.wrapping_add(40), v11);
+  store64(frame.wrapping_add(48), v9);
+  store8(frame.wrapping_add(56), v12 as u8);
+  store64(frame.wrapping_add(224), load64(frame.wrapping_add(8)));
+  store64(frame.wrapping_add(216), load64(frame));
+  store8(frame.wrapping_add(185), (load8(p2.wrapping_add(1)) as u32) as u8);
+  store64(frame.wrapping_add(192), load64(p2.wrapping_add(8)));
+  store64(frame.wrapping_add(200), load64(p2.wrapping_add(16)));
+  store64(frame.wrapping_add(240), (load64(p6.wrapping_add(96))).wrapping_sub(p4));
+  store64(frame.wrapping_add(232), (load64(p6.wrapping_add(88))).wrapping_add(p4));
+  store32(frame.wrapping_add(60), 0);
+  store32(frame.wrapping_add(57), 0);
+  der_view_walk_walk(frame.wrapping_add(64), p1, frame.wrapping_add(184), p3,
+      frame.wrapping_add(32), frame.wrapping_add(208));
+  if (load8(frame.wrapping_add(64)) as u32) != 1 {
     break 'after_2;
   }
-  8 => {
+  if v8 == 1 {
     break 'after_3;
   }
-  _ => {
-    break 'after_4;
-  }
-  }
-  }
-  v11 = load8(p6.wrapping_add(59)) as u32;
-  break 'after_5;
-  }
-  v17 = load64(p6.wrapping_add(88));
-  v18 = load64(p6.wrapping_add(96));
-  v11 = load8(p6.wrapping_add(59)) as u32;
-  v13 = 0;
-  store32(frame.wrapping_add(313), 0);
-  store8(frame.wrapping_add(312), v15 as u8);
-  store64(frame.wrapping_add(304), v8);
-  store64(frame.wrapping_add(296), p4);
-  store64(frame.wrapping_add(288), v12);
-  store32(frame.wrapping_add(316), 0);
-  v10 = 0;
-  store64(frame.wrapping_add(248), 0);
-  store64(frame.wrapping_add(224), 0);
-  store64(frame.wrapping_add(200), 0);
-  store64(frame.wrapping_add(208), 0);
-  store64(frame.wrapping_add(216), 0);
-  der_view_grammar_Structure_components(frame.wrapping_add(24), v11);
-  store64(frame.wrapping_add(280), v18);
-  store64(frame.wrapping_add(272), v17);
-  store16(frame.wrapping_add(248), 256);
-  store8(frame.wrapping_add(224), 0);
-  store64(frame.wrapping_add(264), load64(frame.wrapping_add(32)));
-  store64(frame.wrapping_add(256), load64(frame.wrapping_add(24)));
-  store64(frame.wrapping_add(232), load64(p2.wrapping_add(8)));
-  store64(frame.wrapping_add(240), load64(p2.wrapping_add(16)));
-  store8(frame.wrapping_add(225), (load8(p2.wrapping_add(1)) as u32) as u8);
-  der_view_walk_walk(frame.wrapping_add(200), p1, frame.wrapping_add(224), p3,
-      frame.wrapping_add(288), frame.wrapping_add(248));
-  v14 = u32::from((load8(frame.wrapping_add(200)) as u32) == 1);
-  v11 = if v14 != 0 { v11 } else { 0u32 };
-  break 'after_5;
-  }
-  v17 = load64(p6.wrapping_add(96));
-  if v17 == 0 {
-    break 'after_6;
-  }
-  v14 = 0;
-  v18 = load64(p6.wrapping_add(88));
-  if (load8(v18) as u32) != 0 {
-    break 'after_7;
-  }
-  'after_8: {
-  v17 = v17.wrapping_add(0xffffffffffffffff);
-  if v17 != 0 {
-    break 'after_8;
-  }
-  v14 = 0;
-  break 'after_7;
-  }
-  v11 = load8(p6.wrapping_add(59)) as u32;
-  v13 = 0;
-  store32(frame.wrapping_add(273), 0);
-  store8(frame.wrapping_add(272), v15 as u8);
-  store64(frame.wrapping_add(264), v8);
-  store64(frame.wrapping_add(256), p4);
-  store64(frame.wrapping_add(248), v12);
-  store32(frame.wrapping_add(276), 0);
-  let t0 = der_view_walk_follows(p1, p2, p3, frame.wrapping_add(248), v11, v18.wrapping_add(1),
-      v17);
-  v14 = t0;
-  v11 = if v14 != 0 { v11 } else { 0u32 };
-  v10 = v14 as u64;
-  break 'after_5;
-  }
-  v14 = 1;
-  'after_9: {
-  if (load8(p6.wrapping_add(24)) as u32) != 1 {
-    break 'after_9;
-  }
-  v11 = 0;
-  if (load8(p6.wrapping_add(1)) as u32) != 1 {
-    break 'after_6;
-  }
-  if (((u32::from((v16 & 255) == 9)) | v13) & 1) == 0 {
-    break 'after_6;
-  }
-  }
-  v11 = 84;
-  break 'after_5;
-  }
-  v11 = 0;
-  v13 = 0;
-  break 'after_5;
-  }
-  v14 = 0;
-  v13 = 0;
-  }
-  'after_10: {
-  if (p5 & 1) != 0 {
-    break 'after_10;
-  }
-  store64(frame.wrapping_add(280), load64(p6.wrapping_add(32)));
-  store64(frame.wrapping_add(272), load64(p6.wrapping_add(24)));
-  store64(frame.wrapping_add(264), load64(p6.wrapping_add(16)));
-  store64(frame.wrapping_add(256), load64(p6.wrapping_add(8)));
-  store64(frame.wrapping_add(248), load64(p6));
-  v18 = load64(p6.wrapping_add(96));
-  der_view_content_shown_len(load8(p2.wrapping_add(1)) as u32, frame.wrapping_add(248),
-      load8(p6.wrapping_add(58)) as u32, load8(p6.wrapping_add(59)) as u32,
-      load64(p6.wrapping_add(88)), v18);
-  'after_12: {
-  'after_11: {
-  if v9 < 2 {
-    break 'after_11;
-  }
-  v17 = load64(p1.wrapping_add(8));
-  v16 = load8(p1) as u32;
-  break 'after_12;
-  }
-  v17 = 0;
-  v16 = 5;
-  if (load64(p6.wrapping_add(48))) == 0 {
-    break 'after_12;
-  }
-  v19 = load8(frame.wrapping_add(272)) as u32;
-  'after_13: {
-  v20 = load8(load64(p6.wrapping_add(40))) as u32;
-  if v20 != 48 {
-    break 'after_13;
-  }
-  if v9 != 0 {
-    break 'after_13;
-  }
-  v17 = load64(p1.wrapping_add(8));
-  v16 = load8(p1) as u32;
-  break 'after_12;
-  }
-  if v9 != 1 {
-    break 'after_12;
-  }
-  v9 = if v19 == 1 { v18 } else { 0u64 };
-  'after_17: {
-  'after_16: {
-  'after_15: {
-  'after_14: {
-  'after_18: {
-  match (load8(p1) as u64) as u32 {
-  1 => {
-    break 'after_14;
-  }
-  2 => {
-    break 'after_15;
-  }
-  3 => {
-    break 'after_16;
-  }
-  4 | 5 => {
-    break 'after_17;
-  }
-  _ => {
-    break 'after_18;
-  }
-  }
-  }
-  if v9 != 1 {
-    break 'after_17;
-  }
-  if v20 != 2 {
-    break 'after_17;
-  }
-  v16 = 1;
-  break 'after_12;
-  }
-  if v20 > 31 {
-    break 'after_17;
-  }
-  if v20 == 4 {
-    break 'after_17;
-  }
-  v16 = 2;
-  v17 = v9;
-  break 'after_12;
-  }
-  v16 = 3;
-  'after_19: {
-  match v20.wrapping_add(0xffffff60) {
-  1 => {
-    break 'after_19;
-  }
-  0 => {
-    break 'after_12;
-  }
-  _ => {
-    break 'after_17;
-  }
-  }
-  }
-  v16 = 4;
-  break 'after_12;
-  }
-  if v20 != 161 {
-    break 'after_17;
-  }
-  v16 = 4;
-  break 'after_12;
-  }
-  v16 = 5;
-  }
-  store64(p1.wrapping_add(8), v17);
-  store64(p1, (v16 as u64) & 255);
-  }
-  'after_24: {
-  'after_23: {
-  'after_22: {
-  'after_21: {
-  'after_20: {
-  if v14 == 0 {
-    break 'after_20;
-  }
-  v14 = load8(p6.wrapping_add(24)) as u32;
-  der_view_grammar_Structure_components(frame.wrapping_add(8), v11);
-  store8(frame.wrapping_add(137), p5 as u8);
-  v14 = u32::from(v14 != 1);
-  store8(frame.wrapping_add(136), v14 as u8);
-  store8(frame.wrapping_add(112), v13 as u8);
-  store64(frame.wrapping_add(56), v10.wrapping_add(v12));
-  store64(frame.wrapping_add(64), p4);
-  store64(frame.wrapping_add(72), v8);
-  store8(frame.wrapping_add(80), v15 as u8);
-  store64(frame.wrapping_add(152), load64(frame.wrapping_add(16)));
-  store64(frame.wrapping_add(144), load64(frame.wrapping_add(8)));
-  store8(frame.wrapping_add(113), (load8(p2.wrapping_add(1)) as u32) as u8);
-  store64(frame.wrapping_add(120), load64(p2.wrapping_add(8)));
-  store64(frame.wrapping_add(128), load64(p2.wrapping_add(16)));
-  store64(frame.wrapping_add(168), (load64(p6.wrapping_add(96))).wrapping_sub(v10));
-  store64(frame.wrapping_add(160), (load64(p6.wrapping_add(88))).wrapping_add(v10));
-  store32(frame.wrapping_add(84), load32(frame.wrapping_add(179)));
-  store32(frame.wrapping_add(81), load32(frame.wrapping_add(176)));
-  der_view_walk_walk(frame.wrapping_add(88), p1, frame.wrapping_add(112), p3,
-      frame.wrapping_add(56), frame.wrapping_add(136));
-  if (load8(frame.wrapping_add(88)) as u32) != 1 {
-    break 'after_21;
-  }
-  if v14 == 0 {
-    break 'after_22;
-  }
-  store64(frame.wrapping_add(48), load64(frame.wrapping_add(104)));
-  store64(frame.wrapping_add(40), load64(frame.wrapping_add(96)));
-  break 'after_23;
+  store64(frame.wrapping_add(24), load64(frame.wrapping_add(80)));
+  store64(frame.wrapping_add(16), load64(frame.wrapping_add(72)));
+  break 'after_4;
   }
   p4 = load64(p6.wrapping_add(112));
   p6 = load64(p6.wrapping_add(104));
   store64(p0, 1);
   store64(p0.wrapping_add(8), p6);
   store64(p0.wrapping_add(16), p4);
-  store64(frame.wrapping_add(192), p4);
-  store64(frame.wrapping_add(184), p6);
-  break 'after_24;
+  store64(frame.wrapping_add(264), p4);
+  store64(frame.wrapping_add(256), p6);
+  break 'after_5;
   }
   store64(p0.wrapping_add(16), 0);
   store64(p0.wrapping_add(8), 0);
   store64(p0, 0);
-  break 'after_24;
+  break 'after_5;
   }
-  store64(frame.wrapping_add(48), load64(p6.wrapping_add(112)));
-  store64(frame.wrapping_add(40), load64(p6.wrapping_add(104)));
+  store64(frame.wrapping_add(24), load64(p6.wrapping_add(112)));
+  store64(frame.wrapping_add(16), load64(p6.wrapping_add(104)));
   }
   store64(p0, 1);
-  store64(p0.wrapping_add(8), load64(frame.wrapping_add(40)));
-  store64(p0.wrapping_add(16), load64(frame.wrapping_add(48)));
+  store64(p0.wrapping_add(8), load64(frame.wrapping_add(16)));
+  store64(p0.wrapping_add(16), load64(frame.wrapping_add(24)));
+  break 'after_5;
   }
 }
 
 // der_view::walk::draw_step::<#2357e196ed33dafc>
-unsafe fn der_view_walk_draw_step_4(p0: u64, p1: u64, p2: u64, p3: u64, mut p4: u64, p5: u32,
+unsafe fn der_view_walk_draw_step_4(p0: u64, p1: u64, p2: u64, p3: u64, mut p4: u64, p5: u64,
     mut p6: u64) {
-  let mut array = Frame::<320>::new();
+  let mut array = Frame::<272>::new();
   let frame = address(&raw mut array);
-  let mut v8 = 0u64;
+  let mut v8 = 0u32;
   let mut v9 = 0u64;
   let mut v10 = 0u64;
-  let mut v11 = 0u32;
-  let mut v12 = 0u64;
-  let mut v13 = 0u32;
+  let mut v11 = 0u64;
+  let mut v12 = 0u32;
+  let mut v13 = 0u64;
   let mut v14 = 0u32;
   let mut v15 = 0u32;
   let mut v16 = 0u32;
-  let mut v17 = 0u64;
-  let mut v18 = 0u64;
+  store32(frame.wrapping_add(248), load32(p4.wrapping_add(25)));
+  store32(frame.wrapping_add(251), load32(p4.wrapping_add(28)));
   'after_5: {
-  'after_6: {
-  'after_7: {
-  v8 = load64(p4.wrapping_add(16));
-  v9 = load64(p4.wrapping_add(8));
-  v10 = 0;
+  v8 = load8(p4.wrapping_add(24)) as u32;
+  v9 = load64(p4.wrapping_add(16));
+  v10 = load64(p4.wrapping_add(8));
+  p4 = load64(p4);
+  store64(frame.wrapping_add(264), 0);
+  store64(frame.wrapping_add(256), 0);
+  store64(frame.wrapping_add(208), 0);
+  store64(frame.wrapping_add(216), 0);
+  store64(frame.wrapping_add(224), 0);
+  store64(frame.wrapping_add(232), 0);
+  store64(frame.wrapping_add(240), 0);
   store64(frame.wrapping_add(184), 0);
   store64(frame.wrapping_add(192), 0);
-  v11 = 0;
-  store32(frame.wrapping_add(176), 0);
-  store32(frame.wrapping_add(179), 0);
-  store64(frame.wrapping_add(136), 0);
-  store64(frame.wrapping_add(144), 0);
+  store64(frame.wrapping_add(200), 0);
   store64(frame.wrapping_add(152), 0);
   store64(frame.wrapping_add(160), 0);
   store64(frame.wrapping_add(168), 0);
-  store64(frame.wrapping_add(112), 0);
-  store64(frame.wrapping_add(120), 0);
-  store64(frame.wrapping_add(128), 0);
-  store64(frame.wrapping_add(88), 0);
-  store64(frame.wrapping_add(96), 0);
-  store64(frame.wrapping_add(104), 0);
-  v12 = load64(p4);
-  v13 = load8(p4.wrapping_add(24)) as u32;
-  store64(frame.wrapping_add(80), 0);
-  store64(frame.wrapping_add(72), 0);
+  store64(frame.wrapping_add(176), 0);
   store64(frame.wrapping_add(64), 0);
+  store64(frame.wrapping_add(72), 0);
+  store64(frame.wrapping_add(80), 0);
   store64(frame.wrapping_add(56), 0);
-  store64(frame.wrapping_add(40), 0);
   store64(frame.wrapping_add(48), 0);
-  p4 = v9.wrapping_add(1);
-  v14 = 1;
-  v15 = v13 & 1;
-  v12 = v12.wrapping_add(load64(p6.wrapping_add(16)));
-  v13 = load8(p2) as u32;
+  store64(frame.wrapping_add(40), 0);
+  store64(frame.wrapping_add(32), 0);
+  store64(frame.wrapping_add(16), 0);
+  store64(frame.wrapping_add(24), 0);
+  v11 = v10.wrapping_add(1);
+  store64(frame.wrapping_add(128), v11);
+  store64(frame.wrapping_add(136), v9);
+  v12 = v8 & 1;
+  store8(frame.wrapping_add(144), v12 as u8);
+  store32(frame.wrapping_add(145), 0);
+  store32(frame.wrapping_add(148), 0);
+  v13 = p4.wrapping_add(load64(p6.wrapping_add(16)));
+  store64(frame.wrapping_add(120), v13);
+  der_view_walk_opened_of_4(frame.wrapping_add(152), p1, p2, p3, frame.wrapping_add(120), p6);
+  store8(frame.wrapping_add(112), v8 as u8);
+  store64(frame.wrapping_add(104), v9);
+  store64(frame.wrapping_add(96), v10);
+  store64(frame.wrapping_add(88), p4);
+  store32(frame.wrapping_add(113), load32(frame.wrapping_add(248)));
+  store32(frame.wrapping_add(116), load32(frame.wrapping_add(251)));
+  v14 = load8(frame.wrapping_add(176)) as u32;
+  p4 = load64(frame.wrapping_add(168));
+  v15 = load8(frame.wrapping_add(160)) as u32;
+  v8 = load8(frame.wrapping_add(152)) as u32;
+  der_view_walk_draw_element_4(p1, p2, frame.wrapping_add(88), p5, p6);
   'after_4: {
   'after_3: {
   'after_2: {
   'after_1: {
-  v16 = load8(p6.wrapping_add(58)) as u32;
-  match ((v16 as u64) & 255) as u32 {
-  6 => {
+  if v8 != 1 {
     break 'after_1;
   }
-  7 => {
+  v8 = load8(p6.wrapping_add(24)) as u32;
+  v16 = load8(p5.wrapping_add(1)) as u32;
+  der_view_grammar_Structure_components(frame, v15);
+  store8(frame.wrapping_add(209), v16 as u8);
+  store8(frame.wrapping_add(208), (u32::from(v8 != 1)) as u8);
+  store8(frame.wrapping_add(184), v14 as u8);
+  store64(frame.wrapping_add(32), p4.wrapping_add(v13));
+  store64(frame.wrapping_add(40), v11);
+  store64(frame.wrapping_add(48), v9);
+  store8(frame.wrapping_add(56), v12 as u8);
+  store64(frame.wrapping_add(224), load64(frame.wrapping_add(8)));
+  store64(frame.wrapping_add(216), load64(frame));
+  store8(frame.wrapping_add(185), (load8(p2.wrapping_add(1)) as u32) as u8);
+  store64(frame.wrapping_add(192), load64(p2.wrapping_add(8)));
+  store64(frame.wrapping_add(200), load64(p2.wrapping_add(16)));
+  store64(frame.wrapping_add(240), (load64(p6.wrapping_add(96))).wrapping_sub(p4));
+  store64(frame.wrapping_add(232), (load64(p6.wrapping_add(88))).wrapping_add(p4));
+  store32(frame.wrapping_add(60), 0);
+  store32(frame.wrapping_add(57), 0);
+  der_view_walk_walk_4(frame.wrapping_add(64), p1, frame.wrapping_add(184), p3,
+      frame.wrapping_add(32), frame.wrapping_add(208));
+  if (load8(frame.wrapping_add(64)) as u32) != 1 {
     break 'after_2;
   }
-  8 => {
+  if v8 == 1 {
     break 'after_3;
   }
-  _ => {
-    break 'after_4;
-  }
-  }
-  }
-  v11 = load8(p6.wrapping_add(59)) as u32;
-  break 'after_5;
-  }
-  v17 = load64(p6.wrapping_add(88));
-  v18 = load64(p6.wrapping_add(96));
-  v11 = load8(p6.wrapping_add(59)) as u32;
-  v13 = 0;
-  store32(frame.wrapping_add(313), 0);
-  store8(frame.wrapping_add(312), v15 as u8);
-  store64(frame.wrapping_add(304), v8);
-  store64(frame.wrapping_add(296), p4);
-  store64(frame.wrapping_add(288), v12);
-  store32(frame.wrapping_add(316), 0);
-  v10 = 0;
-  store64(frame.wrapping_add(248), 0);
-  store64(frame.wrapping_add(224), 0);
-  store64(frame.wrapping_add(200), 0);
-  store64(frame.wrapping_add(208), 0);
-  store64(frame.wrapping_add(216), 0);
-  der_view_grammar_Structure_components(frame.wrapping_add(24), v11);
-  store64(frame.wrapping_add(280), v18);
-  store64(frame.wrapping_add(272), v17);
-  store16(frame.wrapping_add(248), 256);
-  store8(frame.wrapping_add(224), 0);
-  store64(frame.wrapping_add(264), load64(frame.wrapping_add(32)));
-  store64(frame.wrapping_add(256), load64(frame.wrapping_add(24)));
-  store64(frame.wrapping_add(232), load64(p2.wrapping_add(8)));
-  store64(frame.wrapping_add(240), load64(p2.wrapping_add(16)));
-  store8(frame.wrapping_add(225), (load8(p2.wrapping_add(1)) as u32) as u8);
-  der_view_walk_walk_4(frame.wrapping_add(200), p1, frame.wrapping_add(224), p3,
-      frame.wrapping_add(288), frame.wrapping_add(248));
-  v14 = u32::from((load8(frame.wrapping_add(200)) as u32) == 1);
-  v11 = if v14 != 0 { v11 } else { 0u32 };
-  break 'after_5;
-  }
-  v17 = load64(p6.wrapping_add(96));
-  if v17 == 0 {
-    break 'after_6;
-  }
-  v14 = 0;
-  v18 = load64(p6.wrapping_add(88));
-  if (load8(v18) as u32) != 0 {
-    break 'after_7;
-  }
-  'after_8: {
-  v17 = v17.wrapping_add(0xffffffffffffffff);
-  if v17 != 0 {
-    break 'after_8;
-  }
-  v14 = 0;
-  break 'after_7;
-  }
-  v11 = load8(p6.wrapping_add(59)) as u32;
-  v13 = 0;
-  store32(frame.wrapping_add(273), 0);
-  store8(frame.wrapping_add(272), v15 as u8);
-  store64(frame.wrapping_add(264), v8);
-  store64(frame.wrapping_add(256), p4);
-  store64(frame.wrapping_add(248), v12);
-  store32(frame.wrapping_add(276), 0);
-  let t0 = der_view_walk_follows_4(p1, p2, p3, frame.wrapping_add(248), v11,
-      v18.wrapping_add(1), v17);
-  v14 = t0;
-  v11 = if v14 != 0 { v11 } else { 0u32 };
-  v10 = v14 as u64;
-  break 'after_5;
-  }
-  v14 = 1;
-  'after_9: {
-  if (load8(p6.wrapping_add(24)) as u32) != 1 {
-    break 'after_9;
-  }
-  v11 = 0;
-  if (load8(p6.wrapping_add(1)) as u32) != 1 {
-    break 'after_6;
-  }
-  if (((u32::from((v16 & 255) == 9)) | v13) & 1) == 0 {
-    break 'after_6;
-  }
-  }
-  v11 = 84;
-  break 'after_5;
-  }
-  v11 = 0;
-  v13 = 0;
-  break 'after_5;
-  }
-  v14 = 0;
-  v13 = 0;
-  }
-  'after_10: {
-  if (p5 & 1) != 0 {
-    break 'after_10;
-  }
-  store64(frame.wrapping_add(280), load64(p6.wrapping_add(32)));
-  store64(frame.wrapping_add(272), load64(p6.wrapping_add(24)));
-  store64(frame.wrapping_add(264), load64(p6.wrapping_add(16)));
-  store64(frame.wrapping_add(256), load64(p6.wrapping_add(8)));
-  store64(frame.wrapping_add(248), load64(p6));
-  der_view_content_shown_len(load8(p2.wrapping_add(1)) as u32, frame.wrapping_add(248),
-      load8(p6.wrapping_add(58)) as u32, load8(p6.wrapping_add(59)) as u32,
-      load64(p6.wrapping_add(88)), load64(p6.wrapping_add(96)));
-  if v9 != 1 {
-    break 'after_10;
-  }
-  v9 = p1.wrapping_add(8);
-  let t2 = v9;
-  v9 = load64(v9).wrapping_add(1);
-  store64(t2, if v9 == 0 { 0xffffffffffffffffu64 } else { v9 });
-  }
-  'after_15: {
-  'after_14: {
-  'after_13: {
-  'after_12: {
-  'after_11: {
-  if v14 == 0 {
-    break 'after_11;
-  }
-  v14 = load8(p6.wrapping_add(24)) as u32;
-  der_view_grammar_Structure_components(frame.wrapping_add(8), v11);
-  store8(frame.wrapping_add(137), p5 as u8);
-  v14 = u32::from(v14 != 1);
-  store8(frame.wrapping_add(136), v14 as u8);
-  store8(frame.wrapping_add(112), v13 as u8);
-  store64(frame.wrapping_add(56), v10.wrapping_add(v12));
-  store64(frame.wrapping_add(64), p4);
-  store64(frame.wrapping_add(72), v8);
-  store8(frame.wrapping_add(80), v15 as u8);
-  store64(frame.wrapping_add(152), load64(frame.wrapping_add(16)));
-  store64(frame.wrapping_add(144), load64(frame.wrapping_add(8)));
-  store8(frame.wrapping_add(113), (load8(p2.wrapping_add(1)) as u32) as u8);
-  store64(frame.wrapping_add(120), load64(p2.wrapping_add(8)));
-  store64(frame.wrapping_add(128), load64(p2.wrapping_add(16)));
-  store64(frame.wrapping_add(168), (load64(p6.wrapping_add(96))).wrapping_sub(v10));
-  store64(frame.wrapping_add(160), (load64(p6.wrapping_add(88))).wrapping_add(v10));
-  store32(frame.wrapping_add(84), load32(frame.wrapping_add(179)));
-  store32(frame.wrapping_add(81), load32(frame.wrapping_add(176)));
-  der_view_walk_walk_4(frame.wrapping_add(88), p1, frame.wrapping_add(112), p3,
-      frame.wrapping_add(56), frame.wrapping_add(136));
-  if (load8(frame.wrapping_add(88)) as u32) != 1 {
-    break 'after_12;
-  }
-  if v14 == 0 {
-    break 'after_13;
-  }
-  store64(frame.wrapping_add(48), load64(frame.wrapping_add(104)));
-  store64(frame.wrapping_add(40), load64(frame.wrapping_add(96)));
-  break 'after_14;
+  store64(frame.wrapping_add(24), load64(frame.wrapping_add(80)));
+  store64(frame.wrapping_add(16), load64(frame.wrapping_add(72)));
+  break 'after_4;
   }
   p4 = load64(p6.wrapping_add(112));
   p6 = load64(p6.wrapping_add(104));
   store64(p0, 1);
   store64(p0.wrapping_add(8), p6);
   store64(p0.wrapping_add(16), p4);
-  store64(frame.wrapping_add(192), p4);
-  store64(frame.wrapping_add(184), p6);
-  break 'after_15;
+  store64(frame.wrapping_add(264), p4);
+  store64(frame.wrapping_add(256), p6);
+  break 'after_5;
   }
   store64(p0.wrapping_add(16), 0);
   store64(p0.wrapping_add(8), 0);
   store64(p0, 0);
-  break 'after_15;
+  break 'after_5;
   }
-  store64(frame.wrapping_add(48), load64(p6.wrapping_add(112)));
-  store64(frame.wrapping_add(40), load64(p6.wrapping_add(104)));
+  store64(frame.wrapping_add(24), load64(p6.wrapping_add(112)));
+  store64(frame.wrapping_add(16), load64(p6.wrapping_add(104)));
   }
   store64(p0, 1);
-  store64(p0.wrapping_add(8), load64(frame.wrapping_add(40)));
-  store64(p0.wrapping_add(16), load64(frame.wrapping_add(48)));
+  store64(p0.wrapping_add(8), load64(frame.wrapping_add(16)));
+  store64(p0.wrapping_add(16), load64(frame.wrapping_add(24)));
+  break 'after_5;
   }
 }
 
@@ -10705,52 +10388,252 @@ unsafe fn der_view_content_shown_len(p0: u32, mut p1: u64, mut p2: u32, p3: u32,
   return p5;
 }
 
-// der_view::walk::walk::<#2357e196ed33dafc>
-unsafe fn der_view_walk_walk_4(p0: u64, p1: u64, p2: u64, mut p3: u64, mut p4: u64, mut p5: u64) {
-  let mut array = Frame::<304>::new();
+// der_view::walk::opened_of::<#2357e196ed33dafc>
+unsafe fn der_view_walk_opened_of_4(p0: u64, p1: u64, p2: u64, p3: u64, p4: u64, mut p5: u64) {
+  let mut array = Frame::<192>::new();
   let frame = address(&raw mut array);
   let mut v7 = 0u32;
   let mut v8 = 0u32;
   let mut v9 = 0u32;
-  let mut v10 = 0u32;
+  let mut v10 = 0u64;
   let mut v11 = 0u64;
   let mut v12 = 0u64;
   let mut v13 = 0u64;
-  let mut v14 = 0u64;
+  let mut v14 = 0u32;
+  v7 = 0;
+  store32(frame.wrapping_add(59), 0);
+  store32(frame.wrapping_add(56), 0);
+  v8 = load8(p2) as u32;
+  'after_5: {
+  'after_4: {
+  'after_3: {
+  'after_2: {
+  'after_1: {
+  v9 = load8(p5.wrapping_add(58)) as u32;
+  match ((v9 as u64) & 255) as u32 {
+  6 => {
+    break 'after_1;
+  }
+  7 => {
+    break 'after_2;
+  }
+  8 => {
+    break 'after_3;
+  }
+  _ => {
+    break 'after_4;
+  }
+  }
+  }
+  store32(frame.wrapping_add(64), 0);
+  store32(frame.wrapping_add(67), 0);
+  v10 = load8(p5.wrapping_add(59)) as u64;
+  p5 = 0;
+  v11 = 1;
+  v7 = v8;
+  break 'after_5;
+  }
+  v11 = load64(p5.wrapping_add(88));
+  v10 = load64(p5.wrapping_add(96));
+  v8 = load8(p5.wrapping_add(59)) as u32;
+  p5 = 0;
+  store64(frame.wrapping_add(120), 0);
+  store64(frame.wrapping_add(96), 0);
+  store64(frame.wrapping_add(72), 0);
+  store64(frame.wrapping_add(80), 0);
+  store64(frame.wrapping_add(88), 0);
+  store64(frame.wrapping_add(160), load64(p4));
+  store64(frame.wrapping_add(168), load64(p4.wrapping_add(8)));
+  store64(frame.wrapping_add(176), load64(p4.wrapping_add(16)));
+  store64(frame.wrapping_add(184), load64(p4.wrapping_add(24)));
+  der_view_grammar_Structure_components(frame.wrapping_add(8), v8);
+  store64(frame.wrapping_add(152), v10);
+  store64(frame.wrapping_add(144), v11);
+  store16(frame.wrapping_add(120), 256);
+  store8(frame.wrapping_add(96), 0);
+  store64(frame.wrapping_add(136), load64(frame.wrapping_add(16)));
+  store64(frame.wrapping_add(128), load64(frame.wrapping_add(8)));
+  store64(frame.wrapping_add(104), load64(p2.wrapping_add(8)));
+  store64(frame.wrapping_add(112), load64(p2.wrapping_add(16)));
+  store8(frame.wrapping_add(97), (load8(p2.wrapping_add(1)) as u32) as u8);
+  der_view_walk_walk_4(frame.wrapping_add(72), p1, frame.wrapping_add(96), p3,
+      frame.wrapping_add(160), frame.wrapping_add(120));
+  v9 = load8(frame.wrapping_add(72)) as u32;
+  store32(frame.wrapping_add(123), 0);
+  store32(frame.wrapping_add(120), 0);
+  store32(frame.wrapping_add(64), load32(frame.wrapping_add(120)));
+  store32(frame.wrapping_add(67), load32(frame.wrapping_add(123)));
+  v9 = u32::from(v9 == 1);
+  v10 = ((if v9 != 0 { v8 } else { 0u32 }) as u64) & 255;
+  v11 = v9 as u64;
+  break 'after_5;
+  }
+  v10 = 0;
+  'after_7: {
+  'after_6: {
+  v12 = load64(p5.wrapping_add(96));
+  if v12 != 0 {
+    break 'after_6;
+  }
+  v11 = 0;
+  break 'after_7;
+  }
+  'after_8: {
+  v13 = load64(p5.wrapping_add(88));
+  if (load8(v13) as u32) == 0 {
+    break 'after_8;
+  }
+  v11 = 0;
+  break 'after_7;
+  }
+  v11 = 0;
+  v12 = v12.wrapping_add(0xffffffffffffffff);
+  if v12 == 0 {
+    break 'after_7;
+  }
+  v7 = load8(p5.wrapping_add(59)) as u32;
+  store64(frame.wrapping_add(48), load64(p4.wrapping_add(24)));
+  store64(frame.wrapping_add(40), load64(p4.wrapping_add(16)));
+  store64(frame.wrapping_add(32), load64(p4.wrapping_add(8)));
+  store64(frame.wrapping_add(24), load64(p4));
+  let t0 = der_view_walk_follows_4(p1, p2, p3, frame.wrapping_add(24), v7, v13.wrapping_add(1),
+      v12);
+  v8 = t0;
+  store32(frame.wrapping_add(123), 0);
+  store32(frame.wrapping_add(120), 0);
+  store32(frame.wrapping_add(56), load32(frame.wrapping_add(120)));
+  store32(frame.wrapping_add(59), load32(frame.wrapping_add(123)));
+  v10 = if v8 != 0 { (v7 as u64) & 255 } else { 0u64 };
+  v11 = v8 as u64;
+  }
+  store32(frame.wrapping_add(67), load32(frame.wrapping_add(59)));
+  store32(frame.wrapping_add(64), load32(frame.wrapping_add(56)));
+  v7 = 0;
+  p5 = v11;
+  break 'after_5;
+  }
+  'after_11: {
+  'after_9: {
+  if (load8(p5.wrapping_add(24)) as u32) != 1 {
+    break 'after_9;
+  }
+  v14 = load8(p5.wrapping_add(1)) as u32;
+  v7 = 0;
+  store32(frame.wrapping_add(123), 0);
+  store32(frame.wrapping_add(120), 0);
+  v10 = 0;
+  'after_10: {
+  if v14 == 1 {
+    break 'after_10;
+  }
+  v11 = 0;
+  break 'after_11;
+  }
+  v11 = 0;
+  if (((u32::from((v9 & 255) == 9)) | v8) & 1) == 0 {
+    break 'after_11;
+  }
+  }
+  store32(frame.wrapping_add(123), 0);
+  store32(frame.wrapping_add(120), 0);
+  v11 = 1;
+  v10 = 84;
+  v7 = v8;
+  }
+  store32(frame.wrapping_add(67), load32(frame.wrapping_add(123)));
+  store32(frame.wrapping_add(64), load32(frame.wrapping_add(120)));
+  p5 = 0;
+  }
+  store64(p0, v11);
+  store8(p0.wrapping_add(24), v7 as u8);
+  store64(p0.wrapping_add(16), p5);
+  store64(p0.wrapping_add(8), v10);
+  store32(p0.wrapping_add(25), load32(frame.wrapping_add(64)));
+  store32(p0.wrapping_add(28), load32(frame.wrapping_add(67)));
+  return;
+}
+
+// der_view::walk::draw_element::<#2357e196ed33dafc>
+unsafe fn der_view_walk_draw_element_4(p0: u64, p1: u64, p2: u64, mut p3: u64, mut p4: u64) {
+  let mut array = Frame::<48>::new();
+  let frame = address(&raw mut array);
+  'after_1: {
+  if (load8(p3.wrapping_add(1)) as u32) == 1 {
+    break 'after_1;
+  }
+  p3 = load64(p2.wrapping_add(8));
+  store64(frame.wrapping_add(40), load64(p4.wrapping_add(32)));
+  store64(frame.wrapping_add(32), load64(p4.wrapping_add(24)));
+  store64(frame.wrapping_add(24), load64(p4.wrapping_add(16)));
+  store64(frame.wrapping_add(16), load64(p4.wrapping_add(8)));
+  store64(frame.wrapping_add(8), load64(p4));
+  der_view_content_shown_len(load8(p1.wrapping_add(1)) as u32, frame.wrapping_add(8),
+      load8(p4.wrapping_add(58)) as u32, load8(p4.wrapping_add(59)) as u32,
+      load64(p4.wrapping_add(88)), load64(p4.wrapping_add(96)));
+  if p3 != 1 {
+    break 'after_1;
+  }
+  p4 = p0.wrapping_add(8);
+  let t1 = p4;
+  p4 = load64(p4).wrapping_add(1);
+  store64(t1, if p4 == 0 { 0xffffffffffffffffu64 } else { p4 });
+  }
+  return;
+}
+
+// der_view::walk::walk::<#2357e196ed33dafc>
+unsafe fn der_view_walk_walk_4(p0: u64, p1: u64, p2: u64, mut p3: u64, mut p4: u64, mut p5: u64) {
+  let mut array = Frame::<464>::new();
+  let frame = address(&raw mut array);
+  let mut v7 = 0u32;
+  let mut v8 = 0u32;
+  let mut v9 = 0u64;
+  let mut v10 = 0u64;
+  let mut v11 = 0u64;
+  let mut v12 = 0u64;
+  let mut v13 = 0u64;
+  let mut v14 = 0u32;
   let mut v15 = 0u64;
   let mut v16 = 0u64;
-  let mut v17 = 0u32;
-  let mut v18 = 0u64;
-  let mut v19 = 0u32;
+  let mut v17 = 0u64;
+  let mut v18 = 0u32;
+  let mut v19 = 0u64;
+  let mut v20 = 0u32;
   'after_14: {
   'after_9: {
   'after_1: {
   'after_2: {
+  fill(frame.wrapping_add(144), 0, 120);
   store64(frame.wrapping_add(16), 0);
   store64(frame.wrapping_add(8), 0);
   store64(frame, 0);
-  store64(frame.wrapping_add(144), load64(p4));
-  store64(frame.wrapping_add(152), load64(p4.wrapping_add(8)));
-  store64(frame.wrapping_add(160), load64(p4.wrapping_add(16)));
-  store64(frame.wrapping_add(168), load64(p4.wrapping_add(24)));
-  v7 = load8(p5.wrapping_add(1)) as u32;
+  store64(frame.wrapping_add(304), load64(p4));
+  store64(frame.wrapping_add(312), load64(p4.wrapping_add(8)));
+  store64(frame.wrapping_add(320), load64(p4.wrapping_add(16)));
+  store64(frame.wrapping_add(328), load64(p4.wrapping_add(24)));
+  store64(frame.wrapping_add(264), load64(p5));
+  store64(frame.wrapping_add(272), load64(p5.wrapping_add(8)));
+  store64(frame.wrapping_add(280), load64(p5.wrapping_add(16)));
+  store64(frame.wrapping_add(288), load64(p5.wrapping_add(24)));
+  store64(frame.wrapping_add(296), load64(p5.wrapping_add(32)));
   if p3 == 0 {
     break 'after_1;
   }
-  v8 = load8(p5) as u32;
-  v9 = v8 ^ 1;
-  v10 = v8 & 1;
-  v11 = load64(p5.wrapping_add(8));
-  v12 = load64(p5.wrapping_add(24));
-  p4 = load64(p5.wrapping_add(32));
-  v13 = load64(p5.wrapping_add(16));
-  if (load64(frame.wrapping_add(152))) > 63 {
+  v7 = load8(frame.wrapping_add(264)) as u32;
+  v8 = v7 ^ 1;
+  p4 = load64(frame.wrapping_add(296));
+  if (load64(frame.wrapping_add(312))) > 63 {
     break 'after_2;
   }
-  v14 = frame.wrapping_add(184);
-  v15 = load64(frame.wrapping_add(144));
+  v9 = frame.wrapping_add(208);
+  v10 = (frame.wrapping_add(336)).wrapping_add(8);
+  v11 = (frame.wrapping_add(264)).wrapping_add(8);
+  v12 = load64(frame.wrapping_add(288));
+  v13 = load64(frame.wrapping_add(304));
   'again_13: loop {
-  v8 = load8(p2) as u32;
+  v14 = load8(p2) as u32;
+  v15 = load64(frame.wrapping_add(280));
+  v16 = load64(frame.wrapping_add(272));
   'after_4: {
   'after_7: {
   'after_3: {
@@ -10768,30 +10651,30 @@ unsafe fn der_view_walk_walk_4(p0: u64, p1: u64, p2: u64, mut p3: u64, mut p4: u
   }
   }
   'after_6: {
-  if ((v8 | v10) & 255) == 0 {
+  if ((v7 | v14) & 255) == 0 {
     break 'after_6;
   }
-  v16 = 0;
-  v17 = v8;
+  v17 = 0;
+  v18 = v14;
   break 'after_7;
   }
-  v16 = 0;
+  v17 = 0;
   'after_8: {
-  if v13 != 0 {
+  if v15 != 0 {
     break 'after_8;
   }
   p4 = 0;
   break 'after_9;
   }
-  p5 = v11.wrapping_add(1);
-  v18 = v13;
+  p5 = v16.wrapping_add(1);
+  v19 = v15;
   'again_10: loop {
   if (load8(p5) as u32) == 0 {
     break 'after_4;
   }
   p5 = p5.wrapping_add(5);
-  v18 = v18.wrapping_add(0xffffffffffffffff);
-  if v18 != 0 {
+  v19 = v19.wrapping_add(0xffffffffffffffff);
+  if v19 != 0 {
     continue 'again_10;
   }
   break;
@@ -10802,58 +10685,62 @@ unsafe fn der_view_walk_walk_4(p0: u64, p1: u64, p2: u64, mut p3: u64, mut p4: u
   if (load8(v12) as u32) != 0 {
     break 'after_4;
   }
-  v17 = (u32::from((load8(v12.wrapping_add(1)) as u32) != 0)) | v9;
-  v19 = v17 & 1;
-  v16 = if v19 != 0 { 0u64 } else { 2u64 };
-  v17 = v17 ^ 1;
-  if v19 != 0 {
+  v18 = (u32::from((load8(v12.wrapping_add(1)) as u32) != 0)) | v8;
+  v20 = v18 & 1;
+  v17 = if v20 != 0 { 0u64 } else { 2u64 };
+  v18 = v18 ^ 1;
+  if v20 != 0 {
     break 'after_7;
   }
-  if (v8 & 1) != 0 {
+  if (v14 & 1) != 0 {
     break 'after_7;
   }
-  v16 = 2;
-  if v13 == 0 {
+  v17 = 2;
+  if v15 == 0 {
     break 'after_9;
   }
-  p5 = v11.wrapping_add(1);
-  v18 = v13;
+  p5 = v16.wrapping_add(1);
+  v19 = v15;
   'again_11: loop {
   if (load8(p5) as u32) == 0 {
     break 'after_4;
   }
   p5 = p5.wrapping_add(5);
-  v18 = v18.wrapping_add(0xffffffffffffffff);
-  if v18 != 0 {
+  v19 = v19.wrapping_add(0xffffffffffffffff);
+  if v19 != 0 {
     continue 'again_11;
   }
   break 'after_9;
   }
   }
-  if (v17 & 1) != 0 {
+  if (v18 & 1) != 0 {
     break 'after_9;
   }
   }
-  fill(frame.wrapping_add(176), 0, 128);
-  v8 = v8 & 1;
-  der_view_step_step_by(frame.wrapping_add(176), v8, v8, v11, v13, v12, p4);
-  v8 = load8(frame.wrapping_add(176)) as u32;
-  move_(frame.wrapping_add(24), v14, 120);
-  if v8 != 1 {
+  fill(frame.wrapping_add(336), 0, 128);
+  v14 = v14 & 1;
+  der_view_step_step_by(frame.wrapping_add(336), v14, v14, v16, v15, v12, p4);
+  v14 = load8(frame.wrapping_add(336)) as u32;
+  move_(frame.wrapping_add(24), v10, 120);
+  if v14 != 1 {
     break 'after_1;
   }
-  v13 = load64(frame.wrapping_add(96));
-  v11 = load64(frame.wrapping_add(88));
+  move_(frame.wrapping_add(144), frame.wrapping_add(24), 120);
   p3 = p3.wrapping_add(0xffffffffffffffff);
-  der_view_walk_draw_step_4(frame, p1, p2, p3, frame.wrapping_add(144), v7, frame.wrapping_add(24));
+  der_view_walk_draw_step_4(frame, p1, p2, p3, frame.wrapping_add(304), frame.wrapping_add(264),
+      frame.wrapping_add(144));
   'after_12: {
   if (load8(frame) as u32) != 1 {
     break 'after_12;
   }
+  store64(v11, load64(v9));
+  store64(v11.wrapping_add(8), load64(v9.wrapping_add(8)));
   p5 = load64(frame.wrapping_add(16));
-  v15 = (p4.wrapping_sub(p5)).wrapping_add(v15);
-  store64(frame.wrapping_add(144), v15);
+  store64(frame.wrapping_add(296), p5);
   v12 = load64(frame.wrapping_add(8));
+  store64(frame.wrapping_add(288), v12);
+  v13 = (p4.wrapping_sub(p5)).wrapping_add(v13);
+  store64(frame.wrapping_add(304), v13);
   p4 = p5;
   if p3 != 0 {
     continue 'again_13;
@@ -10867,7 +10754,10 @@ unsafe fn der_view_walk_walk_4(p0: u64, p1: u64, p2: u64, mut p3: u64, mut p4: u
   store64(p0, 0);
   break 'after_14;
   }
-  v8 = load8(p2) as u32;
+  v14 = load8(p2) as u32;
+  v12 = load64(frame.wrapping_add(288));
+  p5 = load64(frame.wrapping_add(280));
+  v19 = load64(frame.wrapping_add(272));
   'after_18: {
   'after_15: {
   if p4 > 1 {
@@ -10884,86 +10774,80 @@ unsafe fn der_view_walk_walk_4(p0: u64, p1: u64, p2: u64, mut p3: u64, mut p4: u
   }
   }
   'after_17: {
-  if ((v8 | v10) & 255) == 0 {
+  if ((v7 | v14) & 255) == 0 {
     break 'after_17;
   }
-  v16 = 0;
-  v10 = v8;
+  v17 = 0;
+  v7 = v14;
   break 'after_18;
   }
   p4 = 0;
   'after_19: {
-  if v13 != 0 {
+  if p5 != 0 {
     break 'after_19;
   }
-  v16 = 0;
+  v17 = 0;
   break 'after_9;
   }
-  p5 = v11.wrapping_add(1);
+  v19 = v19.wrapping_add(1);
   'again_20: loop {
-  if (load8(p5) as u32) == 0 {
+  if (load8(v19) as u32) == 0 {
     break 'after_1;
   }
-  p5 = p5.wrapping_add(5);
-  v13 = v13.wrapping_add(0xffffffffffffffff);
-  if v13 != 0 {
+  v19 = v19.wrapping_add(5);
+  p5 = p5.wrapping_add(0xffffffffffffffff);
+  if p5 != 0 {
     continue 'again_20;
   }
   break;
   }
-  v16 = 0;
+  v17 = 0;
   break 'after_9;
   }
   if (load8(v12) as u32) != 0 {
     break 'after_1;
   }
-  v10 = (u32::from((load8(v12.wrapping_add(1)) as u32) != 0)) | v9;
-  v17 = v10 & 1;
-  v16 = if v17 != 0 { 0u64 } else { 2u64 };
-  v10 = v10 ^ 1;
-  if v17 != 0 {
+  v7 = (u32::from((load8(v12.wrapping_add(1)) as u32) != 0)) | v8;
+  v18 = v7 & 1;
+  v17 = if v18 != 0 { 0u64 } else { 2u64 };
+  v7 = v7 ^ 1;
+  if v18 != 0 {
     break 'after_18;
   }
-  if (v8 & 1) != 0 {
+  if (v14 & 1) != 0 {
     break 'after_18;
   }
-  v16 = 2;
-  if v13 == 0 {
+  v17 = 2;
+  if p5 == 0 {
     break 'after_9;
   }
-  p5 = v11.wrapping_add(1);
+  v19 = v19.wrapping_add(1);
   'again_21: loop {
-  if (load8(p5) as u32) == 0 {
+  if (load8(v19) as u32) == 0 {
     break 'after_1;
   }
-  p5 = p5.wrapping_add(5);
-  v13 = v13.wrapping_add(0xffffffffffffffff);
-  if v13 != 0 {
+  v19 = v19.wrapping_add(5);
+  p5 = p5.wrapping_add(0xffffffffffffffff);
+  if p5 != 0 {
     continue 'again_21;
   }
   break 'after_9;
   }
   }
-  if (v10 & 1) != 0 {
+  if (v7 & 1) != 0 {
     break 'after_9;
   }
   }
-  'after_22: {
-  if (v7 & 1) != 0 {
-    break 'after_22;
-  }
-  p5 = (load64(frame.wrapping_add(160))).wrapping_sub(load64(frame.wrapping_add(144)));
-  p4 = p5.wrapping_add(load64(p1));
-  store64(p1, if p4 < p5 { 0xffffffffffffffffu64 } else { p4 });
-  }
+  der_view_walk_draw_left_4(p1, frame.wrapping_add(304), load8(frame.wrapping_add(265)) as u32);
   store64(p0.wrapping_add(16), 0);
   store64(p0.wrapping_add(8), 0);
   store64(p0, 0);
   break 'after_14;
   }
+  der_view_walk_draw_end_4();
   store64(p0, 1);
-  store64(p0.wrapping_add(16), p4.wrapping_sub(v16));
-  store64(p0.wrapping_add(8), v12.wrapping_add(v16));
+  store64(p0.wrapping_add(16), p4.wrapping_sub(v17));
+  store64(p0.wrapping_add(8), v12.wrapping_add(v17));
   }
 }
 
@@ -10997,9 +10881,28 @@ unsafe fn der_view_walk_follows_4(p0: u64, p1: u64, p2: u64, p3: u64, mut p4: u3
   return u32::from(p4 == 1);
 }
 
-// der_view::walk::walk::<#ba02b8222ab7e3d1>
-unsafe fn der_view_walk_walk(p0: u64, p1: u64, p2: u64, mut p3: u64, mut p4: u64, mut p5: u64) {
-  let mut array = Frame::<304>::new();
+// der_view::walk::draw_left::<#2357e196ed33dafc>
+unsafe fn der_view_walk_draw_left_4(p0: u64, mut p1: u64, p2: u32) {
+  let mut v3 = 0u64;
+  'after_1: {
+  if (p2 & 1) != 0 {
+    break 'after_1;
+  }
+  p1 = (load64(p1.wrapping_add(16))).wrapping_sub(load64(p1));
+  v3 = p1.wrapping_add(load64(p0));
+  store64(p0, if v3 < p1 { 0xffffffffffffffffu64 } else { v3 });
+  }
+  return;
+}
+
+// der_view::walk::draw_end::<#2357e196ed33dafc>
+unsafe fn der_view_walk_draw_end_4() {
+  return;
+}
+
+// der_view::walk::opened_of::<#ba02b8222ab7e3d1>
+unsafe fn der_view_walk_opened_of(p0: u64, p1: u64, p2: u64, p3: u64, p4: u64, mut p5: u64) {
+  let mut array = Frame::<192>::new();
   let frame = address(&raw mut array);
   let mut v7 = 0u32;
   let mut v8 = 0u32;
@@ -11009,48 +10912,344 @@ unsafe fn der_view_walk_walk(p0: u64, p1: u64, p2: u64, mut p3: u64, mut p4: u64
   let mut v12 = 0u64;
   let mut v13 = 0u64;
   let mut v14 = 0u32;
+  v7 = 0;
+  store32(frame.wrapping_add(59), 0);
+  store32(frame.wrapping_add(56), 0);
+  v8 = load8(p2) as u32;
+  'after_5: {
+  'after_4: {
+  'after_3: {
+  'after_2: {
+  'after_1: {
+  v9 = load8(p5.wrapping_add(58)) as u32;
+  match ((v9 as u64) & 255) as u32 {
+  6 => {
+    break 'after_1;
+  }
+  7 => {
+    break 'after_2;
+  }
+  8 => {
+    break 'after_3;
+  }
+  _ => {
+    break 'after_4;
+  }
+  }
+  }
+  store32(frame.wrapping_add(64), 0);
+  store32(frame.wrapping_add(67), 0);
+  v10 = load8(p5.wrapping_add(59)) as u64;
+  p5 = 0;
+  v11 = 1;
+  v7 = v8;
+  break 'after_5;
+  }
+  v11 = load64(p5.wrapping_add(88));
+  v10 = load64(p5.wrapping_add(96));
+  v8 = load8(p5.wrapping_add(59)) as u32;
+  p5 = 0;
+  store64(frame.wrapping_add(120), 0);
+  store64(frame.wrapping_add(96), 0);
+  store64(frame.wrapping_add(72), 0);
+  store64(frame.wrapping_add(80), 0);
+  store64(frame.wrapping_add(88), 0);
+  store64(frame.wrapping_add(160), load64(p4));
+  store64(frame.wrapping_add(168), load64(p4.wrapping_add(8)));
+  store64(frame.wrapping_add(176), load64(p4.wrapping_add(16)));
+  store64(frame.wrapping_add(184), load64(p4.wrapping_add(24)));
+  der_view_grammar_Structure_components(frame.wrapping_add(8), v8);
+  store64(frame.wrapping_add(152), v10);
+  store64(frame.wrapping_add(144), v11);
+  store16(frame.wrapping_add(120), 256);
+  store8(frame.wrapping_add(96), 0);
+  store64(frame.wrapping_add(136), load64(frame.wrapping_add(16)));
+  store64(frame.wrapping_add(128), load64(frame.wrapping_add(8)));
+  store64(frame.wrapping_add(104), load64(p2.wrapping_add(8)));
+  store64(frame.wrapping_add(112), load64(p2.wrapping_add(16)));
+  store8(frame.wrapping_add(97), (load8(p2.wrapping_add(1)) as u32) as u8);
+  der_view_walk_walk(frame.wrapping_add(72), p1, frame.wrapping_add(96), p3,
+      frame.wrapping_add(160), frame.wrapping_add(120));
+  v9 = load8(frame.wrapping_add(72)) as u32;
+  store32(frame.wrapping_add(123), 0);
+  store32(frame.wrapping_add(120), 0);
+  store32(frame.wrapping_add(64), load32(frame.wrapping_add(120)));
+  store32(frame.wrapping_add(67), load32(frame.wrapping_add(123)));
+  v9 = u32::from(v9 == 1);
+  v10 = ((if v9 != 0 { v8 } else { 0u32 }) as u64) & 255;
+  v11 = v9 as u64;
+  break 'after_5;
+  }
+  v10 = 0;
+  'after_7: {
+  'after_6: {
+  v12 = load64(p5.wrapping_add(96));
+  if v12 != 0 {
+    break 'after_6;
+  }
+  v11 = 0;
+  break 'after_7;
+  }
+  'after_8: {
+  v13 = load64(p5.wrapping_add(88));
+  if (load8(v13) as u32) == 0 {
+    break 'after_8;
+  }
+  v11 = 0;
+  break 'after_7;
+  }
+  v11 = 0;
+  v12 = v12.wrapping_add(0xffffffffffffffff);
+  if v12 == 0 {
+    break 'after_7;
+  }
+  v7 = load8(p5.wrapping_add(59)) as u32;
+  store64(frame.wrapping_add(48), load64(p4.wrapping_add(24)));
+  store64(frame.wrapping_add(40), load64(p4.wrapping_add(16)));
+  store64(frame.wrapping_add(32), load64(p4.wrapping_add(8)));
+  store64(frame.wrapping_add(24), load64(p4));
+  let t0 = der_view_walk_follows(p1, p2, p3, frame.wrapping_add(24), v7, v13.wrapping_add(1), v12);
+  v8 = t0;
+  store32(frame.wrapping_add(123), 0);
+  store32(frame.wrapping_add(120), 0);
+  store32(frame.wrapping_add(56), load32(frame.wrapping_add(120)));
+  store32(frame.wrapping_add(59), load32(frame.wrapping_add(123)));
+  v10 = if v8 != 0 { (v7 as u64) & 255 } else { 0u64 };
+  v11 = v8 as u64;
+  }
+  store32(frame.wrapping_add(67), load32(frame.wrapping_add(59)));
+  store32(frame.wrapping_add(64), load32(frame.wrapping_add(56)));
+  v7 = 0;
+  p5 = v11;
+  break 'after_5;
+  }
+  'after_11: {
+  'after_9: {
+  if (load8(p5.wrapping_add(24)) as u32) != 1 {
+    break 'after_9;
+  }
+  v14 = load8(p5.wrapping_add(1)) as u32;
+  v7 = 0;
+  store32(frame.wrapping_add(123), 0);
+  store32(frame.wrapping_add(120), 0);
+  v10 = 0;
+  'after_10: {
+  if v14 == 1 {
+    break 'after_10;
+  }
+  v11 = 0;
+  break 'after_11;
+  }
+  v11 = 0;
+  if (((u32::from((v9 & 255) == 9)) | v8) & 1) == 0 {
+    break 'after_11;
+  }
+  }
+  store32(frame.wrapping_add(123), 0);
+  store32(frame.wrapping_add(120), 0);
+  v11 = 1;
+  v10 = 84;
+  v7 = v8;
+  }
+  store32(frame.wrapping_add(67), load32(frame.wrapping_add(123)));
+  store32(frame.wrapping_add(64), load32(frame.wrapping_add(120)));
+  p5 = 0;
+  }
+  store64(p0, v11);
+  store8(p0.wrapping_add(24), v7 as u8);
+  store64(p0.wrapping_add(16), p5);
+  store64(p0.wrapping_add(8), v10);
+  store32(p0.wrapping_add(25), load32(frame.wrapping_add(64)));
+  store32(p0.wrapping_add(28), load32(frame.wrapping_add(67)));
+  return;
+}
+
+// der_view::walk::draw_element::<#ba02b8222ab7e3d1>
+unsafe fn der_view_walk_draw_element(p0: u64, mut p1: u64, mut p2: u64, mut p3: u64, mut p4: u64) {
+  let mut array = Frame::<48>::new();
+  let frame = address(&raw mut array);
+  let mut v6 = 0u32;
+  let mut v7 = 0u32;
+  let mut v8 = 0u32;
+  'after_1: {
+  if (load8(p3.wrapping_add(1)) as u32) == 1 {
+    break 'after_1;
+  }
+  p3 = load64(p2.wrapping_add(8));
+  store64(frame.wrapping_add(40), load64(p4.wrapping_add(32)));
+  store64(frame.wrapping_add(32), load64(p4.wrapping_add(24)));
+  store64(frame.wrapping_add(24), load64(p4.wrapping_add(16)));
+  store64(frame.wrapping_add(16), load64(p4.wrapping_add(8)));
+  store64(frame.wrapping_add(8), load64(p4));
+  let t0 = load8(p1.wrapping_add(1)) as u32;
+  p1 = load64(p4.wrapping_add(96));
+  der_view_content_shown_len(t0, frame.wrapping_add(8), load8(p4.wrapping_add(58)) as u32,
+      load8(p4.wrapping_add(59)) as u32, load64(p4.wrapping_add(88)), p1);
+  'after_3: {
+  'after_2: {
+  if p3 < 2 {
+    break 'after_2;
+  }
+  p2 = load64(p0.wrapping_add(8));
+  v6 = load8(p0) as u32;
+  break 'after_3;
+  }
+  p2 = 0;
+  v6 = 5;
+  if (load64(p4.wrapping_add(48))) == 0 {
+    break 'after_3;
+  }
+  v7 = load8(frame.wrapping_add(32)) as u32;
+  'after_4: {
+  v8 = load8(load64(p4.wrapping_add(40))) as u32;
+  if v8 != 48 {
+    break 'after_4;
+  }
+  if p3 != 0 {
+    break 'after_4;
+  }
+  p2 = load64(p0.wrapping_add(8));
+  v6 = load8(p0) as u32;
+  break 'after_3;
+  }
+  if p3 != 1 {
+    break 'after_3;
+  }
+  p4 = if v7 == 1 { p1 } else { 0u64 };
+  'after_8: {
+  'after_7: {
+  'after_6: {
+  'after_5: {
+  'after_9: {
+  match (load8(p0) as u64) as u32 {
+  1 => {
+    break 'after_5;
+  }
+  2 => {
+    break 'after_6;
+  }
+  3 => {
+    break 'after_7;
+  }
+  4 | 5 => {
+    break 'after_8;
+  }
+  _ => {
+    break 'after_9;
+  }
+  }
+  }
+  if p4 != 1 {
+    break 'after_8;
+  }
+  if v8 != 2 {
+    break 'after_8;
+  }
+  v6 = 1;
+  break 'after_3;
+  }
+  if v8 > 31 {
+    break 'after_8;
+  }
+  if v8 == 4 {
+    break 'after_8;
+  }
+  v6 = 2;
+  p2 = p4;
+  break 'after_3;
+  }
+  v6 = 3;
+  'after_10: {
+  match v8.wrapping_add(0xffffff60) {
+  1 => {
+    break 'after_10;
+  }
+  0 => {
+    break 'after_3;
+  }
+  _ => {
+    break 'after_8;
+  }
+  }
+  }
+  v6 = 4;
+  break 'after_3;
+  }
+  if v8 != 161 {
+    break 'after_8;
+  }
+  v6 = 4;
+  break 'after_3;
+  }
+  v6 = 5;
+  }
+  store64(p0.wrapping_add(8), p2);
+  store64(p0, (v6 as u64) & 255);
+  }
+  return;
+}
+
+// der_view::walk::walk::<#ba02b8222ab7e3d1>
+unsafe fn der_view_walk_walk(p0: u64, p1: u64, p2: u64, mut p3: u64, mut p4: u64, mut p5: u64) {
+  let mut array = Frame::<464>::new();
+  let frame = address(&raw mut array);
+  let mut v7 = 0u32;
+  let mut v8 = 0u32;
+  let mut v9 = 0u64;
+  let mut v10 = 0u64;
+  let mut v11 = 0u64;
+  let mut v12 = 0u64;
+  let mut v13 = 0u64;
+  let mut v14 = 0u32;
   let mut v15 = 0u64;
   let mut v16 = 0u64;
   let mut v17 = 0u64;
   let mut v18 = 0u32;
-  let mut v19 = 0u32;
+  let mut v19 = 0u64;
+  let mut v20 = 0u32;
   'after_14: {
   'after_9: {
   'after_1: {
   'after_2: {
+  fill(frame.wrapping_add(144), 0, 120);
   store64(frame.wrapping_add(16), 0);
   store64(frame.wrapping_add(8), 0);
   store64(frame, 0);
-  store64(frame.wrapping_add(144), load64(p4));
-  store64(frame.wrapping_add(152), load64(p4.wrapping_add(8)));
-  store64(frame.wrapping_add(160), load64(p4.wrapping_add(16)));
-  store64(frame.wrapping_add(168), load64(p4.wrapping_add(24)));
+  store64(frame.wrapping_add(304), load64(p4));
+  store64(frame.wrapping_add(312), load64(p4.wrapping_add(8)));
+  store64(frame.wrapping_add(320), load64(p4.wrapping_add(16)));
+  store64(frame.wrapping_add(328), load64(p4.wrapping_add(24)));
+  store64(frame.wrapping_add(264), load64(p5));
+  store64(frame.wrapping_add(272), load64(p5.wrapping_add(8)));
+  store64(frame.wrapping_add(280), load64(p5.wrapping_add(16)));
+  store64(frame.wrapping_add(288), load64(p5.wrapping_add(24)));
+  store64(frame.wrapping_add(296), load64(p5.wrapping_add(32)));
   if p3 == 0 {
     break 'after_1;
   }
-  v7 = load8(p5) as u32;
+  v7 = load8(frame.wrapping_add(264)) as u32;
   v8 = v7 ^ 1;
-  v9 = v7 & 1;
-  v10 = load64(p5.wrapping_add(8));
-  v11 = load64(p5.wrapping_add(24));
-  v12 = load64(p5.wrapping_add(32));
-  v13 = load64(p5.wrapping_add(16));
-  if (load64(frame.wrapping_add(152))) > 63 {
+  p4 = load64(frame.wrapping_add(296));
+  if (load64(frame.wrapping_add(312))) > 63 {
     break 'after_2;
   }
-  v14 = load8(p5.wrapping_add(1)) as u32;
-  v15 = frame.wrapping_add(184);
-  v16 = load64(frame.wrapping_add(144));
+  v9 = frame.wrapping_add(208);
+  v10 = (frame.wrapping_add(336)).wrapping_add(8);
+  v11 = (frame.wrapping_add(264)).wrapping_add(8);
+  v12 = load64(frame.wrapping_add(288));
+  v13 = load64(frame.wrapping_add(304));
   'again_13: loop {
-  v7 = load8(p2) as u32;
+  v14 = load8(p2) as u32;
+  v15 = load64(frame.wrapping_add(280));
+  v16 = load64(frame.wrapping_add(272));
   'after_4: {
   'after_7: {
   'after_3: {
-  if v12 > 1 {
+  if p4 > 1 {
     break 'after_3;
   }
   'after_5: {
-  match v12 as u32 {
+  match p4 as u32 {
   1 => {
     break 'after_4;
   }
@@ -11060,63 +11259,63 @@ unsafe fn der_view_walk_walk(p0: u64, p1: u64, p2: u64, mut p3: u64, mut p4: u64
   }
   }
   'after_6: {
-  if ((v7 | v9) & 255) == 0 {
+  if ((v7 | v14) & 255) == 0 {
     break 'after_6;
   }
   v17 = 0;
-  v18 = v7;
+  v18 = v14;
   break 'after_7;
   }
   v17 = 0;
   'after_8: {
-  if v13 != 0 {
+  if v15 != 0 {
     break 'after_8;
   }
-  v12 = 0;
+  p4 = 0;
   break 'after_9;
   }
-  p4 = v10.wrapping_add(1);
-  p5 = v13;
+  p5 = v16.wrapping_add(1);
+  v19 = v15;
   'again_10: loop {
-  if (load8(p4) as u32) == 0 {
+  if (load8(p5) as u32) == 0 {
     break 'after_4;
   }
-  p4 = p4.wrapping_add(5);
-  p5 = p5.wrapping_add(0xffffffffffffffff);
-  if p5 != 0 {
+  p5 = p5.wrapping_add(5);
+  v19 = v19.wrapping_add(0xffffffffffffffff);
+  if v19 != 0 {
     continue 'again_10;
   }
   break;
   }
-  v12 = 0;
+  p4 = 0;
   break 'after_9;
   }
-  if (load8(v11) as u32) != 0 {
+  if (load8(v12) as u32) != 0 {
     break 'after_4;
   }
-  v18 = (u32::from((load8(v11.wrapping_add(1)) as u32) != 0)) | v8;
-  v19 = v18 & 1;
-  v17 = if v19 != 0 { 0u64 } else { 2u64 };
+  v18 = (u32::from((load8(v12.wrapping_add(1)) as u32) != 0)) | v8;
+  v20 = v18 & 1;
+  v17 = if v20 != 0 { 0u64 } else { 2u64 };
   v18 = v18 ^ 1;
-  if v19 != 0 {
+  if v20 != 0 {
     break 'after_7;
   }
-  if (v7 & 1) != 0 {
+  if (v14 & 1) != 0 {
     break 'after_7;
   }
   v17 = 2;
-  if v13 == 0 {
+  if v15 == 0 {
     break 'after_9;
   }
-  p4 = v10.wrapping_add(1);
-  p5 = v13;
+  p5 = v16.wrapping_add(1);
+  v19 = v15;
   'again_11: loop {
-  if (load8(p4) as u32) == 0 {
+  if (load8(p5) as u32) == 0 {
     break 'after_4;
   }
-  p4 = p4.wrapping_add(5);
-  p5 = p5.wrapping_add(0xffffffffffffffff);
-  if p5 != 0 {
+  p5 = p5.wrapping_add(5);
+  v19 = v19.wrapping_add(0xffffffffffffffff);
+  if v19 != 0 {
     continue 'again_11;
   }
   break 'after_9;
@@ -11126,27 +11325,31 @@ unsafe fn der_view_walk_walk(p0: u64, p1: u64, p2: u64, mut p3: u64, mut p4: u64
     break 'after_9;
   }
   }
-  fill(frame.wrapping_add(176), 0, 128);
-  v7 = v7 & 1;
-  der_view_step_step_by(frame.wrapping_add(176), v7, v7, v10, v13, v11, v12);
-  v7 = load8(frame.wrapping_add(176)) as u32;
-  move_(frame.wrapping_add(24), v15, 120);
-  if v7 != 1 {
+  fill(frame.wrapping_add(336), 0, 128);
+  v14 = v14 & 1;
+  der_view_step_step_by(frame.wrapping_add(336), v14, v14, v16, v15, v12, p4);
+  v14 = load8(frame.wrapping_add(336)) as u32;
+  move_(frame.wrapping_add(24), v10, 120);
+  if v14 != 1 {
     break 'after_1;
   }
-  v13 = load64(frame.wrapping_add(96));
-  v10 = load64(frame.wrapping_add(88));
+  move_(frame.wrapping_add(144), frame.wrapping_add(24), 120);
   p3 = p3.wrapping_add(0xffffffffffffffff);
-  der_view_walk_draw_step(frame, p1, p2, p3, frame.wrapping_add(144), v14, frame.wrapping_add(24));
+  der_view_walk_draw_step(frame, p1, p2, p3, frame.wrapping_add(304), frame.wrapping_add(264),
+      frame.wrapping_add(144));
   'after_12: {
   if (load8(frame) as u32) != 1 {
     break 'after_12;
   }
-  p4 = load64(frame.wrapping_add(16));
-  v16 = (v12.wrapping_sub(p4)).wrapping_add(v16);
-  store64(frame.wrapping_add(144), v16);
-  v11 = load64(frame.wrapping_add(8));
-  v12 = p4;
+  store64(v11, load64(v9));
+  store64(v11.wrapping_add(8), load64(v9.wrapping_add(8)));
+  p5 = load64(frame.wrapping_add(16));
+  store64(frame.wrapping_add(296), p5);
+  v12 = load64(frame.wrapping_add(8));
+  store64(frame.wrapping_add(288), v12);
+  v13 = (p4.wrapping_sub(p5)).wrapping_add(v13);
+  store64(frame.wrapping_add(304), v13);
+  p4 = p5;
   if p3 != 0 {
     continue 'again_13;
   }
@@ -11159,14 +11362,17 @@ unsafe fn der_view_walk_walk(p0: u64, p1: u64, p2: u64, mut p3: u64, mut p4: u64
   store64(p0, 0);
   break 'after_14;
   }
-  v7 = load8(p2) as u32;
+  v14 = load8(p2) as u32;
+  v12 = load64(frame.wrapping_add(288));
+  p5 = load64(frame.wrapping_add(280));
+  v19 = load64(frame.wrapping_add(272));
   'after_18: {
   'after_15: {
-  if v12 > 1 {
+  if p4 > 1 {
     break 'after_15;
   }
   'after_16: {
-  match v12 as u32 {
+  match p4 as u32 {
   1 => {
     break 'after_1;
   }
@@ -11176,29 +11382,29 @@ unsafe fn der_view_walk_walk(p0: u64, p1: u64, p2: u64, mut p3: u64, mut p4: u64
   }
   }
   'after_17: {
-  if ((v7 | v9) & 255) == 0 {
+  if ((v7 | v14) & 255) == 0 {
     break 'after_17;
   }
   v17 = 0;
-  v14 = v7;
+  v7 = v14;
   break 'after_18;
   }
-  v12 = 0;
+  p4 = 0;
   'after_19: {
-  if v13 != 0 {
+  if p5 != 0 {
     break 'after_19;
   }
   v17 = 0;
   break 'after_9;
   }
-  p4 = v10.wrapping_add(1);
+  v19 = v19.wrapping_add(1);
   'again_20: loop {
-  if (load8(p4) as u32) == 0 {
+  if (load8(v19) as u32) == 0 {
     break 'after_1;
   }
-  p4 = p4.wrapping_add(5);
-  v13 = v13.wrapping_add(0xffffffffffffffff);
-  if v13 != 0 {
+  v19 = v19.wrapping_add(5);
+  p5 = p5.wrapping_add(0xffffffffffffffff);
+  if p5 != 0 {
     continue 'again_20;
   }
   break;
@@ -11206,48 +11412,50 @@ unsafe fn der_view_walk_walk(p0: u64, p1: u64, p2: u64, mut p3: u64, mut p4: u64
   v17 = 0;
   break 'after_9;
   }
-  if (load8(v11) as u32) != 0 {
+  if (load8(v12) as u32) != 0 {
     break 'after_1;
   }
-  v14 = (u32::from((load8(v11.wrapping_add(1)) as u32) != 0)) | v8;
-  v9 = v14 & 1;
-  v17 = if v9 != 0 { 0u64 } else { 2u64 };
-  v14 = v14 ^ 1;
-  if v9 != 0 {
+  v7 = (u32::from((load8(v12.wrapping_add(1)) as u32) != 0)) | v8;
+  v18 = v7 & 1;
+  v17 = if v18 != 0 { 0u64 } else { 2u64 };
+  v7 = v7 ^ 1;
+  if v18 != 0 {
     break 'after_18;
   }
-  if (v7 & 1) != 0 {
+  if (v14 & 1) != 0 {
     break 'after_18;
   }
   v17 = 2;
-  if v13 == 0 {
+  if p5 == 0 {
     break 'after_9;
   }
-  p4 = v10.wrapping_add(1);
+  v19 = v19.wrapping_add(1);
   'again_21: loop {
-  if (load8(p4) as u32) == 0 {
+  if (load8(v19) as u32) == 0 {
     break 'after_1;
   }
-  p4 = p4.wrapping_add(5);
-  v13 = v13.wrapping_add(0xffffffffffffffff);
-  if v13 != 0 {
+  v19 = v19.wrapping_add(5);
+  p5 = p5.wrapping_add(0xffffffffffffffff);
+  if p5 != 0 {
     continue 'again_21;
   }
   break 'after_9;
   }
   }
-  if (v14 & 1) != 0 {
+  if (v7 & 1) != 0 {
     break 'after_9;
   }
   }
+  der_view_walk_draw_left();
   store64(p0.wrapping_add(16), 0);
   store64(p0.wrapping_add(8), 0);
   store64(p0, 0);
   break 'after_14;
   }
+  der_view_walk_draw_end();
   store64(p0, 1);
-  store64(p0.wrapping_add(16), v12.wrapping_sub(v17));
-  store64(p0.wrapping_add(8), v11.wrapping_add(v17));
+  store64(p0.wrapping_add(16), p4.wrapping_sub(v17));
+  store64(p0.wrapping_add(8), v12.wrapping_add(v17));
   }
 }
 
@@ -11279,6 +11487,16 @@ unsafe fn der_view_walk_follows(p0: u64, p1: u64, p2: u64, p3: u64, mut p4: u32,
       frame.wrapping_add(112), frame.wrapping_add(72));
   p4 = load8(frame.wrapping_add(24)) as u32;
   return u32::from(p4 == 1);
+}
+
+// der_view::walk::draw_left::<#ba02b8222ab7e3d1>
+unsafe fn der_view_walk_draw_left() {
+  return;
+}
+
+// der_view::walk::draw_end::<#ba02b8222ab7e3d1>
+unsafe fn der_view_walk_draw_end() {
+  return;
 }
 
 // der_view::text::Sources::next_source
@@ -16085,6 +16303,8 @@ unsafe fn sec1_c_picture_lines_Lines_push_bytes(mut p0: u64, mut p1: u64, mut p2
   let mut v13 = 0u64;
   let mut v14 = 0u64;
   let mut v15 = 0u64;
+  let mut v16 = 0u64;
+  let mut v17 = 0u64;
   'after_2: {
   'after_5: {
   store64(frame.wrapping_add(24), 0);
@@ -16200,24 +16420,30 @@ unsafe fn sec1_c_picture_lines_Lines_push_bytes(mut p0: u64, mut p1: u64, mut p2
   if v13 == 0 {
     break 'after_2;
   }
-  v14 = p2.wrapping_sub(v13);
+  v14 = load64(frame.wrapping_add(504));
+  v15 = p2.wrapping_sub(v13);
+  let t0 = v14;
+  v14 = if v14 < v15 { v14 } else { v15 };
+  v16 = t0.wrapping_sub(v14);
+  v16 = if v16 < v13 { v16 } else { v13 };
+  v17 = (load64(frame.wrapping_add(496))).wrapping_add(v14);
   v7 = 3;
-  v15 = 1;
+  v14 = 1;
   'after_6: {
   if p2 != v13 {
     break 'after_6;
   }
-  let t0 = (u32::from((load8(p0.wrapping_add(24)) as u32) != 1)) |
+  let t1 = (u32::from((load8(p0.wrapping_add(24)) as u32) != 1)) |
       (u32::from(((load8(p0.wrapping_add(30)) as u32) & 255) != 0));
-  v8 = t0 | (load8(p0.wrapping_add(34)) as u32);
+  v8 = t1 | (load8(p0.wrapping_add(34)) as u32);
   v7 = if (v8 & 1) != 0 { 0u32 } else { 2u32 };
-  v15 = ((v8 ^ 0xffffffff) as u64) & 1;
+  v14 = ((v8 ^ 0xffffffff) as u64) & 1;
   }
   store32(frame.wrapping_add(137), 0);
   store8(frame.wrapping_add(136), v6 as u8);
   store64(frame.wrapping_add(128), p2);
   store64(frame.wrapping_add(120), 0);
-  store64(frame.wrapping_add(112), v14);
+  store64(frame.wrapping_add(112), v15);
   store64(frame.wrapping_add(216), 0);
   store64(frame.wrapping_add(208), v13);
   store64(frame.wrapping_add(200), 0);
@@ -16233,12 +16459,12 @@ unsafe fn sec1_c_picture_lines_Lines_push_bytes(mut p0: u64, mut p1: u64, mut p2
   store64(frame.wrapping_add(232), 0);
   store64(frame.wrapping_add(240), 0);
   store32(frame.wrapping_add(272), v7);
-  store64(frame.wrapping_add(264), v15);
+  store64(frame.wrapping_add(264), v14);
   store64(frame.wrapping_add(256), 0);
   store64(frame.wrapping_add(248), constant(0));
   fill(frame.wrapping_add(276), 0, 180);
-  store64(frame.wrapping_add(480), 0);
-  store64(frame.wrapping_add(472), constant(0));
+  store64(frame.wrapping_add(480), v16);
+  store64(frame.wrapping_add(472), v17);
   store64(frame.wrapping_add(464), 0);
   store64(frame.wrapping_add(456), constant(0));
   sec1_c_picture_lines_Lines_push_row(p0, frame.wrapping_add(112));
@@ -16297,15 +16523,16 @@ unsafe fn sec1_c_picture_lines_Lines_push_bytes(mut p0: u64, mut p1: u64, mut p2
   store64(frame.wrapping_add(40), 0);
   store64(frame.wrapping_add(32), 0);
   der_view_faults_walk_check(frame.wrapping_add(32), 64, frame.wrapping_add(75), 1, p2, p1, p2);
-  let t1 = der_view_said_advice_of(u32::from((load8(frame.wrapping_add(32)) as u32) == 0),
+  let t2 = der_view_said_advice_of(u32::from((load8(frame.wrapping_add(32)) as u32) == 0),
       if (p4 & 255) != 0 { 2u32 } else { p3 }, frame.wrapping_add(112));
-  p4 = t1;
+  p4 = t2;
   der_view_said_key_misfit(frame.wrapping_add(512), frame.wrapping_add(112));
   p3 = load8(frame.wrapping_add(512)) as u32;
   der_view_said_point_misfit(frame.wrapping_add(488), frame.wrapping_add(112));
+  v7 = load8(frame.wrapping_add(488)) as u32;
   p2 = ((p4 & 255) as u64) << 5;
   v13 = load64(constant(23656).wrapping_add(p2));
-  v15 = load64(p2.wrapping_add(constant(23672)));
+  v14 = load64(p2.wrapping_add(constant(23672)));
   'after_7: {
   p1 = p0.wrapping_add(16);
   p2 = load64(p1);
@@ -16321,7 +16548,6 @@ unsafe fn sec1_c_picture_lines_Lines_push_bytes(mut p0: u64, mut p1: u64, mut p2
   store64(p2.wrapping_add(40), 0);
   p2 = load64(p1);
   }
-  p4 = load8(frame.wrapping_add(488)) as u32;
   p2 = p2.wrapping_add(1);
   p2 = if p2 == 0 { 0xffffffffffffffffu64 } else { p2 };
   store64(p1, p2);
@@ -16347,7 +16573,7 @@ unsafe fn sec1_c_picture_lines_Lines_push_bytes(mut p0: u64, mut p1: u64, mut p2
   store64(p0.wrapping_add(16), p2);
   }
   'after_10: {
-  if (p4 & 255) != 1 {
+  if (v7 & 255) != 1 {
     break 'after_10;
   }
   'after_11: {
@@ -16389,7 +16615,7 @@ unsafe fn sec1_c_picture_lines_Lines_push_bytes(mut p0: u64, mut p1: u64, mut p2
   store64(p0.wrapping_add(16), p2);
   }
   'after_14: {
-  if v15 == 0 {
+  if v14 == 0 {
     break 'after_14;
   }
   'after_15: {
@@ -16405,9 +16631,9 @@ unsafe fn sec1_c_picture_lines_Lines_push_bytes(mut p0: u64, mut p1: u64, mut p2
   store64(p2.wrapping_add(40), 0);
   p2 = load64(p0.wrapping_add(16));
   }
-  let t2 = p0.wrapping_add(16);
+  let t3 = p0.wrapping_add(16);
   p0 = p2.wrapping_add(1);
-  store64(t2, if p0 == 0 { 0xffffffffffffffffu64 } else { p0 });
+  store64(t3, if p0 == 0 { 0xffffffffffffffffu64 } else { p0 });
   }
 }
 
@@ -16586,312 +16812,127 @@ unsafe fn sec1_c_picture_lines_Lines_push_row(mut p0: u64, mut p1: u64) {
 // der_view::walk::draw_step::<#ae7123e416480c13>
 unsafe fn der_view_walk_draw_step_2(p0: u64, p1: u64, p2: u64, p3: u64, mut p4: u64, p5: u64,
     mut p6: u64) {
-  let mut array = Frame::<816>::new();
+  let mut array = Frame::<272>::new();
   let frame = address(&raw mut array);
   let mut v8 = 0u32;
   let mut v9 = 0u64;
   let mut v10 = 0u64;
   let mut v11 = 0u64;
   let mut v12 = 0u32;
-  let mut v13 = 0u32;
+  let mut v13 = 0u64;
   let mut v14 = 0u32;
-  let mut v15 = 0u64;
-  let mut v16 = 0u64;
-  let mut v17 = 0u32;
-  let mut v18 = 0u32;
-  let mut v19 = 0u64;
-  let mut v20 = 0u64;
-  let mut v21 = 0u64;
-  let mut v22 = 0u64;
-  let mut v23 = 0u64;
-  let mut v24 = 0u64;
-  let mut v25 = 0u64;
-  let mut v26 = 0u64;
-  let mut v27 = 0u64;
-  let mut v28 = 0u64;
-  let mut v29 = 0u64;
-  store32(frame.wrapping_add(184), load32(p4.wrapping_add(25)));
-  store32(frame.wrapping_add(187), load32(p4.wrapping_add(28)));
+  let mut v15 = 0u32;
+  let mut v16 = 0u32;
+  store32(frame.wrapping_add(248), load32(p4.wrapping_add(25)));
+  store32(frame.wrapping_add(251), load32(p4.wrapping_add(28)));
   'after_5: {
-  'after_6: {
-  'after_7: {
   v8 = load8(p4.wrapping_add(24)) as u32;
   v9 = load64(p4.wrapping_add(16));
   v10 = load64(p4.wrapping_add(8));
   p4 = load64(p4);
-  v11 = 0;
-  store64(frame.wrapping_add(200), 0);
+  store64(frame.wrapping_add(264), 0);
+  store64(frame.wrapping_add(256), 0);
+  store64(frame.wrapping_add(208), 0);
+  store64(frame.wrapping_add(216), 0);
+  store64(frame.wrapping_add(224), 0);
+  store64(frame.wrapping_add(232), 0);
+  store64(frame.wrapping_add(240), 0);
+  store64(frame.wrapping_add(184), 0);
   store64(frame.wrapping_add(192), 0);
-  v12 = 0;
-  store32(frame.wrapping_add(176), 0);
-  store32(frame.wrapping_add(179), 0);
-  store64(frame.wrapping_add(136), 0);
-  store64(frame.wrapping_add(144), 0);
+  store64(frame.wrapping_add(200), 0);
   store64(frame.wrapping_add(152), 0);
   store64(frame.wrapping_add(160), 0);
   store64(frame.wrapping_add(168), 0);
-  store64(frame.wrapping_add(112), 0);
-  store64(frame.wrapping_add(120), 0);
-  store64(frame.wrapping_add(128), 0);
-  store64(frame.wrapping_add(88), 0);
-  store64(frame.wrapping_add(96), 0);
-  store64(frame.wrapping_add(104), 0);
-  store64(frame.wrapping_add(80), 0);
-  store64(frame.wrapping_add(72), 0);
+  store64(frame.wrapping_add(176), 0);
   store64(frame.wrapping_add(64), 0);
+  store64(frame.wrapping_add(72), 0);
+  store64(frame.wrapping_add(80), 0);
   store64(frame.wrapping_add(56), 0);
   store64(frame.wrapping_add(48), 0);
   store64(frame.wrapping_add(40), 0);
-  v13 = 1;
-  v14 = v8 & 1;
-  v15 = v10.wrapping_add(1);
-  v16 = p4.wrapping_add(load64(p6.wrapping_add(16)));
-  v17 = load8(p2) as u32;
+  store64(frame.wrapping_add(32), 0);
+  store64(frame.wrapping_add(16), 0);
+  store64(frame.wrapping_add(24), 0);
+  v11 = v10.wrapping_add(1);
+  store64(frame.wrapping_add(128), v11);
+  store64(frame.wrapping_add(136), v9);
+  v12 = v8 & 1;
+  store8(frame.wrapping_add(144), v12 as u8);
+  store32(frame.wrapping_add(145), 0);
+  store32(frame.wrapping_add(148), 0);
+  v13 = p4.wrapping_add(load64(p6.wrapping_add(16)));
+  store64(frame.wrapping_add(120), v13);
+  der_view_walk_opened_of_2(frame.wrapping_add(152), p1, p2, p3, frame.wrapping_add(120), p6);
+  store8(frame.wrapping_add(112), v8 as u8);
+  store64(frame.wrapping_add(104), v9);
+  store64(frame.wrapping_add(96), v10);
+  store64(frame.wrapping_add(88), p4);
+  store32(frame.wrapping_add(113), load32(frame.wrapping_add(248)));
+  store32(frame.wrapping_add(116), load32(frame.wrapping_add(251)));
+  v14 = load8(frame.wrapping_add(176)) as u32;
+  p4 = load64(frame.wrapping_add(168));
+  v15 = load8(frame.wrapping_add(160)) as u32;
+  v8 = load8(frame.wrapping_add(152)) as u32;
+  der_view_walk_draw_element_2(p1, p2, frame.wrapping_add(88), p5, u32::from(v8 == 1), p6);
   'after_4: {
   'after_3: {
   'after_2: {
   'after_1: {
-  v18 = load8(p6.wrapping_add(58)) as u32;
-  match ((v18 as u64) & 255) as u32 {
-  6 => {
+  if v8 != 1 {
     break 'after_1;
   }
-  7 => {
+  v8 = load8(p6.wrapping_add(24)) as u32;
+  v16 = load8(p5.wrapping_add(1)) as u32;
+  der_view_grammar_Structure_components(frame, v15);
+  store8(frame.wrapping_add(209), v16 as u8);
+  store8(frame.wrapping_add(208), (u32::from(v8 != 1)) as u8);
+  store8(frame.wrapping_add(184), v14 as u8);
+  store64(frame.wrapping_add(32), p4.wrapping_add(v13));
+  store64(frame.wrapping_add(40), v11);
+  store64(frame.wrapping_add(48), v9);
+  store8(frame.wrapping_add(56), v12 as u8);
+  store64(frame.wrapping_add(224), load64(frame.wrapping_add(8)));
+  store64(frame.wrapping_add(216), load64(frame));
+  store8(frame.wrapping_add(185), (load8(p2.wrapping_add(1)) as u32) as u8);
+  store64(frame.wrapping_add(192), load64(p2.wrapping_add(8)));
+  store64(frame.wrapping_add(200), load64(p2.wrapping_add(16)));
+  store64(frame.wrapping_add(240), (load64(p6.wrapping_add(96))).wrapping_sub(p4));
+  store64(frame.wrapping_add(232), (load64(p6.wrapping_add(88))).wrapping_add(p4));
+  store32(frame.wrapping_add(60), 0);
+  store32(frame.wrapping_add(57), 0);
+  der_view_walk_walk_2(frame.wrapping_add(64), p1, frame.wrapping_add(184), p3,
+      frame.wrapping_add(32), frame.wrapping_add(208));
+  if (load8(frame.wrapping_add(64)) as u32) != 1 {
     break 'after_2;
   }
-  8 => {
+  if v8 == 1 {
     break 'after_3;
   }
-  _ => {
-    break 'after_4;
-  }
-  }
-  }
-  v12 = load8(p6.wrapping_add(59)) as u32;
-  break 'after_5;
-  }
-  v19 = load64(p6.wrapping_add(88));
-  v20 = load64(p6.wrapping_add(96));
-  v12 = load8(p6.wrapping_add(59)) as u32;
-  v17 = 0;
-  store32(frame.wrapping_add(233), 0);
-  store8(frame.wrapping_add(232), v14 as u8);
-  store64(frame.wrapping_add(224), v9);
-  store64(frame.wrapping_add(216), v15);
-  store64(frame.wrapping_add(208), v16);
-  store32(frame.wrapping_add(236), 0);
-  v11 = 0;
-  store64(frame.wrapping_add(408), 0);
-  store64(frame.wrapping_add(344), 0);
-  store64(frame.wrapping_add(784), 0);
-  store64(frame.wrapping_add(792), 0);
-  store64(frame.wrapping_add(800), 0);
-  der_view_grammar_Structure_components(frame.wrapping_add(24), v12);
-  store64(frame.wrapping_add(440), v20);
-  store64(frame.wrapping_add(432), v19);
-  store16(frame.wrapping_add(408), 256);
-  store8(frame.wrapping_add(344), 0);
-  store64(frame.wrapping_add(424), load64(frame.wrapping_add(32)));
-  store64(frame.wrapping_add(416), load64(frame.wrapping_add(24)));
-  store64(frame.wrapping_add(352), load64(p2.wrapping_add(8)));
-  store64(frame.wrapping_add(360), load64(p2.wrapping_add(16)));
-  store8(frame.wrapping_add(345), (load8(p2.wrapping_add(1)) as u32) as u8);
-  der_view_walk_walk_2(frame.wrapping_add(784), p1, frame.wrapping_add(344), p3,
-      frame.wrapping_add(208), frame.wrapping_add(408));
-  v13 = u32::from((load8(frame.wrapping_add(784)) as u32) == 1);
-  v12 = if v13 != 0 { v12 } else { 0u32 };
-  break 'after_5;
-  }
-  v19 = load64(p6.wrapping_add(96));
-  if v19 == 0 {
-    break 'after_6;
-  }
-  v13 = 0;
-  v20 = load64(p6.wrapping_add(88));
-  if (load8(v20) as u32) != 0 {
-    break 'after_7;
-  }
-  'after_8: {
-  v19 = v19.wrapping_add(0xffffffffffffffff);
-  if v19 != 0 {
-    break 'after_8;
-  }
-  v13 = 0;
-  break 'after_7;
-  }
-  v12 = load8(p6.wrapping_add(59)) as u32;
-  v17 = 0;
-  store32(frame.wrapping_add(433), 0);
-  store8(frame.wrapping_add(432), v14 as u8);
-  store64(frame.wrapping_add(424), v9);
-  store64(frame.wrapping_add(416), v15);
-  store64(frame.wrapping_add(408), v16);
-  store32(frame.wrapping_add(436), 0);
-  let t0 = der_view_walk_follows_2(p1, p2, p3, frame.wrapping_add(408), v12,
-      v20.wrapping_add(1), v19);
-  v13 = t0;
-  v12 = if v13 != 0 { v12 } else { 0u32 };
-  v11 = v13 as u64;
-  break 'after_5;
-  }
-  v13 = 1;
-  'after_9: {
-  if (load8(p6.wrapping_add(24)) as u32) != 1 {
-    break 'after_9;
-  }
-  v12 = 0;
-  if (load8(p6.wrapping_add(1)) as u32) != 1 {
-    break 'after_6;
-  }
-  if (((u32::from((v18 & 255) == 9)) | v17) & 1) == 0 {
-    break 'after_6;
-  }
-  }
-  v12 = 84;
-  break 'after_5;
-  }
-  v12 = 0;
-  v17 = 0;
-  break 'after_5;
-  }
-  v13 = 0;
-  v17 = 0;
-  }
-  v19 = (frame.wrapping_add(208)).wrapping_add(56);
-  fill(v19, 0, 80);
-  'after_10: {
-  if (load8(p5.wrapping_add(1)) as u32) != 0 {
-    break 'after_10;
-  }
-  store64(frame.wrapping_add(376), load64(p6.wrapping_add(32)));
-  store64(frame.wrapping_add(368), load64(p6.wrapping_add(24)));
-  store64(frame.wrapping_add(360), load64(p6.wrapping_add(16)));
-  store64(frame.wrapping_add(352), load64(p6.wrapping_add(8)));
-  store64(frame.wrapping_add(344), load64(p6));
-  v21 = load64(p6.wrapping_add(88));
-  v20 = load64(p6.wrapping_add(96));
-  let t1 = der_view_content_shown_len(load8(p2.wrapping_add(1)) as u32, frame.wrapping_add(344),
-      load8(p6.wrapping_add(58)) as u32, load8(p6.wrapping_add(59)) as u32, v21, v20);
-  v22 = t1;
-  v23 = constant(0);
-  v24 = 0;
-  v25 = 0;
-  v26 = constant(0);
-  'after_11: {
-  v18 = load8(p6.wrapping_add(80)) as u32;
-  if v18 != 0 {
-    break 'after_11;
-  }
-  v25 = load64(p5.wrapping_add(16));
-  v26 = load64(p5.wrapping_add(8));
-  }
-  v27 = p6.wrapping_add(40);
-  v28 = p6.wrapping_add(56);
-  v29 = if (load8(frame.wrapping_add(368)) as u32) == 1 { v20 } else { 0u64 };
-  'after_12: {
-  if v13 != 0 {
-    break 'after_12;
-  }
-  v23 = load64(p2.wrapping_add(16));
-  v24 = (load64(frame.wrapping_add(360))).wrapping_add(p4);
-  let t2 = v23;
-  v23 = if v23 < v24 { v23 } else { v24 };
-  v24 = t2.wrapping_sub(v23);
-  v24 = if v24 < v20 { v24 } else { v20 };
-  v23 = (load64(p2.wrapping_add(8))).wrapping_add(v23);
-  }
-  store32(v19, load32(v28));
-  store8(v19.wrapping_add(4), (load8(v28.wrapping_add(4)) as u32) as u8);
-  store64(frame.wrapping_add(240), load64(p6.wrapping_add(32)));
-  store64(frame.wrapping_add(232), load64(p6.wrapping_add(24)));
-  store64(frame.wrapping_add(224), load64(p6.wrapping_add(16)));
-  store64(frame.wrapping_add(216), load64(p6.wrapping_add(8)));
-  store64(frame.wrapping_add(208), load64(p6));
-  store64(frame.wrapping_add(248), load64(v27));
-  store64(frame.wrapping_add(256), load64(v27.wrapping_add(8)));
-  store8(frame.wrapping_add(336), v13 as u8);
-  store64(frame.wrapping_add(328), v24);
-  store64(frame.wrapping_add(320), v23);
-  store64(frame.wrapping_add(312), v22);
-  store64(frame.wrapping_add(304), v21);
-  store64(frame.wrapping_add(296), v29);
-  store8(frame.wrapping_add(288), v18 as u8);
-  store64(frame.wrapping_add(280), v25);
-  store64(frame.wrapping_add(272), v26);
-  store8(frame.wrapping_add(808), v8 as u8);
-  store64(frame.wrapping_add(800), v9);
-  store64(frame.wrapping_add(792), v10);
-  store64(frame.wrapping_add(784), p4);
-  store32(frame.wrapping_add(809), load32(frame.wrapping_add(184)));
-  store32(frame.wrapping_add(812), load32(frame.wrapping_add(187)));
-  fill(frame.wrapping_add(408), 0, 376);
-  store64(frame.wrapping_add(400), load64(p1.wrapping_add(40)));
-  store64(frame.wrapping_add(392), load64(p1.wrapping_add(32)));
-  store64(frame.wrapping_add(384), load64(p1.wrapping_add(24)));
-  der_view_facts_RowFacts_of_element(frame.wrapping_add(408), frame.wrapping_add(384), 0,
-      frame.wrapping_add(784), frame.wrapping_add(208));
-  sec1_c_picture_lines_Lines_push_row(p1, frame.wrapping_add(408));
-  }
-  'after_17: {
-  'after_16: {
-  'after_15: {
-  'after_14: {
-  'after_13: {
-  if v13 == 0 {
-    break 'after_13;
-  }
-  v13 = load8(p6.wrapping_add(24)) as u32;
-  v8 = load8(p5.wrapping_add(1)) as u32;
-  der_view_grammar_Structure_components(frame.wrapping_add(8), v12);
-  store8(frame.wrapping_add(137), v8 as u8);
-  v13 = u32::from(v13 != 1);
-  store8(frame.wrapping_add(136), v13 as u8);
-  store8(frame.wrapping_add(112), v17 as u8);
-  store64(frame.wrapping_add(56), v11.wrapping_add(v16));
-  store64(frame.wrapping_add(64), v15);
-  store64(frame.wrapping_add(72), v9);
-  store8(frame.wrapping_add(80), v14 as u8);
-  store64(frame.wrapping_add(152), load64(frame.wrapping_add(16)));
-  store64(frame.wrapping_add(144), load64(frame.wrapping_add(8)));
-  store8(frame.wrapping_add(113), (load8(p2.wrapping_add(1)) as u32) as u8);
-  store64(frame.wrapping_add(120), load64(p2.wrapping_add(8)));
-  store64(frame.wrapping_add(128), load64(p2.wrapping_add(16)));
-  store64(frame.wrapping_add(168), (load64(p6.wrapping_add(96))).wrapping_sub(v11));
-  store64(frame.wrapping_add(160), (load64(p6.wrapping_add(88))).wrapping_add(v11));
-  store32(frame.wrapping_add(84), load32(frame.wrapping_add(179)));
-  store32(frame.wrapping_add(81), load32(frame.wrapping_add(176)));
-  der_view_walk_walk_2(frame.wrapping_add(88), p1, frame.wrapping_add(112), p3,
-      frame.wrapping_add(56), frame.wrapping_add(136));
-  if (load8(frame.wrapping_add(88)) as u32) != 1 {
-    break 'after_14;
-  }
-  if v13 == 0 {
-    break 'after_15;
-  }
-  store64(frame.wrapping_add(48), load64(frame.wrapping_add(104)));
-  store64(frame.wrapping_add(40), load64(frame.wrapping_add(96)));
-  break 'after_16;
+  store64(frame.wrapping_add(24), load64(frame.wrapping_add(80)));
+  store64(frame.wrapping_add(16), load64(frame.wrapping_add(72)));
+  break 'after_4;
   }
   p4 = load64(p6.wrapping_add(112));
   p6 = load64(p6.wrapping_add(104));
   store64(p0, 1);
   store64(p0.wrapping_add(8), p6);
   store64(p0.wrapping_add(16), p4);
-  store64(frame.wrapping_add(200), p4);
-  store64(frame.wrapping_add(192), p6);
-  break 'after_17;
+  store64(frame.wrapping_add(264), p4);
+  store64(frame.wrapping_add(256), p6);
+  break 'after_5;
   }
   store64(p0.wrapping_add(16), 0);
   store64(p0.wrapping_add(8), 0);
   store64(p0, 0);
-  break 'after_17;
+  break 'after_5;
   }
-  store64(frame.wrapping_add(48), load64(p6.wrapping_add(112)));
-  store64(frame.wrapping_add(40), load64(p6.wrapping_add(104)));
+  store64(frame.wrapping_add(24), load64(p6.wrapping_add(112)));
+  store64(frame.wrapping_add(16), load64(p6.wrapping_add(104)));
   }
   store64(p0, 1);
-  store64(p0.wrapping_add(8), load64(frame.wrapping_add(40)));
-  store64(p0.wrapping_add(16), load64(frame.wrapping_add(48)));
+  store64(p0.wrapping_add(8), load64(frame.wrapping_add(16)));
+  store64(p0.wrapping_add(16), load64(frame.wrapping_add(24)));
+  break 'after_5;
   }
 }
 
@@ -16912,6 +16953,8 @@ unsafe fn der_view_drawing_known_of(p0: u64, mut p1: u64, mut p2: u64, p3: u64) 
   let mut v15 = 0u32;
   let mut v16 = 0u32;
   let mut v17 = 0u64;
+  let mut v18 = 0u64;
+  let mut v19 = 0u64;
   v5 = load8(p1.wrapping_add(8)) as u32;
   v6 = load8(p1.wrapping_add(6)) as u32;
   v7 = load8(p1.wrapping_add(5)) as u32;
@@ -17047,16 +17090,22 @@ unsafe fn der_view_drawing_known_of(p0: u64, mut p1: u64, mut p2: u64, p3: u64) 
   if p1 == 0 {
     break 'after_2;
   }
+  p2 = load64(frame.wrapping_add(184));
   v17 = p3.wrapping_sub(p1);
+  let t1 = p2;
+  p2 = if p2 < v17 { p2 } else { v17 };
+  v18 = t1.wrapping_sub(p2);
+  v18 = if v18 < p1 { v18 } else { p1 };
+  v19 = (load64(frame.wrapping_add(176))).wrapping_add(p2);
   v12 = 3;
   p2 = 1;
   'after_7: {
   if p3 != p1 {
     break 'after_7;
   }
-  let t1 = (u32::from((load8(frame) as u32) != 1)) | (u32::from(((load8(frame.wrapping_add(6))
+  let t2 = (u32::from((load8(frame) as u32) != 1)) | (u32::from(((load8(frame.wrapping_add(6))
       as u32) & 255) != 0));
-  v6 = t1 | (load8(frame.wrapping_add(10)) as u32);
+  v6 = t2 | (load8(frame.wrapping_add(10)) as u32);
   v12 = if (v6 & 1) != 0 { 0u32 } else { 2u32 };
   p2 = ((v6 ^ 0xffffffff) as u64) & 1;
   }
@@ -17084,8 +17133,8 @@ unsafe fn der_view_drawing_known_of(p0: u64, mut p1: u64, mut p2: u64, p3: u64) 
   store64(frame.wrapping_add(568), 0);
   store64(frame.wrapping_add(560), constant(0));
   fill(frame.wrapping_add(588), 0, 180);
-  store64(frame.wrapping_add(792), 0);
-  store64(frame.wrapping_add(784), constant(0));
+  store64(frame.wrapping_add(792), v18);
+  store64(frame.wrapping_add(784), v19);
   store64(frame.wrapping_add(776), 0);
   store64(frame.wrapping_add(768), constant(0));
   der_view_known_Known_see(frame, 0, frame.wrapping_add(424));
@@ -17113,8 +17162,8 @@ unsafe fn der_view_drawing_known_of(p0: u64, mut p1: u64, mut p2: u64, p3: u64) 
   v13 = load8(frame.wrapping_add(10)) as u32;
   store64(frame.wrapping_add(568), 0);
   store64(frame.wrapping_add(560), constant(0));
-  let t2 = v13 | ((u32::from((v12 & 255) != 1)) | (u32::from((v6 & 255) != 0)));
-  v12 = t2;
+  let t3 = v13 | ((u32::from((v12 & 255) != 1)) | (u32::from((v6 & 255) != 0)));
+  v12 = t3;
   store32(frame.wrapping_add(584), if (v12 & 1) != 0 { 0u32 } else { 2u32 });
   store64(frame.wrapping_add(576), ((v12 ^ 0xffffffff) as u64) & 1);
   fill(frame.wrapping_add(588), 0, 180);
@@ -19110,15 +19159,180 @@ unsafe fn der_view_said_point_misfit(p0: u64, mut p1: u64) {
   }
 }
 
-// der_view::walk::walk::<#ae7123e416480c13>
-unsafe fn der_view_walk_walk_2(p0: u64, p1: u64, mut p2: u64, mut p3: u64, mut p4: u64,
-    mut p5: u64) {
-  let mut array = Frame::<592>::new();
+// der_view::walk::opened_of::<#ae7123e416480c13>
+unsafe fn der_view_walk_opened_of_2(p0: u64, p1: u64, p2: u64, p3: u64, p4: u64, mut p5: u64) {
+  let mut array = Frame::<192>::new();
+  let frame = address(&raw mut array);
+  let mut v7 = 0u32;
+  let mut v8 = 0u32;
+  let mut v9 = 0u32;
+  let mut v10 = 0u64;
+  let mut v11 = 0u64;
+  let mut v12 = 0u64;
+  let mut v13 = 0u64;
+  let mut v14 = 0u32;
+  v7 = 0;
+  store32(frame.wrapping_add(59), 0);
+  store32(frame.wrapping_add(56), 0);
+  v8 = load8(p2) as u32;
+  'after_5: {
+  'after_4: {
+  'after_3: {
+  'after_2: {
+  'after_1: {
+  v9 = load8(p5.wrapping_add(58)) as u32;
+  match ((v9 as u64) & 255) as u32 {
+  6 => {
+    break 'after_1;
+  }
+  7 => {
+    break 'after_2;
+  }
+  8 => {
+    break 'after_3;
+  }
+  _ => {
+    break 'after_4;
+  }
+  }
+  }
+  store32(frame.wrapping_add(64), 0);
+  store32(frame.wrapping_add(67), 0);
+  v10 = load8(p5.wrapping_add(59)) as u64;
+  p5 = 0;
+  v11 = 1;
+  v7 = v8;
+  break 'after_5;
+  }
+  v11 = load64(p5.wrapping_add(88));
+  v10 = load64(p5.wrapping_add(96));
+  v8 = load8(p5.wrapping_add(59)) as u32;
+  p5 = 0;
+  store64(frame.wrapping_add(120), 0);
+  store64(frame.wrapping_add(96), 0);
+  store64(frame.wrapping_add(72), 0);
+  store64(frame.wrapping_add(80), 0);
+  store64(frame.wrapping_add(88), 0);
+  store64(frame.wrapping_add(160), load64(p4));
+  store64(frame.wrapping_add(168), load64(p4.wrapping_add(8)));
+  store64(frame.wrapping_add(176), load64(p4.wrapping_add(16)));
+  store64(frame.wrapping_add(184), load64(p4.wrapping_add(24)));
+  der_view_grammar_Structure_components(frame.wrapping_add(8), v8);
+  store64(frame.wrapping_add(152), v10);
+  store64(frame.wrapping_add(144), v11);
+  store16(frame.wrapping_add(120), 256);
+  store8(frame.wrapping_add(96), 0);
+  store64(frame.wrapping_add(136), load64(frame.wrapping_add(16)));
+  store64(frame.wrapping_add(128), load64(frame.wrapping_add(8)));
+  store64(frame.wrapping_add(104), load64(p2.wrapping_add(8)));
+  store64(frame.wrapping_add(112), load64(p2.wrapping_add(16)));
+  store8(frame.wrapping_add(97), (load8(p2.wrapping_add(1)) as u32) as u8);
+  der_view_walk_walk_2(frame.wrapping_add(72), p1, frame.wrapping_add(96), p3,
+      frame.wrapping_add(160), frame.wrapping_add(120));
+  v9 = load8(frame.wrapping_add(72)) as u32;
+  store32(frame.wrapping_add(123), 0);
+  store32(frame.wrapping_add(120), 0);
+  store32(frame.wrapping_add(64), load32(frame.wrapping_add(120)));
+  store32(frame.wrapping_add(67), load32(frame.wrapping_add(123)));
+  v9 = u32::from(v9 == 1);
+  v10 = ((if v9 != 0 { v8 } else { 0u32 }) as u64) & 255;
+  v11 = v9 as u64;
+  break 'after_5;
+  }
+  v10 = 0;
+  'after_7: {
+  'after_6: {
+  v12 = load64(p5.wrapping_add(96));
+  if v12 != 0 {
+    break 'after_6;
+  }
+  v11 = 0;
+  break 'after_7;
+  }
+  'after_8: {
+  v13 = load64(p5.wrapping_add(88));
+  if (load8(v13) as u32) == 0 {
+    break 'after_8;
+  }
+  v11 = 0;
+  break 'after_7;
+  }
+  v11 = 0;
+  v12 = v12.wrapping_add(0xffffffffffffffff);
+  if v12 == 0 {
+    break 'after_7;
+  }
+  v7 = load8(p5.wrapping_add(59)) as u32;
+  store64(frame.wrapping_add(48), load64(p4.wrapping_add(24)));
+  store64(frame.wrapping_add(40), load64(p4.wrapping_add(16)));
+  store64(frame.wrapping_add(32), load64(p4.wrapping_add(8)));
+  store64(frame.wrapping_add(24), load64(p4));
+  let t0 = der_view_walk_follows_2(p1, p2, p3, frame.wrapping_add(24), v7, v13.wrapping_add(1),
+      v12);
+  v8 = t0;
+  store32(frame.wrapping_add(123), 0);
+  store32(frame.wrapping_add(120), 0);
+  store32(frame.wrapping_add(56), load32(frame.wrapping_add(120)));
+  store32(frame.wrapping_add(59), load32(frame.wrapping_add(123)));
+  v10 = if v8 != 0 { (v7 as u64) & 255 } else { 0u64 };
+  v11 = v8 as u64;
+  }
+  store32(frame.wrapping_add(67), load32(frame.wrapping_add(59)));
+  store32(frame.wrapping_add(64), load32(frame.wrapping_add(56)));
+  v7 = 0;
+  p5 = v11;
+  break 'after_5;
+  }
+  'after_11: {
+  'after_9: {
+  if (load8(p5.wrapping_add(24)) as u32) != 1 {
+    break 'after_9;
+  }
+  v14 = load8(p5.wrapping_add(1)) as u32;
+  v7 = 0;
+  store32(frame.wrapping_add(123), 0);
+  store32(frame.wrapping_add(120), 0);
+  v10 = 0;
+  'after_10: {
+  if v14 == 1 {
+    break 'after_10;
+  }
+  v11 = 0;
+  break 'after_11;
+  }
+  v11 = 0;
+  if (((u32::from((v9 & 255) == 9)) | v8) & 1) == 0 {
+    break 'after_11;
+  }
+  }
+  store32(frame.wrapping_add(123), 0);
+  store32(frame.wrapping_add(120), 0);
+  v11 = 1;
+  v10 = 84;
+  v7 = v8;
+  }
+  store32(frame.wrapping_add(67), load32(frame.wrapping_add(123)));
+  store32(frame.wrapping_add(64), load32(frame.wrapping_add(120)));
+  p5 = 0;
+  }
+  store64(p0, v11);
+  store8(p0.wrapping_add(24), v7 as u8);
+  store64(p0.wrapping_add(16), p5);
+  store64(p0.wrapping_add(8), v10);
+  store32(p0.wrapping_add(25), load32(frame.wrapping_add(64)));
+  store32(p0.wrapping_add(28), load32(frame.wrapping_add(67)));
+  return;
+}
+
+// der_view::walk::draw_element::<#ae7123e416480c13>
+unsafe fn der_view_walk_draw_element_2(p0: u64, p1: u64, mut p2: u64, mut p3: u64, p4: u32,
+    p5: u64) {
+  let mut array = Frame::<608>::new();
   let frame = address(&raw mut array);
   let mut v7 = 0u64;
   let mut v8 = 0u64;
-  let mut v9 = 0u32;
-  let mut v10 = 0u32;
+  let mut v9 = 0u64;
+  let mut v10 = 0u64;
   let mut v11 = 0u64;
   let mut v12 = 0u64;
   let mut v13 = 0u64;
@@ -19126,438 +19340,350 @@ unsafe fn der_view_walk_walk_2(p0: u64, p1: u64, mut p2: u64, mut p3: u64, mut p
   let mut v15 = 0u32;
   let mut v16 = 0u64;
   let mut v17 = 0u64;
-  let mut v18 = 0u64;
-  let mut v19 = 0u32;
-  let mut v20 = 0u64;
-  let mut v21 = 0u32;
-  'after_16: {
+  v7 = load64(p2);
+  fill(frame.wrapping_add(56), 0, 80);
+  'after_1: {
+  if (load8(p3.wrapping_add(1)) as u32) == 1 {
+    break 'after_1;
+  }
+  store64(frame.wrapping_add(168), load64(p5.wrapping_add(32)));
+  store64(frame.wrapping_add(160), load64(p5.wrapping_add(24)));
+  store64(frame.wrapping_add(152), load64(p5.wrapping_add(16)));
+  store64(frame.wrapping_add(144), load64(p5.wrapping_add(8)));
+  store64(frame.wrapping_add(136), load64(p5));
+  v8 = load64(p5.wrapping_add(88));
+  v9 = load64(p5.wrapping_add(96));
+  let t0 = der_view_content_shown_len(load8(p1.wrapping_add(1)) as u32, frame.wrapping_add(136),
+      load8(p5.wrapping_add(58)) as u32, load8(p5.wrapping_add(59)) as u32, v8, v9);
+  v10 = t0;
+  v11 = constant(0);
+  v12 = 0;
+  v13 = 0;
+  v14 = constant(0);
   'after_2: {
-  'after_10: {
+  v15 = load8(p5.wrapping_add(80)) as u32;
+  if v15 != 0 {
+    break 'after_2;
+  }
+  v13 = load64(p3.wrapping_add(16));
+  v14 = load64(p3.wrapping_add(8));
+  }
+  p2 = p2.wrapping_add(8);
+  p3 = p5.wrapping_add(40);
+  v16 = p5.wrapping_add(56);
+  v17 = if (load8(frame.wrapping_add(160)) as u32) == 1 { v9 } else { 0u64 };
   'after_3: {
+  if p4 != 0 {
+    break 'after_3;
+  }
+  v11 = load64(p1.wrapping_add(16));
+  v12 = (load64(frame.wrapping_add(152))).wrapping_add(v7);
+  let t1 = v11;
+  v11 = if v11 < v12 { v11 } else { v12 };
+  v12 = t1.wrapping_sub(v11);
+  v12 = if v12 < v9 { v12 } else { v9 };
+  v11 = (load64(p1.wrapping_add(8))).wrapping_add(v11);
+  }
+  store64(frame.wrapping_add(32), load64(p5.wrapping_add(32)));
+  store64(frame.wrapping_add(24), load64(p5.wrapping_add(24)));
+  store64(frame.wrapping_add(16), load64(p5.wrapping_add(16)));
+  store64(frame.wrapping_add(8), load64(p5.wrapping_add(8)));
+  store64(frame, load64(p5));
+  store64(frame.wrapping_add(40), load64(p3));
+  store64(frame.wrapping_add(48), load64(p3.wrapping_add(8)));
+  store32(frame.wrapping_add(56), load32(v16));
+  store8(frame.wrapping_add(60), (load8(v16.wrapping_add(4)) as u32) as u8);
+  store8(frame.wrapping_add(128), p4 as u8);
+  store64(frame.wrapping_add(120), v12);
+  store64(frame.wrapping_add(112), v11);
+  store64(frame.wrapping_add(104), v10);
+  store64(frame.wrapping_add(96), v8);
+  store64(frame.wrapping_add(88), v17);
+  store8(frame.wrapping_add(80), v15 as u8);
+  store64(frame.wrapping_add(72), v13);
+  store64(frame.wrapping_add(64), v14);
+  store64(frame.wrapping_add(576), v7);
+  store64(frame.wrapping_add(584), load64(p2));
+  store64(frame.wrapping_add(592), load64(p2.wrapping_add(8)));
+  store64(frame.wrapping_add(600), load64(p2.wrapping_add(16)));
+  fill(frame.wrapping_add(200), 0, 376);
+  store64(frame.wrapping_add(192), load64(p0.wrapping_add(40)));
+  store64(frame.wrapping_add(184), load64(p0.wrapping_add(32)));
+  store64(frame.wrapping_add(176), load64(p0.wrapping_add(24)));
+  der_view_facts_RowFacts_of_element(frame.wrapping_add(200), frame.wrapping_add(176), 0,
+      frame.wrapping_add(576), frame);
+  sec1_c_picture_lines_Lines_push_row(p0, frame.wrapping_add(200));
+  }
+  return;
+}
+
+// der_view::walk::walk::<#ae7123e416480c13>
+unsafe fn der_view_walk_walk_2(p0: u64, p1: u64, p2: u64, mut p3: u64, mut p4: u64, mut p5: u64) {
+  let mut array = Frame::<464>::new();
+  let frame = address(&raw mut array);
+  let mut v7 = 0u32;
+  let mut v8 = 0u32;
+  let mut v9 = 0u64;
+  let mut v10 = 0u64;
+  let mut v11 = 0u64;
+  let mut v12 = 0u64;
+  let mut v13 = 0u64;
+  let mut v14 = 0u32;
+  let mut v15 = 0u64;
+  let mut v16 = 0u64;
+  let mut v17 = 0u64;
+  let mut v18 = 0u32;
+  let mut v19 = 0u64;
+  let mut v20 = 0u32;
+  'after_14: {
+  'after_9: {
+  'after_1: {
+  'after_2: {
+  fill(frame.wrapping_add(144), 0, 120);
   store64(frame.wrapping_add(16), 0);
   store64(frame.wrapping_add(8), 0);
   store64(frame, 0);
-  store64(frame.wrapping_add(184), load64(p4));
-  store64(frame.wrapping_add(192), load64(p4.wrapping_add(8)));
-  store64(frame.wrapping_add(200), load64(p4.wrapping_add(16)));
-  store64(frame.wrapping_add(208), load64(p4.wrapping_add(24)));
-  store64(frame.wrapping_add(144), load64(p5));
-  store64(frame.wrapping_add(152), load64(p5.wrapping_add(8)));
-  store64(frame.wrapping_add(160), load64(p5.wrapping_add(16)));
-  store64(frame.wrapping_add(168), load64(p5.wrapping_add(24)));
-  store64(frame.wrapping_add(176), load64(p5.wrapping_add(32)));
-  v7 = load64(frame.wrapping_add(184));
-  'after_1: {
-  if p3 != 0 {
+  store64(frame.wrapping_add(304), load64(p4));
+  store64(frame.wrapping_add(312), load64(p4.wrapping_add(8)));
+  store64(frame.wrapping_add(320), load64(p4.wrapping_add(16)));
+  store64(frame.wrapping_add(328), load64(p4.wrapping_add(24)));
+  store64(frame.wrapping_add(264), load64(p5));
+  store64(frame.wrapping_add(272), load64(p5.wrapping_add(8)));
+  store64(frame.wrapping_add(280), load64(p5.wrapping_add(16)));
+  store64(frame.wrapping_add(288), load64(p5.wrapping_add(24)));
+  store64(frame.wrapping_add(296), load64(p5.wrapping_add(32)));
+  if p3 == 0 {
     break 'after_1;
   }
-  v8 = load64(frame.wrapping_add(192));
-  break 'after_2;
+  v7 = load8(frame.wrapping_add(264)) as u32;
+  v8 = v7 ^ 1;
+  p4 = load64(frame.wrapping_add(296));
+  if (load64(frame.wrapping_add(312))) > 63 {
+    break 'after_2;
   }
-  v9 = load8(frame.wrapping_add(144)) as u32;
-  v10 = v9 ^ 1;
-  p4 = load64(frame.wrapping_add(176));
-  v8 = load64(frame.wrapping_add(192));
-  if v8 > 63 {
+  v9 = frame.wrapping_add(208);
+  v10 = (frame.wrapping_add(336)).wrapping_add(8);
+  v11 = (frame.wrapping_add(264)).wrapping_add(8);
+  v12 = load64(frame.wrapping_add(288));
+  v13 = load64(frame.wrapping_add(304));
+  'again_13: loop {
+  v14 = load8(p2) as u32;
+  v15 = load64(frame.wrapping_add(280));
+  v16 = load64(frame.wrapping_add(272));
+  'after_4: {
+  'after_7: {
+  'after_3: {
+  if p4 > 1 {
     break 'after_3;
   }
-  v11 = (frame.wrapping_add(216)).wrapping_add(8);
-  v12 = (frame.wrapping_add(144)).wrapping_add(8);
-  v13 = frame.wrapping_add(88);
-  v14 = load64(frame.wrapping_add(168));
-  'again_15: loop {
-  v15 = load8(p2) as u32;
-  v16 = load64(frame.wrapping_add(160));
-  v17 = load64(frame.wrapping_add(152));
   'after_5: {
-  'after_8: {
-  'after_4: {
-  if p4 > 1 {
+  match p4 as u32 {
+  1 => {
     break 'after_4;
   }
-  'after_6: {
-  match p4 as u32 {
-  1 => {
+  _ => {
     break 'after_5;
   }
-  _ => {
+  }
+  }
+  'after_6: {
+  if ((v7 | v14) & 255) == 0 {
     break 'after_6;
   }
+  v17 = 0;
+  v18 = v14;
+  break 'after_7;
   }
+  v17 = 0;
+  'after_8: {
+  if v15 != 0 {
+    break 'after_8;
   }
-  'after_7: {
-  if ((v9 | v15) & 255) == 0 {
+  p4 = 0;
+  break 'after_9;
+  }
+  p5 = v16.wrapping_add(1);
+  v19 = v15;
+  'again_10: loop {
+  if (load8(p5) as u32) == 0 {
+    break 'after_4;
+  }
+  p5 = p5.wrapping_add(5);
+  v19 = v19.wrapping_add(0xffffffffffffffff);
+  if v19 != 0 {
+    continue 'again_10;
+  }
+  break;
+  }
+  p4 = 0;
+  break 'after_9;
+  }
+  if (load8(v12) as u32) != 0 {
+    break 'after_4;
+  }
+  v18 = (u32::from((load8(v12.wrapping_add(1)) as u32) != 0)) | v8;
+  v20 = v18 & 1;
+  v17 = if v20 != 0 { 0u64 } else { 2u64 };
+  v18 = v18 ^ 1;
+  if v20 != 0 {
     break 'after_7;
   }
-  v18 = 0;
-  v19 = v15;
-  break 'after_8;
+  if (v14 & 1) != 0 {
+    break 'after_7;
   }
-  v18 = 0;
-  'after_9: {
-  if v16 != 0 {
+  v17 = 2;
+  if v15 == 0 {
     break 'after_9;
   }
-  v16 = 0;
-  p4 = 0;
-  break 'after_10;
-  }
-  p5 = v17.wrapping_add(1);
-  v20 = v16;
+  p5 = v16.wrapping_add(1);
+  v19 = v15;
   'again_11: loop {
   if (load8(p5) as u32) == 0 {
-    break 'after_5;
+    break 'after_4;
   }
   p5 = p5.wrapping_add(5);
-  v20 = v20.wrapping_add(0xffffffffffffffff);
-  if v20 != 0 {
+  v19 = v19.wrapping_add(0xffffffffffffffff);
+  if v19 != 0 {
     continue 'again_11;
   }
-  break;
+  break 'after_9;
   }
-  p4 = 0;
-  break 'after_10;
   }
-  if (load8(v14) as u32) != 0 {
-    break 'after_5;
+  if (v18 & 1) != 0 {
+    break 'after_9;
   }
-  v19 = (u32::from((load8(v14.wrapping_add(1)) as u32) != 0)) | v10;
-  v21 = v19 & 1;
-  v18 = if v21 != 0 { 0u64 } else { 2u64 };
-  v19 = v19 ^ 1;
-  if v21 != 0 {
-    break 'after_8;
   }
-  if (v15 & 1) != 0 {
-    break 'after_8;
+  fill(frame.wrapping_add(336), 0, 128);
+  v14 = v14 & 1;
+  der_view_step_step_by(frame.wrapping_add(336), v14, v14, v16, v15, v12, p4);
+  v14 = load8(frame.wrapping_add(336)) as u32;
+  move_(frame.wrapping_add(24), v10, 120);
+  if v14 != 1 {
+    break 'after_1;
   }
-  v18 = 2;
+  move_(frame.wrapping_add(144), frame.wrapping_add(24), 120);
+  p3 = p3.wrapping_add(0xffffffffffffffff);
+  der_view_walk_draw_step_2(frame, p1, p2, p3, frame.wrapping_add(304), frame.wrapping_add(264),
+      frame.wrapping_add(144));
   'after_12: {
-  if v16 != 0 {
+  if (load8(frame) as u32) != 1 {
     break 'after_12;
   }
-  v16 = 0;
-  break 'after_10;
-  }
-  p5 = v17.wrapping_add(1);
-  v20 = v16;
-  'again_13: loop {
-  if (load8(p5) as u32) == 0 {
-    break 'after_5;
-  }
-  p5 = p5.wrapping_add(5);
-  v20 = v20.wrapping_add(0xffffffffffffffff);
-  if v20 != 0 {
+  store64(v11, load64(v9));
+  store64(v11.wrapping_add(8), load64(v9.wrapping_add(8)));
+  p5 = load64(frame.wrapping_add(16));
+  store64(frame.wrapping_add(296), p5);
+  v12 = load64(frame.wrapping_add(8));
+  store64(frame.wrapping_add(288), v12);
+  v13 = (p4.wrapping_sub(p5)).wrapping_add(v13);
+  store64(frame.wrapping_add(304), v13);
+  p4 = p5;
+  if p3 != 0 {
     continue 'again_13;
   }
-  break 'after_10;
-  }
-  }
-  if (v19 & 1) != 0 {
-    break 'after_10;
-  }
-  }
-  fill(frame.wrapping_add(216), 0, 128);
-  v15 = v15 & 1;
-  der_view_step_step_by(frame.wrapping_add(216), v15, v15, v17, v16, v14, p4);
-  v15 = load8(frame.wrapping_add(216)) as u32;
-  move_(frame.wrapping_add(24), v11, 120);
-  if v15 != 1 {
-    break 'after_2;
-  }
-  p3 = p3.wrapping_add(0xffffffffffffffff);
-  der_view_walk_draw_step_2(frame, p1, p2, p3, frame.wrapping_add(184), frame.wrapping_add(144),
-      frame.wrapping_add(24));
-  'after_14: {
-  if (load8(frame) as u32) != 1 {
-    break 'after_14;
-  }
-  store64(v12, load64(v13));
-  store64(v12.wrapping_add(8), load64(v13.wrapping_add(8)));
-  p5 = load64(frame.wrapping_add(16));
-  store64(frame.wrapping_add(176), p5);
-  v14 = load64(frame.wrapping_add(8));
-  store64(frame.wrapping_add(168), v14);
-  v7 = (p4.wrapping_sub(p5)).wrapping_add(v7);
-  store64(frame.wrapping_add(184), v7);
-  p4 = p5;
-  if p3 == 0 {
-    break 'after_2;
-  }
-  continue 'again_15;
+  break 'after_1;
   }
   break;
   }
   store64(p0.wrapping_add(16), 0);
   store64(p0.wrapping_add(8), 0);
   store64(p0, 0);
-  break 'after_16;
+  break 'after_14;
   }
-  v15 = load8(p2) as u32;
-  v14 = load64(frame.wrapping_add(168));
-  v16 = load64(frame.wrapping_add(160));
-  v17 = load64(frame.wrapping_add(152));
-  'after_20: {
-  'after_17: {
-  if p4 > 1 {
-    break 'after_17;
-  }
+  v14 = load8(p2) as u32;
+  v12 = load64(frame.wrapping_add(288));
+  p5 = load64(frame.wrapping_add(280));
+  v19 = load64(frame.wrapping_add(272));
   'after_18: {
+  'after_15: {
+  if p4 > 1 {
+    break 'after_15;
+  }
+  'after_16: {
   match p4 as u32 {
   1 => {
-    break 'after_2;
+    break 'after_1;
   }
   _ => {
-    break 'after_18;
+    break 'after_16;
   }
   }
   }
-  'after_19: {
-  if ((v9 | v15) & 255) == 0 {
-    break 'after_19;
+  'after_17: {
+  if ((v7 | v14) & 255) == 0 {
+    break 'after_17;
   }
-  v18 = 0;
-  v9 = v15;
-  break 'after_20;
+  v17 = 0;
+  v7 = v14;
+  break 'after_18;
   }
   p4 = 0;
-  'after_21: {
-  if v16 != 0 {
-    break 'after_21;
+  'after_19: {
+  if p5 != 0 {
+    break 'after_19;
   }
-  v16 = 0;
-  v18 = 0;
-  break 'after_10;
+  v17 = 0;
+  break 'after_9;
   }
-  p5 = v17.wrapping_add(1);
-  v20 = v16;
-  'again_22: loop {
-  if (load8(p5) as u32) == 0 {
-    break 'after_2;
+  v19 = v19.wrapping_add(1);
+  'again_20: loop {
+  if (load8(v19) as u32) == 0 {
+    break 'after_1;
   }
-  p5 = p5.wrapping_add(5);
-  v20 = v20.wrapping_add(0xffffffffffffffff);
-  if v20 != 0 {
-    continue 'again_22;
+  v19 = v19.wrapping_add(5);
+  p5 = p5.wrapping_add(0xffffffffffffffff);
+  if p5 != 0 {
+    continue 'again_20;
   }
   break;
   }
-  v18 = 0;
-  break 'after_10;
+  v17 = 0;
+  break 'after_9;
   }
-  if (load8(v14) as u32) != 0 {
-    break 'after_2;
+  if (load8(v12) as u32) != 0 {
+    break 'after_1;
   }
-  v9 = (u32::from((load8(v14.wrapping_add(1)) as u32) != 0)) | v10;
-  v19 = v9 & 1;
-  v18 = if v19 != 0 { 0u64 } else { 2u64 };
-  v9 = v9 ^ 1;
-  if v19 != 0 {
-    break 'after_20;
+  v7 = (u32::from((load8(v12.wrapping_add(1)) as u32) != 0)) | v8;
+  v18 = v7 & 1;
+  v17 = if v18 != 0 { 0u64 } else { 2u64 };
+  v7 = v7 ^ 1;
+  if v18 != 0 {
+    break 'after_18;
   }
-  if (v15 & 1) != 0 {
-    break 'after_20;
+  if (v14 & 1) != 0 {
+    break 'after_18;
   }
-  v18 = 2;
-  'after_23: {
-  if v16 != 0 {
-    break 'after_23;
+  v17 = 2;
+  if p5 == 0 {
+    break 'after_9;
   }
-  v16 = 0;
-  break 'after_10;
+  v19 = v19.wrapping_add(1);
+  'again_21: loop {
+  if (load8(v19) as u32) == 0 {
+    break 'after_1;
   }
-  p5 = v17.wrapping_add(1);
-  v20 = v16;
-  'again_24: loop {
-  if (load8(p5) as u32) == 0 {
-    break 'after_2;
+  v19 = v19.wrapping_add(5);
+  p5 = p5.wrapping_add(0xffffffffffffffff);
+  if p5 != 0 {
+    continue 'again_21;
   }
-  p5 = p5.wrapping_add(5);
-  v20 = v20.wrapping_add(0xffffffffffffffff);
-  if v20 != 0 {
-    continue 'again_24;
-  }
-  break 'after_10;
+  break 'after_9;
   }
   }
-  if (v9 & 1) == 0 {
-    break 'after_2;
+  if (v7 & 1) != 0 {
+    break 'after_9;
   }
   }
-  'after_25: {
-  if (load8(frame.wrapping_add(145)) as u32) != 0 {
-    break 'after_25;
-  }
-  v15 = load8(frame.wrapping_add(208)) as u32;
-  p3 = load64(frame.wrapping_add(200));
-  'after_26: {
-  if v16 == 0 {
-    break 'after_26;
-  }
-  p2 = frame.wrapping_add(209);
-  p5 = v17.wrapping_add(1);
-  v20 = v16;
-  'after_27: {
-  'again_28: loop {
-  if (load8(p5) as u32) == 0 {
-    break 'after_27;
-  }
-  p5 = p5.wrapping_add(5);
-  v20 = v20.wrapping_add(0xffffffffffffffff);
-  if v20 != 0 {
-    continue 'again_28;
-  }
-  break 'after_26;
-  }
-  }
-  'after_30: {
-  'after_29: {
-  if v8 != 0 {
-    break 'after_29;
-  }
-  if v7 == 0 {
-    break 'after_29;
-  }
-  v9 = 3;
-  p5 = 1;
-  break 'after_30;
-  }
-  let t0 = (u32::from((load8(p1.wrapping_add(24)) as u32) != 1)) |
-      (u32::from(((load8(p1.wrapping_add(30)) as u32) & 255) != 0));
-  v19 = t0 | (load8(p1.wrapping_add(34)) as u32);
-  v9 = if (v19 & 1) != 0 { 0u32 } else { 2u32 };
-  p5 = ((v19 ^ 0xffffffff) as u64) & 1;
-  }
-  store8(frame.wrapping_add(240), v15 as u8);
-  store64(frame.wrapping_add(232), p3);
-  store64(frame.wrapping_add(224), v8);
-  store64(frame.wrapping_add(216), v7);
-  store64(frame.wrapping_add(288), 0);
-  store64(frame.wrapping_add(280), 1);
-  store64(frame.wrapping_add(272), 0);
-  store64(frame.wrapping_add(264), constant(0));
-  store32(frame.wrapping_add(260), 0);
-  store64(frame.wrapping_add(252), 0);
-  store32(frame.wrapping_add(248), 2);
-  store64(frame.wrapping_add(296), 0);
-  store64(frame.wrapping_add(304), 0);
-  store64(frame.wrapping_add(312), 0);
-  store64(frame.wrapping_add(320), 0);
-  store64(frame.wrapping_add(328), 0);
-  store64(frame.wrapping_add(336), 0);
-  store64(frame.wrapping_add(344), 0);
-  store32(frame.wrapping_add(241), load32(p2));
-  store32(frame.wrapping_add(244), load32(p2.wrapping_add(3)));
-  store32(frame.wrapping_add(376), v9);
-  store64(frame.wrapping_add(368), p5);
-  store64(frame.wrapping_add(360), 0);
-  store64(frame.wrapping_add(352), constant(0));
-  fill(frame.wrapping_add(380), 0, 180);
-  store64(frame.wrapping_add(584), 0);
-  store64(frame.wrapping_add(576), constant(0));
-  store64(frame.wrapping_add(568), v16);
-  store64(frame.wrapping_add(560), v17);
-  sec1_c_picture_lines_Lines_push_row(p1, frame.wrapping_add(216));
-  }
-  if v18 == 0 {
-    break 'after_25;
-  }
-  store32(frame.wrapping_add(241), 0);
-  store8(frame.wrapping_add(240), v15 as u8);
-  store64(frame.wrapping_add(232), p3);
-  store64(frame.wrapping_add(216), v7);
-  store64(frame.wrapping_add(288), 0);
-  store64(frame.wrapping_add(280), 1);
-  store64(frame.wrapping_add(272), 2);
-  store64(frame.wrapping_add(264), constant(1941));
-  store32(frame.wrapping_add(260), 0);
-  store64(frame.wrapping_add(252), 0);
-  store64(frame.wrapping_add(244), 0x100000000);
-  store64(frame.wrapping_add(296), 0);
-  store64(frame.wrapping_add(304), 0);
-  store64(frame.wrapping_add(312), 0);
-  store64(frame.wrapping_add(320), 0);
-  store64(frame.wrapping_add(328), 0);
-  store64(frame.wrapping_add(336), 0);
-  store64(frame.wrapping_add(344), 0);
-  store64(frame.wrapping_add(224), v8.wrapping_sub((u32::from(v8 != 0)) as u64));
-  store64(frame.wrapping_add(352), constant(0));
-  fill(frame.wrapping_add(360), 0, 200);
-  store64(frame.wrapping_add(584), 0);
-  store64(frame.wrapping_add(576), constant(0));
-  store64(frame.wrapping_add(568), 0);
-  store64(frame.wrapping_add(560), constant(0));
-  sec1_c_picture_lines_Lines_push_row(p1, frame.wrapping_add(216));
-  }
-  store64(p0, 1);
-  store64(p0.wrapping_add(16), p4.wrapping_sub(v18));
-  store64(p0.wrapping_add(8), v14.wrapping_add(v18));
-  break 'after_16;
-  }
-  'after_31: {
-  if (load8(frame.wrapping_add(145)) as u32) != 0 {
-    break 'after_31;
-  }
-  p4 = load64(frame.wrapping_add(208));
-  p5 = load64(p2.wrapping_add(16));
-  v20 = if p5 < v7 { p5 } else { v7 };
-  p3 = p5.wrapping_sub(v20);
-  v14 = load64(frame.wrapping_add(200));
-  p5 = v14.wrapping_sub(v7);
-  p3 = if p3 < p5 { p3 } else { p5 };
-  v20 = (load64(p2.wrapping_add(8))).wrapping_add(v20);
-  p2 = load64(frame.wrapping_add(160));
-  v16 = load64(frame.wrapping_add(152));
-  'after_33: {
-  'after_32: {
-  if v8 != 0 {
-    break 'after_32;
-  }
-  if v7 == 0 {
-    break 'after_32;
-  }
-  v15 = 3;
-  v17 = 1;
-  break 'after_33;
-  }
-  let t1 = (u32::from((load8(p1.wrapping_add(24)) as u32) != 1)) |
-      (u32::from(((load8(p1.wrapping_add(30)) as u32) & 255) != 0));
-  v9 = t1 | (load8(p1.wrapping_add(34)) as u32);
-  v15 = if (v9 & 1) != 0 { 0u32 } else { 2u32 };
-  v17 = ((v9 ^ 0xffffffff) as u64) & 1;
-  }
-  store64(frame.wrapping_add(320), 0);
-  store64(frame.wrapping_add(312), p5);
-  store64(frame.wrapping_add(304), 0);
-  store64(frame.wrapping_add(296), p5);
-  store64(frame.wrapping_add(288), p5);
-  store64(frame.wrapping_add(280), 1);
-  store64(frame.wrapping_add(272), 0);
-  store64(frame.wrapping_add(264), constant(0));
-  store32(frame.wrapping_add(260), 0);
-  store64(frame.wrapping_add(252), 0);
-  store32(frame.wrapping_add(248), 2);
-  store64(frame.wrapping_add(240), p4);
-  store64(frame.wrapping_add(232), v14);
-  store64(frame.wrapping_add(224), v8);
-  store64(frame.wrapping_add(216), v7);
-  store64(frame.wrapping_add(328), 0);
-  store64(frame.wrapping_add(336), 0);
-  store64(frame.wrapping_add(344), 0);
-  store32(frame.wrapping_add(376), v15);
-  store64(frame.wrapping_add(368), v17);
-  store64(frame.wrapping_add(360), 0);
-  store64(frame.wrapping_add(352), constant(0));
-  fill(frame.wrapping_add(380), 0, 180);
-  store64(frame.wrapping_add(584), p3);
-  store64(frame.wrapping_add(576), v20);
-  store64(frame.wrapping_add(568), p2);
-  store64(frame.wrapping_add(560), v16);
-  sec1_c_picture_lines_Lines_push_row(p1, frame.wrapping_add(216));
-  }
+  der_view_walk_draw_left_2(p1, p2, frame.wrapping_add(304), frame.wrapping_add(264));
   store64(p0.wrapping_add(16), 0);
   store64(p0.wrapping_add(8), 0);
   store64(p0, 0);
+  break 'after_14;
+  }
+  der_view_walk_draw_end_2(p1, frame.wrapping_add(304), frame.wrapping_add(264), v17);
+  store64(p0.wrapping_add(16), p4.wrapping_sub(v17));
+  store64(p0.wrapping_add(8), v12.wrapping_add(v17));
+  store64(p0, 1);
   }
 }
 
@@ -20405,6 +20531,209 @@ unsafe fn der_view_characters_are_characters(mut p0: u32, mut p1: u64, mut p2: u
   return v4;
 }
 
+// der_view::walk::draw_left::<#ae7123e416480c13>
+unsafe fn der_view_walk_draw_left_2(p0: u64, mut p1: u64, mut p2: u64, mut p3: u64) {
+  let mut array = Frame::<384>::new();
+  let frame = address(&raw mut array);
+  let mut v5 = 0u64;
+  let mut v6 = 0u64;
+  let mut v7 = 0u64;
+  let mut v8 = 0u64;
+  let mut v9 = 0u64;
+  let mut v10 = 0u64;
+  let mut v11 = 0u64;
+  let mut v12 = 0u32;
+  let mut v13 = 0u32;
+  v5 = 1;
+  'after_1: {
+  if (load8(p3.wrapping_add(1)) as u32) == 1 {
+    break 'after_1;
+  }
+  v6 = load64(p2.wrapping_add(24));
+  v7 = load64(p1.wrapping_add(16));
+  v8 = load64(p2);
+  v9 = if v7 < v8 { v7 } else { v8 };
+  v10 = v7.wrapping_sub(v9);
+  v11 = load64(p2.wrapping_add(16));
+  v7 = v11.wrapping_sub(v8);
+  v10 = if v10 < v7 { v10 } else { v7 };
+  p1 = (load64(p1.wrapping_add(8))).wrapping_add(v9);
+  v9 = load64(p3.wrapping_add(16));
+  p3 = load64(p3.wrapping_add(8));
+  'after_3: {
+  'after_2: {
+  p2 = load64(p2.wrapping_add(8));
+  if p2 != 0 {
+    break 'after_2;
+  }
+  v12 = 3;
+  if v8 != 0 {
+    break 'after_3;
+  }
+  }
+  let t0 = (u32::from((load8(p0.wrapping_add(24)) as u32) != 1)) |
+      (u32::from(((load8(p0.wrapping_add(30)) as u32) & 255) != 0));
+  v13 = t0 | (load8(p0.wrapping_add(34)) as u32);
+  v12 = if (v13 & 1) != 0 { 0u32 } else { 2u32 };
+  v5 = ((v13 ^ 0xffffffff) as u64) & 1;
+  }
+  store64(frame.wrapping_add(112), 0);
+  store64(frame.wrapping_add(104), v7);
+  store64(frame.wrapping_add(96), 0);
+  store64(frame.wrapping_add(88), v7);
+  store64(frame.wrapping_add(80), v7);
+  store64(frame.wrapping_add(72), 1);
+  store64(frame.wrapping_add(64), 0);
+  store64(frame.wrapping_add(56), constant(0));
+  store32(frame.wrapping_add(52), 0);
+  store64(frame.wrapping_add(44), 0);
+  store32(frame.wrapping_add(40), 2);
+  store64(frame.wrapping_add(32), v6);
+  store64(frame.wrapping_add(24), v11);
+  store64(frame.wrapping_add(16), p2);
+  store64(frame.wrapping_add(8), v8);
+  store64(frame.wrapping_add(120), 0);
+  store64(frame.wrapping_add(128), 0);
+  store64(frame.wrapping_add(136), 0);
+  store32(frame.wrapping_add(168), v12);
+  store64(frame.wrapping_add(160), v5);
+  store64(frame.wrapping_add(152), 0);
+  store64(frame.wrapping_add(144), constant(0));
+  fill(frame.wrapping_add(172), 0, 180);
+  store64(frame.wrapping_add(376), v10);
+  store64(frame.wrapping_add(368), p1);
+  store64(frame.wrapping_add(360), v9);
+  store64(frame.wrapping_add(352), p3);
+  sec1_c_picture_lines_Lines_push_row(p0, frame.wrapping_add(8));
+  }
+  return;
+}
+
+// der_view::walk::draw_end::<#ae7123e416480c13>
+unsafe fn der_view_walk_draw_end_2(p0: u64, mut p1: u64, mut p2: u64, p3: u64) {
+  let mut array = Frame::<384>::new();
+  let frame = address(&raw mut array);
+  let mut v5 = 0u32;
+  let mut v6 = 0u64;
+  let mut v7 = 0u64;
+  let mut v8 = 0u64;
+  let mut v9 = 0u64;
+  let mut v10 = 0u64;
+  let mut v11 = 0u64;
+  let mut v12 = 0u32;
+  let mut v13 = 0u32;
+  'after_1: {
+  if (load8(p2.wrapping_add(1)) as u32) == 1 {
+    break 'after_1;
+  }
+  v5 = load8(p1.wrapping_add(24)) as u32;
+  v6 = load64(p1.wrapping_add(16));
+  v7 = load64(p1.wrapping_add(8));
+  v8 = load64(p1);
+  'after_2: {
+  v9 = load64(p2.wrapping_add(16));
+  if v9 == 0 {
+    break 'after_2;
+  }
+  v10 = p1.wrapping_add(25);
+  v11 = load64(p2.wrapping_add(8));
+  p1 = v11.wrapping_add(1);
+  p2 = v9;
+  'after_3: {
+  'again_4: loop {
+  if (load8(p1) as u32) == 0 {
+    break 'after_3;
+  }
+  p1 = p1.wrapping_add(5);
+  p2 = p2.wrapping_add(0xffffffffffffffff);
+  if p2 != 0 {
+    continue 'again_4;
+  }
+  break 'after_2;
+  }
+  }
+  'after_6: {
+  'after_5: {
+  if v7 != 0 {
+    break 'after_5;
+  }
+  if v8 == 0 {
+    break 'after_5;
+  }
+  v12 = 3;
+  p1 = 1;
+  break 'after_6;
+  }
+  let t0 = (u32::from((load8(p0.wrapping_add(24)) as u32) != 1)) |
+      (u32::from(((load8(p0.wrapping_add(30)) as u32) & 255) != 0));
+  v13 = t0 | (load8(p0.wrapping_add(34)) as u32);
+  v12 = if (v13 & 1) != 0 { 0u32 } else { 2u32 };
+  p1 = ((v13 ^ 0xffffffff) as u64) & 1;
+  }
+  store8(frame.wrapping_add(32), v5 as u8);
+  store64(frame.wrapping_add(24), v6);
+  store64(frame.wrapping_add(16), v7);
+  store64(frame.wrapping_add(8), v8);
+  store64(frame.wrapping_add(80), 0);
+  store64(frame.wrapping_add(72), 1);
+  store64(frame.wrapping_add(64), 0);
+  store64(frame.wrapping_add(56), constant(0));
+  store32(frame.wrapping_add(52), 0);
+  store64(frame.wrapping_add(44), 0);
+  store32(frame.wrapping_add(40), 2);
+  store64(frame.wrapping_add(88), 0);
+  store64(frame.wrapping_add(96), 0);
+  store64(frame.wrapping_add(104), 0);
+  store64(frame.wrapping_add(112), 0);
+  store64(frame.wrapping_add(120), 0);
+  store64(frame.wrapping_add(128), 0);
+  store64(frame.wrapping_add(136), 0);
+  store32(frame.wrapping_add(33), load32(v10));
+  store32(frame.wrapping_add(36), load32(v10.wrapping_add(3)));
+  store32(frame.wrapping_add(168), v12);
+  store64(frame.wrapping_add(160), p1);
+  store64(frame.wrapping_add(152), 0);
+  store64(frame.wrapping_add(144), constant(0));
+  fill(frame.wrapping_add(172), 0, 180);
+  store64(frame.wrapping_add(376), 0);
+  store64(frame.wrapping_add(368), constant(0));
+  store64(frame.wrapping_add(360), v9);
+  store64(frame.wrapping_add(352), v11);
+  sec1_c_picture_lines_Lines_push_row(p0, frame.wrapping_add(8));
+  }
+  if p3 == 0 {
+    break 'after_1;
+  }
+  store32(frame.wrapping_add(33), 0);
+  store8(frame.wrapping_add(32), v5 as u8);
+  store64(frame.wrapping_add(24), v6);
+  store64(frame.wrapping_add(8), v8);
+  store64(frame.wrapping_add(80), 0);
+  store64(frame.wrapping_add(72), 1);
+  store64(frame.wrapping_add(64), 2);
+  store64(frame.wrapping_add(56), constant(1941));
+  store32(frame.wrapping_add(52), 0);
+  store64(frame.wrapping_add(44), 0);
+  store64(frame.wrapping_add(36), 0x100000000);
+  store64(frame.wrapping_add(88), 0);
+  store64(frame.wrapping_add(96), 0);
+  store64(frame.wrapping_add(104), 0);
+  store64(frame.wrapping_add(112), 0);
+  store64(frame.wrapping_add(120), 0);
+  store64(frame.wrapping_add(128), 0);
+  store64(frame.wrapping_add(136), 0);
+  store64(frame.wrapping_add(16), v7.wrapping_sub((u32::from(v7 != 0)) as u64));
+  store64(frame.wrapping_add(144), constant(0));
+  fill(frame.wrapping_add(152), 0, 200);
+  store64(frame.wrapping_add(376), 0);
+  store64(frame.wrapping_add(368), constant(0));
+  store64(frame.wrapping_add(360), 0);
+  store64(frame.wrapping_add(352), constant(0));
+  sec1_c_picture_lines_Lines_push_row(p0, frame.wrapping_add(8));
+  }
+  return;
+}
+
 // der_view::known::Known::see
 unsafe fn der_view_known_Known_see(mut p0: u64, p1: u32, mut p2: u64) {
   let mut array = Frame::<80>::new();
@@ -20840,73 +21169,153 @@ unsafe fn der_view_known_Known_see(mut p0: u64, p1: u32, mut p2: u64) {
 // der_view::walk::draw_step::<#5fb8ad1151d26732>
 unsafe fn der_view_walk_draw_step_5(p0: u64, p1: u64, p2: u64, p3: u64, mut p4: u64, p5: u64,
     mut p6: u64) {
-  let mut array = Frame::<816>::new();
+  let mut array = Frame::<272>::new();
   let frame = address(&raw mut array);
   let mut v8 = 0u32;
   let mut v9 = 0u64;
   let mut v10 = 0u64;
   let mut v11 = 0u64;
   let mut v12 = 0u32;
-  let mut v13 = 0u32;
+  let mut v13 = 0u64;
   let mut v14 = 0u32;
-  let mut v15 = 0u64;
-  let mut v16 = 0u64;
-  let mut v17 = 0u32;
-  let mut v18 = 0u32;
-  let mut v19 = 0u64;
-  let mut v20 = 0u64;
-  let mut v21 = 0u64;
-  let mut v22 = 0u64;
-  let mut v23 = 0u64;
-  let mut v24 = 0u64;
-  let mut v25 = 0u64;
-  let mut v26 = 0u64;
-  let mut v27 = 0u64;
-  let mut v28 = 0u64;
-  let mut v29 = 0u64;
-  store32(frame.wrapping_add(184), load32(p4.wrapping_add(25)));
-  store32(frame.wrapping_add(187), load32(p4.wrapping_add(28)));
+  let mut v15 = 0u32;
+  let mut v16 = 0u32;
+  store32(frame.wrapping_add(248), load32(p4.wrapping_add(25)));
+  store32(frame.wrapping_add(251), load32(p4.wrapping_add(28)));
   'after_5: {
-  'after_6: {
-  'after_7: {
   v8 = load8(p4.wrapping_add(24)) as u32;
   v9 = load64(p4.wrapping_add(16));
   v10 = load64(p4.wrapping_add(8));
   p4 = load64(p4);
-  v11 = 0;
-  store64(frame.wrapping_add(200), 0);
+  store64(frame.wrapping_add(264), 0);
+  store64(frame.wrapping_add(256), 0);
+  store64(frame.wrapping_add(208), 0);
+  store64(frame.wrapping_add(216), 0);
+  store64(frame.wrapping_add(224), 0);
+  store64(frame.wrapping_add(232), 0);
+  store64(frame.wrapping_add(240), 0);
+  store64(frame.wrapping_add(184), 0);
   store64(frame.wrapping_add(192), 0);
-  v12 = 0;
-  store32(frame.wrapping_add(176), 0);
-  store32(frame.wrapping_add(179), 0);
-  store64(frame.wrapping_add(136), 0);
-  store64(frame.wrapping_add(144), 0);
+  store64(frame.wrapping_add(200), 0);
   store64(frame.wrapping_add(152), 0);
   store64(frame.wrapping_add(160), 0);
   store64(frame.wrapping_add(168), 0);
-  store64(frame.wrapping_add(112), 0);
-  store64(frame.wrapping_add(120), 0);
-  store64(frame.wrapping_add(128), 0);
-  store64(frame.wrapping_add(88), 0);
-  store64(frame.wrapping_add(96), 0);
-  store64(frame.wrapping_add(104), 0);
-  store64(frame.wrapping_add(80), 0);
-  store64(frame.wrapping_add(72), 0);
+  store64(frame.wrapping_add(176), 0);
   store64(frame.wrapping_add(64), 0);
+  store64(frame.wrapping_add(72), 0);
+  store64(frame.wrapping_add(80), 0);
   store64(frame.wrapping_add(56), 0);
   store64(frame.wrapping_add(48), 0);
   store64(frame.wrapping_add(40), 0);
-  v13 = 1;
-  v14 = v8 & 1;
-  v15 = v10.wrapping_add(1);
-  v16 = p4.wrapping_add(load64(p6.wrapping_add(16)));
-  v17 = load8(p2) as u32;
+  store64(frame.wrapping_add(32), 0);
+  store64(frame.wrapping_add(16), 0);
+  store64(frame.wrapping_add(24), 0);
+  v11 = v10.wrapping_add(1);
+  store64(frame.wrapping_add(128), v11);
+  store64(frame.wrapping_add(136), v9);
+  v12 = v8 & 1;
+  store8(frame.wrapping_add(144), v12 as u8);
+  store32(frame.wrapping_add(145), 0);
+  store32(frame.wrapping_add(148), 0);
+  v13 = p4.wrapping_add(load64(p6.wrapping_add(16)));
+  store64(frame.wrapping_add(120), v13);
+  der_view_walk_opened_of_5(frame.wrapping_add(152), p1, p2, p3, frame.wrapping_add(120), p6);
+  store8(frame.wrapping_add(112), v8 as u8);
+  store64(frame.wrapping_add(104), v9);
+  store64(frame.wrapping_add(96), v10);
+  store64(frame.wrapping_add(88), p4);
+  store32(frame.wrapping_add(113), load32(frame.wrapping_add(248)));
+  store32(frame.wrapping_add(116), load32(frame.wrapping_add(251)));
+  v14 = load8(frame.wrapping_add(176)) as u32;
+  p4 = load64(frame.wrapping_add(168));
+  v15 = load8(frame.wrapping_add(160)) as u32;
+  v8 = load8(frame.wrapping_add(152)) as u32;
+  der_view_walk_draw_element_5(p1, p2, frame.wrapping_add(88), p5, u32::from(v8 == 1), p6);
   'after_4: {
   'after_3: {
   'after_2: {
   'after_1: {
-  v18 = load8(p6.wrapping_add(58)) as u32;
-  match ((v18 as u64) & 255) as u32 {
+  if v8 != 1 {
+    break 'after_1;
+  }
+  v8 = load8(p6.wrapping_add(24)) as u32;
+  v16 = load8(p5.wrapping_add(1)) as u32;
+  der_view_grammar_Structure_components(frame, v15);
+  store8(frame.wrapping_add(209), v16 as u8);
+  store8(frame.wrapping_add(208), (u32::from(v8 != 1)) as u8);
+  store8(frame.wrapping_add(184), v14 as u8);
+  store64(frame.wrapping_add(32), p4.wrapping_add(v13));
+  store64(frame.wrapping_add(40), v11);
+  store64(frame.wrapping_add(48), v9);
+  store8(frame.wrapping_add(56), v12 as u8);
+  store64(frame.wrapping_add(224), load64(frame.wrapping_add(8)));
+  store64(frame.wrapping_add(216), load64(frame));
+  store8(frame.wrapping_add(185), (load8(p2.wrapping_add(1)) as u32) as u8);
+  store64(frame.wrapping_add(192), load64(p2.wrapping_add(8)));
+  store64(frame.wrapping_add(200), load64(p2.wrapping_add(16)));
+  store64(frame.wrapping_add(240), (load64(p6.wrapping_add(96))).wrapping_sub(p4));
+  store64(frame.wrapping_add(232), (load64(p6.wrapping_add(88))).wrapping_add(p4));
+  store32(frame.wrapping_add(60), 0);
+  store32(frame.wrapping_add(57), 0);
+  der_view_walk_walk_5(frame.wrapping_add(64), p1, frame.wrapping_add(184), p3,
+      frame.wrapping_add(32), frame.wrapping_add(208));
+  if (load8(frame.wrapping_add(64)) as u32) != 1 {
+    break 'after_2;
+  }
+  if v8 == 1 {
+    break 'after_3;
+  }
+  store64(frame.wrapping_add(24), load64(frame.wrapping_add(80)));
+  store64(frame.wrapping_add(16), load64(frame.wrapping_add(72)));
+  break 'after_4;
+  }
+  p4 = load64(p6.wrapping_add(112));
+  p6 = load64(p6.wrapping_add(104));
+  store64(p0, 1);
+  store64(p0.wrapping_add(8), p6);
+  store64(p0.wrapping_add(16), p4);
+  store64(frame.wrapping_add(264), p4);
+  store64(frame.wrapping_add(256), p6);
+  break 'after_5;
+  }
+  store64(p0.wrapping_add(16), 0);
+  store64(p0.wrapping_add(8), 0);
+  store64(p0, 0);
+  break 'after_5;
+  }
+  store64(frame.wrapping_add(24), load64(p6.wrapping_add(112)));
+  store64(frame.wrapping_add(16), load64(p6.wrapping_add(104)));
+  }
+  store64(p0, 1);
+  store64(p0.wrapping_add(8), load64(frame.wrapping_add(16)));
+  store64(p0.wrapping_add(16), load64(frame.wrapping_add(24)));
+  break 'after_5;
+  }
+}
+
+// der_view::walk::opened_of::<#5fb8ad1151d26732>
+unsafe fn der_view_walk_opened_of_5(p0: u64, p1: u64, p2: u64, p3: u64, p4: u64, mut p5: u64) {
+  let mut array = Frame::<192>::new();
+  let frame = address(&raw mut array);
+  let mut v7 = 0u32;
+  let mut v8 = 0u32;
+  let mut v9 = 0u32;
+  let mut v10 = 0u64;
+  let mut v11 = 0u64;
+  let mut v12 = 0u64;
+  let mut v13 = 0u64;
+  let mut v14 = 0u32;
+  v7 = 0;
+  store32(frame.wrapping_add(59), 0);
+  store32(frame.wrapping_add(56), 0);
+  v8 = load8(p2) as u32;
+  'after_5: {
+  'after_4: {
+  'after_3: {
+  'after_2: {
+  'after_1: {
+  v9 = load8(p5.wrapping_add(58)) as u32;
+  match ((v9 as u64) & 255) as u32 {
   6 => {
     break 'after_1;
   }
@@ -20921,243 +21330,143 @@ unsafe fn der_view_walk_draw_step_5(p0: u64, p1: u64, p2: u64, p3: u64, mut p4: 
   }
   }
   }
-  v12 = load8(p6.wrapping_add(59)) as u32;
+  store32(frame.wrapping_add(64), 0);
+  store32(frame.wrapping_add(67), 0);
+  v10 = load8(p5.wrapping_add(59)) as u64;
+  p5 = 0;
+  v11 = 1;
+  v7 = v8;
   break 'after_5;
   }
-  v19 = load64(p6.wrapping_add(88));
-  v20 = load64(p6.wrapping_add(96));
-  v12 = load8(p6.wrapping_add(59)) as u32;
-  v17 = 0;
-  store32(frame.wrapping_add(233), 0);
-  store8(frame.wrapping_add(232), v14 as u8);
-  store64(frame.wrapping_add(224), v9);
-  store64(frame.wrapping_add(216), v15);
-  store64(frame.wrapping_add(208), v16);
-  store32(frame.wrapping_add(236), 0);
-  v11 = 0;
-  store64(frame.wrapping_add(408), 0);
-  store64(frame.wrapping_add(344), 0);
-  store64(frame.wrapping_add(784), 0);
-  store64(frame.wrapping_add(792), 0);
-  store64(frame.wrapping_add(800), 0);
-  der_view_grammar_Structure_components(frame.wrapping_add(24), v12);
-  store64(frame.wrapping_add(440), v20);
-  store64(frame.wrapping_add(432), v19);
-  store16(frame.wrapping_add(408), 256);
-  store8(frame.wrapping_add(344), 0);
-  store64(frame.wrapping_add(424), load64(frame.wrapping_add(32)));
-  store64(frame.wrapping_add(416), load64(frame.wrapping_add(24)));
-  store64(frame.wrapping_add(352), load64(p2.wrapping_add(8)));
-  store64(frame.wrapping_add(360), load64(p2.wrapping_add(16)));
-  store8(frame.wrapping_add(345), (load8(p2.wrapping_add(1)) as u32) as u8);
-  der_view_walk_walk_5(frame.wrapping_add(784), p1, frame.wrapping_add(344), p3,
-      frame.wrapping_add(208), frame.wrapping_add(408));
-  v13 = u32::from((load8(frame.wrapping_add(784)) as u32) == 1);
-  v12 = if v13 != 0 { v12 } else { 0u32 };
+  v11 = load64(p5.wrapping_add(88));
+  v10 = load64(p5.wrapping_add(96));
+  v8 = load8(p5.wrapping_add(59)) as u32;
+  p5 = 0;
+  store64(frame.wrapping_add(120), 0);
+  store64(frame.wrapping_add(96), 0);
+  store64(frame.wrapping_add(72), 0);
+  store64(frame.wrapping_add(80), 0);
+  store64(frame.wrapping_add(88), 0);
+  store64(frame.wrapping_add(160), load64(p4));
+  store64(frame.wrapping_add(168), load64(p4.wrapping_add(8)));
+  store64(frame.wrapping_add(176), load64(p4.wrapping_add(16)));
+  store64(frame.wrapping_add(184), load64(p4.wrapping_add(24)));
+  der_view_grammar_Structure_components(frame.wrapping_add(8), v8);
+  store64(frame.wrapping_add(152), v10);
+  store64(frame.wrapping_add(144), v11);
+  store16(frame.wrapping_add(120), 256);
+  store8(frame.wrapping_add(96), 0);
+  store64(frame.wrapping_add(136), load64(frame.wrapping_add(16)));
+  store64(frame.wrapping_add(128), load64(frame.wrapping_add(8)));
+  store64(frame.wrapping_add(104), load64(p2.wrapping_add(8)));
+  store64(frame.wrapping_add(112), load64(p2.wrapping_add(16)));
+  store8(frame.wrapping_add(97), (load8(p2.wrapping_add(1)) as u32) as u8);
+  der_view_walk_walk_5(frame.wrapping_add(72), p1, frame.wrapping_add(96), p3,
+      frame.wrapping_add(160), frame.wrapping_add(120));
+  v9 = load8(frame.wrapping_add(72)) as u32;
+  store32(frame.wrapping_add(123), 0);
+  store32(frame.wrapping_add(120), 0);
+  store32(frame.wrapping_add(64), load32(frame.wrapping_add(120)));
+  store32(frame.wrapping_add(67), load32(frame.wrapping_add(123)));
+  v9 = u32::from(v9 == 1);
+  v10 = ((if v9 != 0 { v8 } else { 0u32 }) as u64) & 255;
+  v11 = v9 as u64;
   break 'after_5;
   }
-  v19 = load64(p6.wrapping_add(96));
-  if v19 == 0 {
+  v10 = 0;
+  'after_7: {
+  'after_6: {
+  v12 = load64(p5.wrapping_add(96));
+  if v12 != 0 {
     break 'after_6;
   }
-  v13 = 0;
-  v20 = load64(p6.wrapping_add(88));
-  if (load8(v20) as u32) != 0 {
-    break 'after_7;
-  }
-  'after_8: {
-  v19 = v19.wrapping_add(0xffffffffffffffff);
-  if v19 != 0 {
-    break 'after_8;
-  }
-  v13 = 0;
+  v11 = 0;
   break 'after_7;
   }
-  v12 = load8(p6.wrapping_add(59)) as u32;
-  v17 = 0;
-  store32(frame.wrapping_add(433), 0);
-  store8(frame.wrapping_add(432), v14 as u8);
-  store64(frame.wrapping_add(424), v9);
-  store64(frame.wrapping_add(416), v15);
-  store64(frame.wrapping_add(408), v16);
-  store32(frame.wrapping_add(436), 0);
-  let t0 = der_view_walk_follows_5(p1, p2, p3, frame.wrapping_add(408), v12,
-      v20.wrapping_add(1), v19);
-  v13 = t0;
-  v12 = if v13 != 0 { v12 } else { 0u32 };
-  v11 = v13 as u64;
+  'after_8: {
+  v13 = load64(p5.wrapping_add(88));
+  if (load8(v13) as u32) == 0 {
+    break 'after_8;
+  }
+  v11 = 0;
+  break 'after_7;
+  }
+  v11 = 0;
+  v12 = v12.wrapping_add(0xffffffffffffffff);
+  if v12 == 0 {
+    break 'after_7;
+  }
+  v7 = load8(p5.wrapping_add(59)) as u32;
+  store64(frame.wrapping_add(48), load64(p4.wrapping_add(24)));
+  store64(frame.wrapping_add(40), load64(p4.wrapping_add(16)));
+  store64(frame.wrapping_add(32), load64(p4.wrapping_add(8)));
+  store64(frame.wrapping_add(24), load64(p4));
+  let t0 = der_view_walk_follows_5(p1, p2, p3, frame.wrapping_add(24), v7, v13.wrapping_add(1),
+      v12);
+  v8 = t0;
+  store32(frame.wrapping_add(123), 0);
+  store32(frame.wrapping_add(120), 0);
+  store32(frame.wrapping_add(56), load32(frame.wrapping_add(120)));
+  store32(frame.wrapping_add(59), load32(frame.wrapping_add(123)));
+  v10 = if v8 != 0 { (v7 as u64) & 255 } else { 0u64 };
+  v11 = v8 as u64;
+  }
+  store32(frame.wrapping_add(67), load32(frame.wrapping_add(59)));
+  store32(frame.wrapping_add(64), load32(frame.wrapping_add(56)));
+  v7 = 0;
+  p5 = v11;
   break 'after_5;
   }
-  v13 = 1;
+  'after_11: {
   'after_9: {
-  if (load8(p6.wrapping_add(24)) as u32) != 1 {
+  if (load8(p5.wrapping_add(24)) as u32) != 1 {
     break 'after_9;
   }
-  v12 = 0;
-  if (load8(p6.wrapping_add(1)) as u32) != 1 {
-    break 'after_6;
-  }
-  if (((u32::from((v18 & 255) == 9)) | v17) & 1) == 0 {
-    break 'after_6;
-  }
-  }
-  v12 = 84;
-  break 'after_5;
-  }
-  v12 = 0;
-  v17 = 0;
-  break 'after_5;
-  }
-  v13 = 0;
-  v17 = 0;
-  }
-  v19 = (frame.wrapping_add(208)).wrapping_add(56);
-  fill(v19, 0, 80);
+  v14 = load8(p5.wrapping_add(1)) as u32;
+  v7 = 0;
+  store32(frame.wrapping_add(123), 0);
+  store32(frame.wrapping_add(120), 0);
+  v10 = 0;
   'after_10: {
-  if (load8(p5.wrapping_add(1)) as u32) != 0 {
+  if v14 == 1 {
     break 'after_10;
   }
-  store64(frame.wrapping_add(376), load64(p6.wrapping_add(32)));
-  store64(frame.wrapping_add(368), load64(p6.wrapping_add(24)));
-  store64(frame.wrapping_add(360), load64(p6.wrapping_add(16)));
-  store64(frame.wrapping_add(352), load64(p6.wrapping_add(8)));
-  store64(frame.wrapping_add(344), load64(p6));
-  v21 = load64(p6.wrapping_add(88));
-  v20 = load64(p6.wrapping_add(96));
-  let t1 = der_view_content_shown_len(load8(p2.wrapping_add(1)) as u32, frame.wrapping_add(344),
-      load8(p6.wrapping_add(58)) as u32, load8(p6.wrapping_add(59)) as u32, v21, v20);
-  v22 = t1;
-  v23 = constant(0);
-  v24 = 0;
-  v25 = 0;
-  v26 = constant(0);
-  'after_11: {
-  v18 = load8(p6.wrapping_add(80)) as u32;
-  if v18 != 0 {
+  v11 = 0;
+  break 'after_11;
+  }
+  v11 = 0;
+  if (((u32::from((v9 & 255) == 9)) | v8) & 1) == 0 {
     break 'after_11;
   }
-  v25 = load64(p5.wrapping_add(16));
-  v26 = load64(p5.wrapping_add(8));
   }
-  v27 = p6.wrapping_add(40);
-  v28 = p6.wrapping_add(56);
-  v29 = if (load8(frame.wrapping_add(368)) as u32) == 1 { v20 } else { 0u64 };
-  'after_12: {
-  if v13 != 0 {
-    break 'after_12;
+  store32(frame.wrapping_add(123), 0);
+  store32(frame.wrapping_add(120), 0);
+  v11 = 1;
+  v10 = 84;
+  v7 = v8;
   }
-  v23 = load64(p2.wrapping_add(16));
-  v24 = (load64(frame.wrapping_add(360))).wrapping_add(p4);
-  let t2 = v23;
-  v23 = if v23 < v24 { v23 } else { v24 };
-  v24 = t2.wrapping_sub(v23);
-  v24 = if v24 < v20 { v24 } else { v20 };
-  v23 = (load64(p2.wrapping_add(8))).wrapping_add(v23);
+  store32(frame.wrapping_add(67), load32(frame.wrapping_add(123)));
+  store32(frame.wrapping_add(64), load32(frame.wrapping_add(120)));
+  p5 = 0;
   }
-  store32(v19, load32(v28));
-  store8(v19.wrapping_add(4), (load8(v28.wrapping_add(4)) as u32) as u8);
-  store64(frame.wrapping_add(240), load64(p6.wrapping_add(32)));
-  store64(frame.wrapping_add(232), load64(p6.wrapping_add(24)));
-  store64(frame.wrapping_add(224), load64(p6.wrapping_add(16)));
-  store64(frame.wrapping_add(216), load64(p6.wrapping_add(8)));
-  store64(frame.wrapping_add(208), load64(p6));
-  store64(frame.wrapping_add(248), load64(v27));
-  store64(frame.wrapping_add(256), load64(v27.wrapping_add(8)));
-  store8(frame.wrapping_add(336), v13 as u8);
-  store64(frame.wrapping_add(328), v24);
-  store64(frame.wrapping_add(320), v23);
-  store64(frame.wrapping_add(312), v22);
-  store64(frame.wrapping_add(304), v21);
-  store64(frame.wrapping_add(296), v29);
-  store8(frame.wrapping_add(288), v18 as u8);
-  store64(frame.wrapping_add(280), v25);
-  store64(frame.wrapping_add(272), v26);
-  store8(frame.wrapping_add(808), v8 as u8);
-  store64(frame.wrapping_add(800), v9);
-  store64(frame.wrapping_add(792), v10);
-  store64(frame.wrapping_add(784), p4);
-  store32(frame.wrapping_add(809), load32(frame.wrapping_add(184)));
-  store32(frame.wrapping_add(812), load32(frame.wrapping_add(187)));
-  fill(frame.wrapping_add(408), 0, 376);
-  store64(frame.wrapping_add(400), load64(p1.wrapping_add(16)));
-  store64(frame.wrapping_add(392), load64(p1.wrapping_add(8)));
-  store64(frame.wrapping_add(384), load64(p1));
-  der_view_facts_RowFacts_of_element(frame.wrapping_add(408), frame.wrapping_add(384), 0,
-      frame.wrapping_add(784), frame.wrapping_add(208));
-  der_view_known_Known_see(p1, load8(frame.wrapping_add(268)) as u32, frame.wrapping_add(408));
-  }
-  'after_17: {
-  'after_16: {
-  'after_15: {
-  'after_14: {
-  'after_13: {
-  if v13 == 0 {
-    break 'after_13;
-  }
-  v13 = load8(p6.wrapping_add(24)) as u32;
-  v8 = load8(p5.wrapping_add(1)) as u32;
-  der_view_grammar_Structure_components(frame.wrapping_add(8), v12);
-  store8(frame.wrapping_add(137), v8 as u8);
-  v13 = u32::from(v13 != 1);
-  store8(frame.wrapping_add(136), v13 as u8);
-  store8(frame.wrapping_add(112), v17 as u8);
-  store64(frame.wrapping_add(56), v11.wrapping_add(v16));
-  store64(frame.wrapping_add(64), v15);
-  store64(frame.wrapping_add(72), v9);
-  store8(frame.wrapping_add(80), v14 as u8);
-  store64(frame.wrapping_add(152), load64(frame.wrapping_add(16)));
-  store64(frame.wrapping_add(144), load64(frame.wrapping_add(8)));
-  store8(frame.wrapping_add(113), (load8(p2.wrapping_add(1)) as u32) as u8);
-  store64(frame.wrapping_add(120), load64(p2.wrapping_add(8)));
-  store64(frame.wrapping_add(128), load64(p2.wrapping_add(16)));
-  store64(frame.wrapping_add(168), (load64(p6.wrapping_add(96))).wrapping_sub(v11));
-  store64(frame.wrapping_add(160), (load64(p6.wrapping_add(88))).wrapping_add(v11));
-  store32(frame.wrapping_add(84), load32(frame.wrapping_add(179)));
-  store32(frame.wrapping_add(81), load32(frame.wrapping_add(176)));
-  der_view_walk_walk_5(frame.wrapping_add(88), p1, frame.wrapping_add(112), p3,
-      frame.wrapping_add(56), frame.wrapping_add(136));
-  if (load8(frame.wrapping_add(88)) as u32) != 1 {
-    break 'after_14;
-  }
-  if v13 == 0 {
-    break 'after_15;
-  }
-  store64(frame.wrapping_add(48), load64(frame.wrapping_add(104)));
-  store64(frame.wrapping_add(40), load64(frame.wrapping_add(96)));
-  break 'after_16;
-  }
-  p4 = load64(p6.wrapping_add(112));
-  p6 = load64(p6.wrapping_add(104));
-  store64(p0, 1);
-  store64(p0.wrapping_add(8), p6);
-  store64(p0.wrapping_add(16), p4);
-  store64(frame.wrapping_add(200), p4);
-  store64(frame.wrapping_add(192), p6);
-  break 'after_17;
-  }
-  store64(p0.wrapping_add(16), 0);
-  store64(p0.wrapping_add(8), 0);
-  store64(p0, 0);
-  break 'after_17;
-  }
-  store64(frame.wrapping_add(48), load64(p6.wrapping_add(112)));
-  store64(frame.wrapping_add(40), load64(p6.wrapping_add(104)));
-  }
-  store64(p0, 1);
-  store64(p0.wrapping_add(8), load64(frame.wrapping_add(40)));
-  store64(p0.wrapping_add(16), load64(frame.wrapping_add(48)));
-  }
+  store64(p0, v11);
+  store8(p0.wrapping_add(24), v7 as u8);
+  store64(p0.wrapping_add(16), p5);
+  store64(p0.wrapping_add(8), v10);
+  store32(p0.wrapping_add(25), load32(frame.wrapping_add(64)));
+  store32(p0.wrapping_add(28), load32(frame.wrapping_add(67)));
+  return;
 }
 
-// der_view::walk::walk::<#5fb8ad1151d26732>
-unsafe fn der_view_walk_walk_5(p0: u64, p1: u64, mut p2: u64, mut p3: u64, mut p4: u64,
-    mut p5: u64) {
-  let mut array = Frame::<592>::new();
+// der_view::walk::draw_element::<#5fb8ad1151d26732>
+unsafe fn der_view_walk_draw_element_5(p0: u64, p1: u64, mut p2: u64, mut p3: u64, p4: u32,
+    p5: u64) {
+  let mut array = Frame::<608>::new();
   let frame = address(&raw mut array);
   let mut v7 = 0u64;
   let mut v8 = 0u64;
-  let mut v9 = 0u32;
-  let mut v10 = 0u32;
+  let mut v9 = 0u64;
+  let mut v10 = 0u64;
   let mut v11 = 0u64;
   let mut v12 = 0u64;
   let mut v13 = 0u64;
@@ -21165,449 +21474,350 @@ unsafe fn der_view_walk_walk_5(p0: u64, p1: u64, mut p2: u64, mut p3: u64, mut p
   let mut v15 = 0u32;
   let mut v16 = 0u64;
   let mut v17 = 0u64;
-  let mut v18 = 0u64;
-  let mut v19 = 0u32;
-  let mut v20 = 0u64;
-  let mut v21 = 0u32;
-  'after_16: {
+  v7 = load64(p2);
+  fill(frame.wrapping_add(56), 0, 80);
+  'after_1: {
+  if (load8(p3.wrapping_add(1)) as u32) == 1 {
+    break 'after_1;
+  }
+  store64(frame.wrapping_add(168), load64(p5.wrapping_add(32)));
+  store64(frame.wrapping_add(160), load64(p5.wrapping_add(24)));
+  store64(frame.wrapping_add(152), load64(p5.wrapping_add(16)));
+  store64(frame.wrapping_add(144), load64(p5.wrapping_add(8)));
+  store64(frame.wrapping_add(136), load64(p5));
+  v8 = load64(p5.wrapping_add(88));
+  v9 = load64(p5.wrapping_add(96));
+  let t0 = der_view_content_shown_len(load8(p1.wrapping_add(1)) as u32, frame.wrapping_add(136),
+      load8(p5.wrapping_add(58)) as u32, load8(p5.wrapping_add(59)) as u32, v8, v9);
+  v10 = t0;
+  v11 = constant(0);
+  v12 = 0;
+  v13 = 0;
+  v14 = constant(0);
   'after_2: {
-  'after_10: {
+  v15 = load8(p5.wrapping_add(80)) as u32;
+  if v15 != 0 {
+    break 'after_2;
+  }
+  v13 = load64(p3.wrapping_add(16));
+  v14 = load64(p3.wrapping_add(8));
+  }
+  p2 = p2.wrapping_add(8);
+  p3 = p5.wrapping_add(40);
+  v16 = p5.wrapping_add(56);
+  v17 = if (load8(frame.wrapping_add(160)) as u32) == 1 { v9 } else { 0u64 };
   'after_3: {
+  if p4 != 0 {
+    break 'after_3;
+  }
+  v11 = load64(p1.wrapping_add(16));
+  v12 = (load64(frame.wrapping_add(152))).wrapping_add(v7);
+  let t1 = v11;
+  v11 = if v11 < v12 { v11 } else { v12 };
+  v12 = t1.wrapping_sub(v11);
+  v12 = if v12 < v9 { v12 } else { v9 };
+  v11 = (load64(p1.wrapping_add(8))).wrapping_add(v11);
+  }
+  store64(frame.wrapping_add(32), load64(p5.wrapping_add(32)));
+  store64(frame.wrapping_add(24), load64(p5.wrapping_add(24)));
+  store64(frame.wrapping_add(16), load64(p5.wrapping_add(16)));
+  store64(frame.wrapping_add(8), load64(p5.wrapping_add(8)));
+  store64(frame, load64(p5));
+  store64(frame.wrapping_add(40), load64(p3));
+  store64(frame.wrapping_add(48), load64(p3.wrapping_add(8)));
+  store32(frame.wrapping_add(56), load32(v16));
+  store8(frame.wrapping_add(60), (load8(v16.wrapping_add(4)) as u32) as u8);
+  store8(frame.wrapping_add(128), p4 as u8);
+  store64(frame.wrapping_add(120), v12);
+  store64(frame.wrapping_add(112), v11);
+  store64(frame.wrapping_add(104), v10);
+  store64(frame.wrapping_add(96), v8);
+  store64(frame.wrapping_add(88), v17);
+  store8(frame.wrapping_add(80), v15 as u8);
+  store64(frame.wrapping_add(72), v13);
+  store64(frame.wrapping_add(64), v14);
+  store64(frame.wrapping_add(576), v7);
+  store64(frame.wrapping_add(584), load64(p2));
+  store64(frame.wrapping_add(592), load64(p2.wrapping_add(8)));
+  store64(frame.wrapping_add(600), load64(p2.wrapping_add(16)));
+  fill(frame.wrapping_add(200), 0, 376);
+  store64(frame.wrapping_add(192), load64(p0.wrapping_add(16)));
+  store64(frame.wrapping_add(184), load64(p0.wrapping_add(8)));
+  store64(frame.wrapping_add(176), load64(p0));
+  der_view_facts_RowFacts_of_element(frame.wrapping_add(200), frame.wrapping_add(176), 0,
+      frame.wrapping_add(576), frame);
+  der_view_known_Known_see(p0, load8(frame.wrapping_add(60)) as u32, frame.wrapping_add(200));
+  }
+  return;
+}
+
+// der_view::walk::walk::<#5fb8ad1151d26732>
+unsafe fn der_view_walk_walk_5(p0: u64, p1: u64, p2: u64, mut p3: u64, mut p4: u64, mut p5: u64) {
+  let mut array = Frame::<464>::new();
+  let frame = address(&raw mut array);
+  let mut v7 = 0u32;
+  let mut v8 = 0u32;
+  let mut v9 = 0u64;
+  let mut v10 = 0u64;
+  let mut v11 = 0u64;
+  let mut v12 = 0u64;
+  let mut v13 = 0u64;
+  let mut v14 = 0u32;
+  let mut v15 = 0u64;
+  let mut v16 = 0u64;
+  let mut v17 = 0u64;
+  let mut v18 = 0u32;
+  let mut v19 = 0u64;
+  let mut v20 = 0u32;
+  'after_14: {
+  'after_9: {
+  'after_1: {
+  'after_2: {
+  fill(frame.wrapping_add(144), 0, 120);
   store64(frame.wrapping_add(16), 0);
   store64(frame.wrapping_add(8), 0);
   store64(frame, 0);
-  store64(frame.wrapping_add(184), load64(p4));
-  store64(frame.wrapping_add(192), load64(p4.wrapping_add(8)));
-  store64(frame.wrapping_add(200), load64(p4.wrapping_add(16)));
-  store64(frame.wrapping_add(208), load64(p4.wrapping_add(24)));
-  store64(frame.wrapping_add(144), load64(p5));
-  store64(frame.wrapping_add(152), load64(p5.wrapping_add(8)));
-  store64(frame.wrapping_add(160), load64(p5.wrapping_add(16)));
-  store64(frame.wrapping_add(168), load64(p5.wrapping_add(24)));
-  store64(frame.wrapping_add(176), load64(p5.wrapping_add(32)));
-  v7 = load64(frame.wrapping_add(184));
-  'after_1: {
-  if p3 != 0 {
+  store64(frame.wrapping_add(304), load64(p4));
+  store64(frame.wrapping_add(312), load64(p4.wrapping_add(8)));
+  store64(frame.wrapping_add(320), load64(p4.wrapping_add(16)));
+  store64(frame.wrapping_add(328), load64(p4.wrapping_add(24)));
+  store64(frame.wrapping_add(264), load64(p5));
+  store64(frame.wrapping_add(272), load64(p5.wrapping_add(8)));
+  store64(frame.wrapping_add(280), load64(p5.wrapping_add(16)));
+  store64(frame.wrapping_add(288), load64(p5.wrapping_add(24)));
+  store64(frame.wrapping_add(296), load64(p5.wrapping_add(32)));
+  if p3 == 0 {
     break 'after_1;
   }
-  v8 = load64(frame.wrapping_add(192));
-  break 'after_2;
+  v7 = load8(frame.wrapping_add(264)) as u32;
+  v8 = v7 ^ 1;
+  p4 = load64(frame.wrapping_add(296));
+  if (load64(frame.wrapping_add(312))) > 63 {
+    break 'after_2;
   }
-  v9 = load8(frame.wrapping_add(144)) as u32;
-  v10 = v9 ^ 1;
-  p4 = load64(frame.wrapping_add(176));
-  v8 = load64(frame.wrapping_add(192));
-  if v8 > 63 {
+  v9 = frame.wrapping_add(208);
+  v10 = (frame.wrapping_add(336)).wrapping_add(8);
+  v11 = (frame.wrapping_add(264)).wrapping_add(8);
+  v12 = load64(frame.wrapping_add(288));
+  v13 = load64(frame.wrapping_add(304));
+  'again_13: loop {
+  v14 = load8(p2) as u32;
+  v15 = load64(frame.wrapping_add(280));
+  v16 = load64(frame.wrapping_add(272));
+  'after_4: {
+  'after_7: {
+  'after_3: {
+  if p4 > 1 {
     break 'after_3;
   }
-  v11 = (frame.wrapping_add(216)).wrapping_add(8);
-  v12 = (frame.wrapping_add(144)).wrapping_add(8);
-  v13 = frame.wrapping_add(88);
-  v14 = load64(frame.wrapping_add(168));
-  'again_15: loop {
-  v15 = load8(p2) as u32;
-  v16 = load64(frame.wrapping_add(160));
-  v17 = load64(frame.wrapping_add(152));
   'after_5: {
-  'after_8: {
-  'after_4: {
-  if p4 > 1 {
+  match p4 as u32 {
+  1 => {
     break 'after_4;
   }
-  'after_6: {
-  match p4 as u32 {
-  1 => {
+  _ => {
     break 'after_5;
   }
-  _ => {
+  }
+  }
+  'after_6: {
+  if ((v7 | v14) & 255) == 0 {
     break 'after_6;
   }
+  v17 = 0;
+  v18 = v14;
+  break 'after_7;
   }
+  v17 = 0;
+  'after_8: {
+  if v15 != 0 {
+    break 'after_8;
   }
-  'after_7: {
-  if ((v9 | v15) & 255) == 0 {
+  p4 = 0;
+  break 'after_9;
+  }
+  p5 = v16.wrapping_add(1);
+  v19 = v15;
+  'again_10: loop {
+  if (load8(p5) as u32) == 0 {
+    break 'after_4;
+  }
+  p5 = p5.wrapping_add(5);
+  v19 = v19.wrapping_add(0xffffffffffffffff);
+  if v19 != 0 {
+    continue 'again_10;
+  }
+  break;
+  }
+  p4 = 0;
+  break 'after_9;
+  }
+  if (load8(v12) as u32) != 0 {
+    break 'after_4;
+  }
+  v18 = (u32::from((load8(v12.wrapping_add(1)) as u32) != 0)) | v8;
+  v20 = v18 & 1;
+  v17 = if v20 != 0 { 0u64 } else { 2u64 };
+  v18 = v18 ^ 1;
+  if v20 != 0 {
     break 'after_7;
   }
-  v18 = 0;
-  v19 = v15;
-  break 'after_8;
+  if (v14 & 1) != 0 {
+    break 'after_7;
   }
-  v18 = 0;
-  'after_9: {
-  if v16 != 0 {
+  v17 = 2;
+  if v15 == 0 {
     break 'after_9;
   }
-  v16 = 0;
-  p4 = 0;
-  break 'after_10;
-  }
-  p5 = v17.wrapping_add(1);
-  v20 = v16;
+  p5 = v16.wrapping_add(1);
+  v19 = v15;
   'again_11: loop {
   if (load8(p5) as u32) == 0 {
-    break 'after_5;
+    break 'after_4;
   }
   p5 = p5.wrapping_add(5);
-  v20 = v20.wrapping_add(0xffffffffffffffff);
-  if v20 != 0 {
+  v19 = v19.wrapping_add(0xffffffffffffffff);
+  if v19 != 0 {
     continue 'again_11;
   }
-  break;
+  break 'after_9;
   }
-  p4 = 0;
-  break 'after_10;
   }
-  if (load8(v14) as u32) != 0 {
-    break 'after_5;
+  if (v18 & 1) != 0 {
+    break 'after_9;
   }
-  v19 = (u32::from((load8(v14.wrapping_add(1)) as u32) != 0)) | v10;
-  v21 = v19 & 1;
-  v18 = if v21 != 0 { 0u64 } else { 2u64 };
-  v19 = v19 ^ 1;
-  if v21 != 0 {
-    break 'after_8;
   }
-  if (v15 & 1) != 0 {
-    break 'after_8;
+  fill(frame.wrapping_add(336), 0, 128);
+  v14 = v14 & 1;
+  der_view_step_step_by(frame.wrapping_add(336), v14, v14, v16, v15, v12, p4);
+  v14 = load8(frame.wrapping_add(336)) as u32;
+  move_(frame.wrapping_add(24), v10, 120);
+  if v14 != 1 {
+    break 'after_1;
   }
-  v18 = 2;
+  move_(frame.wrapping_add(144), frame.wrapping_add(24), 120);
+  p3 = p3.wrapping_add(0xffffffffffffffff);
+  der_view_walk_draw_step_5(frame, p1, p2, p3, frame.wrapping_add(304), frame.wrapping_add(264),
+      frame.wrapping_add(144));
   'after_12: {
-  if v16 != 0 {
+  if (load8(frame) as u32) != 1 {
     break 'after_12;
   }
-  v16 = 0;
-  break 'after_10;
-  }
-  p5 = v17.wrapping_add(1);
-  v20 = v16;
-  'again_13: loop {
-  if (load8(p5) as u32) == 0 {
-    break 'after_5;
-  }
-  p5 = p5.wrapping_add(5);
-  v20 = v20.wrapping_add(0xffffffffffffffff);
-  if v20 != 0 {
+  store64(v11, load64(v9));
+  store64(v11.wrapping_add(8), load64(v9.wrapping_add(8)));
+  p5 = load64(frame.wrapping_add(16));
+  store64(frame.wrapping_add(296), p5);
+  v12 = load64(frame.wrapping_add(8));
+  store64(frame.wrapping_add(288), v12);
+  v13 = (p4.wrapping_sub(p5)).wrapping_add(v13);
+  store64(frame.wrapping_add(304), v13);
+  p4 = p5;
+  if p3 != 0 {
     continue 'again_13;
   }
-  break 'after_10;
-  }
-  }
-  if (v19 & 1) != 0 {
-    break 'after_10;
-  }
-  }
-  fill(frame.wrapping_add(216), 0, 128);
-  v15 = v15 & 1;
-  der_view_step_step_by(frame.wrapping_add(216), v15, v15, v17, v16, v14, p4);
-  v15 = load8(frame.wrapping_add(216)) as u32;
-  move_(frame.wrapping_add(24), v11, 120);
-  if v15 != 1 {
-    break 'after_2;
-  }
-  p3 = p3.wrapping_add(0xffffffffffffffff);
-  der_view_walk_draw_step_5(frame, p1, p2, p3, frame.wrapping_add(184), frame.wrapping_add(144),
-      frame.wrapping_add(24));
-  'after_14: {
-  if (load8(frame) as u32) != 1 {
-    break 'after_14;
-  }
-  store64(v12, load64(v13));
-  store64(v12.wrapping_add(8), load64(v13.wrapping_add(8)));
-  p5 = load64(frame.wrapping_add(16));
-  store64(frame.wrapping_add(176), p5);
-  v14 = load64(frame.wrapping_add(8));
-  store64(frame.wrapping_add(168), v14);
-  v7 = (p4.wrapping_sub(p5)).wrapping_add(v7);
-  store64(frame.wrapping_add(184), v7);
-  p4 = p5;
-  if p3 == 0 {
-    break 'after_2;
-  }
-  continue 'again_15;
+  break 'after_1;
   }
   break;
   }
   store64(p0.wrapping_add(16), 0);
   store64(p0.wrapping_add(8), 0);
   store64(p0, 0);
-  break 'after_16;
+  break 'after_14;
   }
-  v15 = load8(p2) as u32;
-  v14 = load64(frame.wrapping_add(168));
-  v16 = load64(frame.wrapping_add(160));
-  v17 = load64(frame.wrapping_add(152));
-  'after_20: {
-  'after_17: {
-  if p4 > 1 {
-    break 'after_17;
-  }
+  v14 = load8(p2) as u32;
+  v12 = load64(frame.wrapping_add(288));
+  p5 = load64(frame.wrapping_add(280));
+  v19 = load64(frame.wrapping_add(272));
   'after_18: {
+  'after_15: {
+  if p4 > 1 {
+    break 'after_15;
+  }
+  'after_16: {
   match p4 as u32 {
   1 => {
-    break 'after_2;
+    break 'after_1;
   }
   _ => {
-    break 'after_18;
+    break 'after_16;
   }
   }
   }
-  'after_19: {
-  if ((v9 | v15) & 255) == 0 {
-    break 'after_19;
+  'after_17: {
+  if ((v7 | v14) & 255) == 0 {
+    break 'after_17;
   }
-  v18 = 0;
-  v9 = v15;
-  break 'after_20;
+  v17 = 0;
+  v7 = v14;
+  break 'after_18;
   }
   p4 = 0;
-  'after_21: {
-  if v16 != 0 {
-    break 'after_21;
+  'after_19: {
+  if p5 != 0 {
+    break 'after_19;
   }
-  v16 = 0;
-  v18 = 0;
-  break 'after_10;
+  v17 = 0;
+  break 'after_9;
   }
-  p5 = v17.wrapping_add(1);
-  v20 = v16;
-  'again_22: loop {
-  if (load8(p5) as u32) == 0 {
-    break 'after_2;
+  v19 = v19.wrapping_add(1);
+  'again_20: loop {
+  if (load8(v19) as u32) == 0 {
+    break 'after_1;
   }
-  p5 = p5.wrapping_add(5);
-  v20 = v20.wrapping_add(0xffffffffffffffff);
-  if v20 != 0 {
-    continue 'again_22;
+  v19 = v19.wrapping_add(5);
+  p5 = p5.wrapping_add(0xffffffffffffffff);
+  if p5 != 0 {
+    continue 'again_20;
   }
   break;
   }
-  v18 = 0;
-  break 'after_10;
+  v17 = 0;
+  break 'after_9;
   }
-  if (load8(v14) as u32) != 0 {
-    break 'after_2;
+  if (load8(v12) as u32) != 0 {
+    break 'after_1;
   }
-  v9 = (u32::from((load8(v14.wrapping_add(1)) as u32) != 0)) | v10;
-  v19 = v9 & 1;
-  v18 = if v19 != 0 { 0u64 } else { 2u64 };
-  v9 = v9 ^ 1;
-  if v19 != 0 {
-    break 'after_20;
+  v7 = (u32::from((load8(v12.wrapping_add(1)) as u32) != 0)) | v8;
+  v18 = v7 & 1;
+  v17 = if v18 != 0 { 0u64 } else { 2u64 };
+  v7 = v7 ^ 1;
+  if v18 != 0 {
+    break 'after_18;
   }
-  if (v15 & 1) != 0 {
-    break 'after_20;
+  if (v14 & 1) != 0 {
+    break 'after_18;
   }
-  v18 = 2;
-  'after_23: {
-  if v16 != 0 {
-    break 'after_23;
-  }
-  v16 = 0;
-  break 'after_10;
-  }
-  p5 = v17.wrapping_add(1);
-  v20 = v16;
-  'again_24: loop {
-  if (load8(p5) as u32) == 0 {
-    break 'after_2;
-  }
-  p5 = p5.wrapping_add(5);
-  v20 = v20.wrapping_add(0xffffffffffffffff);
-  if v20 != 0 {
-    continue 'again_24;
-  }
-  break 'after_10;
-  }
-  }
-  if (v9 & 1) == 0 {
-    break 'after_2;
-  }
-  }
-  'after_25: {
-  if (load8(frame.wrapping_add(145)) as u32) != 0 {
-    break 'after_25;
-  }
-  v15 = load8(frame.wrapping_add(208)) as u32;
-  p3 = load64(frame.wrapping_add(200));
-  'after_26: {
-  if v16 == 0 {
-    break 'after_26;
-  }
-  p2 = frame.wrapping_add(209);
-  p5 = v17.wrapping_add(1);
-  v20 = v16;
-  'after_27: {
-  'again_28: loop {
-  if (load8(p5) as u32) == 0 {
-    break 'after_27;
-  }
-  p5 = p5.wrapping_add(5);
-  v20 = v20.wrapping_add(0xffffffffffffffff);
-  if v20 != 0 {
-    continue 'again_28;
-  }
-  break 'after_26;
-  }
-  }
-  'after_30: {
-  'after_29: {
-  if v8 != 0 {
-    break 'after_29;
-  }
-  if v7 == 0 {
-    break 'after_29;
-  }
-  v9 = 3;
-  p5 = 1;
-  break 'after_30;
-  }
-  let t0 = (u32::from((load8(p1) as u32) != 1)) | (u32::from(((load8(p1.wrapping_add(6)) as u32)
-      & 255) != 0));
-  v19 = t0 | (load8(p1.wrapping_add(10)) as u32);
-  v9 = if (v19 & 1) != 0 { 0u32 } else { 2u32 };
-  p5 = ((v19 ^ 0xffffffff) as u64) & 1;
-  }
-  store8(frame.wrapping_add(240), v15 as u8);
-  store64(frame.wrapping_add(232), p3);
-  store64(frame.wrapping_add(224), v8);
-  store64(frame.wrapping_add(216), v7);
-  store64(frame.wrapping_add(288), 0);
-  store64(frame.wrapping_add(280), 1);
-  store64(frame.wrapping_add(272), 0);
-  store64(frame.wrapping_add(264), constant(0));
-  store32(frame.wrapping_add(260), 0);
-  store64(frame.wrapping_add(252), 0);
-  store32(frame.wrapping_add(248), 2);
-  store64(frame.wrapping_add(296), 0);
-  store64(frame.wrapping_add(304), 0);
-  store64(frame.wrapping_add(312), 0);
-  store64(frame.wrapping_add(320), 0);
-  store64(frame.wrapping_add(328), 0);
-  store64(frame.wrapping_add(336), 0);
-  store64(frame.wrapping_add(344), 0);
-  store32(frame.wrapping_add(241), load32(p2));
-  store32(frame.wrapping_add(244), load32(p2.wrapping_add(3)));
-  store32(frame.wrapping_add(376), v9);
-  store64(frame.wrapping_add(360), 0);
-  store64(frame.wrapping_add(352), constant(0));
-  store64(frame.wrapping_add(368), p5);
-  fill(frame.wrapping_add(380), 0, 180);
-  store64(frame.wrapping_add(584), 0);
-  store64(frame.wrapping_add(576), constant(0));
-  store64(frame.wrapping_add(568), v16);
-  store64(frame.wrapping_add(560), v17);
+  v17 = 2;
   if p5 == 0 {
-    break 'after_26;
+    break 'after_9;
   }
-  der_view_known_Known_see(p1, 0, frame.wrapping_add(216));
+  v19 = v19.wrapping_add(1);
+  'again_21: loop {
+  if (load8(v19) as u32) == 0 {
+    break 'after_1;
   }
-  if v18 == 0 {
-    break 'after_25;
+  v19 = v19.wrapping_add(5);
+  p5 = p5.wrapping_add(0xffffffffffffffff);
+  if p5 != 0 {
+    continue 'again_21;
   }
-  store32(frame.wrapping_add(241), 0);
-  store8(frame.wrapping_add(240), v15 as u8);
-  store64(frame.wrapping_add(232), p3);
-  store64(frame.wrapping_add(216), v7);
-  store64(frame.wrapping_add(288), 0);
-  store64(frame.wrapping_add(280), 1);
-  store64(frame.wrapping_add(272), 2);
-  store64(frame.wrapping_add(264), constant(1941));
-  store32(frame.wrapping_add(260), 0);
-  store64(frame.wrapping_add(252), 0);
-  store64(frame.wrapping_add(244), 0x100000000);
-  store64(frame.wrapping_add(296), 0);
-  store64(frame.wrapping_add(304), 0);
-  store64(frame.wrapping_add(312), 0);
-  store64(frame.wrapping_add(320), 0);
-  store64(frame.wrapping_add(328), 0);
-  store64(frame.wrapping_add(336), 0);
-  store64(frame.wrapping_add(344), 0);
-  store64(frame.wrapping_add(224), v8.wrapping_sub((u32::from(v8 != 0)) as u64));
-  store64(frame.wrapping_add(352), constant(0));
-  fill(frame.wrapping_add(360), 0, 200);
-  store64(frame.wrapping_add(584), 0);
-  store64(frame.wrapping_add(576), constant(0));
-  store64(frame.wrapping_add(568), 0);
-  store64(frame.wrapping_add(560), constant(0));
-  der_view_known_Known_see(p1, 0, frame.wrapping_add(216));
-  }
-  store64(p0, 1);
-  store64(p0.wrapping_add(16), p4.wrapping_sub(v18));
-  store64(p0.wrapping_add(8), v14.wrapping_add(v18));
-  break 'after_16;
-  }
-  'after_31: {
-  if (load8(frame.wrapping_add(145)) as u32) != 0 {
-    break 'after_31;
-  }
-  p3 = load64(frame.wrapping_add(208));
-  p5 = load64(p2.wrapping_add(16));
-  v20 = if p5 < v7 { p5 } else { v7 };
-  v14 = p5.wrapping_sub(v20);
-  p4 = load64(frame.wrapping_add(200));
-  p5 = p4.wrapping_sub(v7);
-  v14 = if v14 < p5 { v14 } else { p5 };
-  p2 = (load64(p2.wrapping_add(8))).wrapping_add(v20);
-  v16 = load64(frame.wrapping_add(160));
-  v17 = load64(frame.wrapping_add(152));
-  'after_33: {
-  'after_32: {
-  if v8 != 0 {
-    break 'after_32;
-  }
-  if v7 == 0 {
-    break 'after_32;
-  }
-  v15 = 3;
-  v20 = 1;
-  break 'after_33;
-  }
-  let t1 = (u32::from((load8(p1) as u32) != 1)) | (u32::from(((load8(p1.wrapping_add(6)) as u32)
-      & 255) != 0));
-  v9 = t1 | (load8(p1.wrapping_add(10)) as u32);
-  v15 = if (v9 & 1) != 0 { 0u32 } else { 2u32 };
-  v20 = ((v9 ^ 0xffffffff) as u64) & 1;
-  }
-  store64(frame.wrapping_add(320), 0);
-  store64(frame.wrapping_add(312), p5);
-  store64(frame.wrapping_add(304), 0);
-  store64(frame.wrapping_add(296), p5);
-  store64(frame.wrapping_add(288), p5);
-  store64(frame.wrapping_add(280), 1);
-  store64(frame.wrapping_add(272), 0);
-  store64(frame.wrapping_add(264), constant(0));
-  store32(frame.wrapping_add(260), 0);
-  store64(frame.wrapping_add(252), 0);
-  store32(frame.wrapping_add(248), 2);
-  store64(frame.wrapping_add(240), p3);
-  store64(frame.wrapping_add(224), v8);
-  store64(frame.wrapping_add(328), 0);
-  store64(frame.wrapping_add(336), 0);
-  store64(frame.wrapping_add(344), 0);
-  store64(frame.wrapping_add(232), p4);
-  store64(frame.wrapping_add(216), v7);
-  store32(frame.wrapping_add(376), v15);
-  store64(frame.wrapping_add(368), v20);
-  store64(frame.wrapping_add(360), 0);
-  store64(frame.wrapping_add(352), constant(0));
-  fill(frame.wrapping_add(380), 0, 180);
-  store64(frame.wrapping_add(584), v14);
-  store64(frame.wrapping_add(576), p2);
-  store64(frame.wrapping_add(568), v16);
-  store64(frame.wrapping_add(560), v17);
-  'after_34: {
-  if p4 != v7 {
-    break 'after_34;
-  }
-  if v20 == 0 {
-    break 'after_31;
+  break 'after_9;
   }
   }
-  der_view_known_Known_see(p1, 0, frame.wrapping_add(216));
+  if (v7 & 1) != 0 {
+    break 'after_9;
   }
+  }
+  der_view_walk_draw_left_5(p1, p2, frame.wrapping_add(304), frame.wrapping_add(264));
   store64(p0.wrapping_add(16), 0);
   store64(p0.wrapping_add(8), 0);
   store64(p0, 0);
+  break 'after_14;
+  }
+  der_view_walk_draw_end_5(p1, frame.wrapping_add(304), frame.wrapping_add(264), v17);
+  store64(p0.wrapping_add(16), p4.wrapping_sub(v17));
+  store64(p0.wrapping_add(8), v12.wrapping_add(v17));
+  store64(p0, 1);
   }
 }
 
@@ -21639,6 +21849,220 @@ unsafe fn der_view_walk_follows_5(p0: u64, p1: u64, p2: u64, p3: u64, mut p4: u3
       frame.wrapping_add(112), frame.wrapping_add(72));
   p4 = load8(frame.wrapping_add(24)) as u32;
   return u32::from(p4 == 1);
+}
+
+// der_view::walk::draw_left::<#5fb8ad1151d26732>
+unsafe fn der_view_walk_draw_left_5(p0: u64, mut p1: u64, mut p2: u64, mut p3: u64) {
+  let mut array = Frame::<384>::new();
+  let frame = address(&raw mut array);
+  let mut v5 = 0u64;
+  let mut v6 = 0u64;
+  let mut v7 = 0u64;
+  let mut v8 = 0u64;
+  let mut v9 = 0u64;
+  let mut v10 = 0u64;
+  let mut v11 = 0u64;
+  let mut v12 = 0u32;
+  let mut v13 = 0u32;
+  v5 = 1;
+  'after_1: {
+  if (load8(p3.wrapping_add(1)) as u32) == 1 {
+    break 'after_1;
+  }
+  v6 = load64(p2.wrapping_add(24));
+  v7 = load64(p1.wrapping_add(16));
+  v8 = load64(p2);
+  v9 = if v7 < v8 { v7 } else { v8 };
+  v10 = v7.wrapping_sub(v9);
+  v11 = load64(p2.wrapping_add(16));
+  v7 = v11.wrapping_sub(v8);
+  v10 = if v10 < v7 { v10 } else { v7 };
+  p1 = (load64(p1.wrapping_add(8))).wrapping_add(v9);
+  v9 = load64(p3.wrapping_add(16));
+  p3 = load64(p3.wrapping_add(8));
+  'after_3: {
+  'after_2: {
+  p2 = load64(p2.wrapping_add(8));
+  if p2 != 0 {
+    break 'after_2;
+  }
+  v12 = 3;
+  if v8 != 0 {
+    break 'after_3;
+  }
+  }
+  let t0 = (u32::from((load8(p0) as u32) != 1)) | (u32::from(((load8(p0.wrapping_add(6)) as u32)
+      & 255) != 0));
+  v13 = t0 | (load8(p0.wrapping_add(10)) as u32);
+  v12 = if (v13 & 1) != 0 { 0u32 } else { 2u32 };
+  v5 = ((v13 ^ 0xffffffff) as u64) & 1;
+  }
+  store64(frame.wrapping_add(112), 0);
+  store64(frame.wrapping_add(104), v7);
+  store64(frame.wrapping_add(96), 0);
+  store64(frame.wrapping_add(88), v7);
+  store64(frame.wrapping_add(80), v7);
+  store64(frame.wrapping_add(72), 1);
+  store64(frame.wrapping_add(64), 0);
+  store64(frame.wrapping_add(56), constant(0));
+  store32(frame.wrapping_add(52), 0);
+  store64(frame.wrapping_add(44), 0);
+  store32(frame.wrapping_add(40), 2);
+  store64(frame.wrapping_add(32), v6);
+  store64(frame.wrapping_add(16), p2);
+  store64(frame.wrapping_add(120), 0);
+  store64(frame.wrapping_add(128), 0);
+  store64(frame.wrapping_add(136), 0);
+  store64(frame.wrapping_add(24), v11);
+  store64(frame.wrapping_add(8), v8);
+  store32(frame.wrapping_add(168), v12);
+  store64(frame.wrapping_add(160), v5);
+  store64(frame.wrapping_add(152), 0);
+  store64(frame.wrapping_add(144), constant(0));
+  fill(frame.wrapping_add(172), 0, 180);
+  store64(frame.wrapping_add(376), v10);
+  store64(frame.wrapping_add(368), p1);
+  store64(frame.wrapping_add(360), v9);
+  store64(frame.wrapping_add(352), p3);
+  'after_4: {
+  if v11 != v8 {
+    break 'after_4;
+  }
+  if v5 == 0 {
+    break 'after_1;
+  }
+  }
+  der_view_known_Known_see(p0, 0, frame.wrapping_add(8));
+  }
+  return;
+}
+
+// der_view::walk::draw_end::<#5fb8ad1151d26732>
+unsafe fn der_view_walk_draw_end_5(p0: u64, mut p1: u64, mut p2: u64, p3: u64) {
+  let mut array = Frame::<384>::new();
+  let frame = address(&raw mut array);
+  let mut v5 = 0u32;
+  let mut v6 = 0u64;
+  let mut v7 = 0u64;
+  let mut v8 = 0u64;
+  let mut v9 = 0u64;
+  let mut v10 = 0u64;
+  let mut v11 = 0u64;
+  let mut v12 = 0u32;
+  let mut v13 = 0u32;
+  'after_1: {
+  if (load8(p2.wrapping_add(1)) as u32) == 1 {
+    break 'after_1;
+  }
+  v5 = load8(p1.wrapping_add(24)) as u32;
+  v6 = load64(p1.wrapping_add(16));
+  v7 = load64(p1.wrapping_add(8));
+  v8 = load64(p1);
+  'after_2: {
+  v9 = load64(p2.wrapping_add(16));
+  if v9 == 0 {
+    break 'after_2;
+  }
+  v10 = p1.wrapping_add(25);
+  v11 = load64(p2.wrapping_add(8));
+  p1 = v11.wrapping_add(1);
+  p2 = v9;
+  'after_3: {
+  'again_4: loop {
+  if (load8(p1) as u32) == 0 {
+    break 'after_3;
+  }
+  p1 = p1.wrapping_add(5);
+  p2 = p2.wrapping_add(0xffffffffffffffff);
+  if p2 != 0 {
+    continue 'again_4;
+  }
+  break 'after_2;
+  }
+  }
+  'after_6: {
+  'after_5: {
+  if v7 != 0 {
+    break 'after_5;
+  }
+  if v8 == 0 {
+    break 'after_5;
+  }
+  v12 = 3;
+  p1 = 1;
+  break 'after_6;
+  }
+  let t0 = (u32::from((load8(p0) as u32) != 1)) | (u32::from(((load8(p0.wrapping_add(6)) as u32)
+      & 255) != 0));
+  v13 = t0 | (load8(p0.wrapping_add(10)) as u32);
+  v12 = if (v13 & 1) != 0 { 0u32 } else { 2u32 };
+  p1 = ((v13 ^ 0xffffffff) as u64) & 1;
+  }
+  store8(frame.wrapping_add(32), v5 as u8);
+  store64(frame.wrapping_add(24), v6);
+  store64(frame.wrapping_add(16), v7);
+  store64(frame.wrapping_add(8), v8);
+  store64(frame.wrapping_add(80), 0);
+  store64(frame.wrapping_add(72), 1);
+  store64(frame.wrapping_add(64), 0);
+  store64(frame.wrapping_add(56), constant(0));
+  store32(frame.wrapping_add(52), 0);
+  store64(frame.wrapping_add(44), 0);
+  store32(frame.wrapping_add(40), 2);
+  store64(frame.wrapping_add(88), 0);
+  store64(frame.wrapping_add(96), 0);
+  store64(frame.wrapping_add(104), 0);
+  store64(frame.wrapping_add(112), 0);
+  store64(frame.wrapping_add(120), 0);
+  store64(frame.wrapping_add(128), 0);
+  store64(frame.wrapping_add(136), 0);
+  store32(frame.wrapping_add(33), load32(v10));
+  store32(frame.wrapping_add(36), load32(v10.wrapping_add(3)));
+  store32(frame.wrapping_add(168), v12);
+  store64(frame.wrapping_add(152), 0);
+  store64(frame.wrapping_add(144), constant(0));
+  store64(frame.wrapping_add(160), p1);
+  fill(frame.wrapping_add(172), 0, 180);
+  store64(frame.wrapping_add(376), 0);
+  store64(frame.wrapping_add(368), constant(0));
+  store64(frame.wrapping_add(360), v9);
+  store64(frame.wrapping_add(352), v11);
+  if p1 == 0 {
+    break 'after_2;
+  }
+  der_view_known_Known_see(p0, 0, frame.wrapping_add(8));
+  }
+  if p3 == 0 {
+    break 'after_1;
+  }
+  store32(frame.wrapping_add(33), 0);
+  store8(frame.wrapping_add(32), v5 as u8);
+  store64(frame.wrapping_add(24), v6);
+  store64(frame.wrapping_add(8), v8);
+  store64(frame.wrapping_add(80), 0);
+  store64(frame.wrapping_add(72), 1);
+  store64(frame.wrapping_add(64), 2);
+  store64(frame.wrapping_add(56), constant(1941));
+  store32(frame.wrapping_add(52), 0);
+  store64(frame.wrapping_add(44), 0);
+  store64(frame.wrapping_add(36), 0x100000000);
+  store64(frame.wrapping_add(88), 0);
+  store64(frame.wrapping_add(96), 0);
+  store64(frame.wrapping_add(104), 0);
+  store64(frame.wrapping_add(112), 0);
+  store64(frame.wrapping_add(120), 0);
+  store64(frame.wrapping_add(128), 0);
+  store64(frame.wrapping_add(136), 0);
+  store64(frame.wrapping_add(16), v7.wrapping_sub((u32::from(v7 != 0)) as u64));
+  store64(frame.wrapping_add(144), constant(0));
+  fill(frame.wrapping_add(152), 0, 200);
+  store64(frame.wrapping_add(376), 0);
+  store64(frame.wrapping_add(368), constant(0));
+  store64(frame.wrapping_add(360), 0);
+  store64(frame.wrapping_add(352), constant(0));
+  der_view_known_Known_see(p0, 0, frame.wrapping_add(8));
+  }
+  return;
 }
 
 // der_view::names::names_after
@@ -24919,9 +25343,9 @@ unsafe fn der_view_line_Line_finish(p0: u64, mut p1: u64) {
 }
 
 // der_view::showing::show_bytes::<#87de24ff91de8a13>
-unsafe fn der_view_showing_show_bytes(p0: u64, p1: u64, p2: u64, mut p3: u64, mut p4: u32,
+unsafe fn der_view_showing_show_bytes(p0: u64, p1: u64, mut p2: u64, mut p3: u64, mut p4: u32,
     mut p5: u64) {
-  let mut array = Frame::<400>::new();
+  let mut array = Frame::<432>::new();
   let frame = address(&raw mut array);
   let mut v7 = 0u64;
   let mut v8 = 0u32;
@@ -24936,31 +25360,31 @@ unsafe fn der_view_showing_show_bytes(p0: u64, p1: u64, p2: u64, mut p3: u64, mu
   let mut v17 = 0u64;
   'after_2: {
   'after_7: {
-  fill(frame.wrapping_add(32), 0, 112);
+  fill(frame.wrapping_add(24), 0, 112);
   'after_1: {
   v7 = load64(p5.wrapping_add(16));
   if v7 != 0 {
     break 'after_1;
   }
-  der_view_showing_show_part(frame.wrapping_add(8), p1, p2, p3, p4, p5);
-  p4 = load8(frame.wrapping_add(9)) as u32;
-  v8 = load8(frame.wrapping_add(8)) as u32;
+  der_view_showing_show_part(frame, p1, p2, p3, p4, p5);
+  p4 = load8(frame.wrapping_add(1)) as u32;
+  v8 = load8(frame) as u32;
   break 'after_2;
   }
-  store64(frame.wrapping_add(176), 0);
-  store64(frame.wrapping_add(168), v7);
+  store64(frame.wrapping_add(168), 0);
+  store64(frame.wrapping_add(160), v7);
+  store64(frame.wrapping_add(136), 0);
   store64(frame.wrapping_add(144), 0);
   store64(frame.wrapping_add(152), 0);
-  store64(frame.wrapping_add(160), 0);
-  der_view_plan_plan_of(frame.wrapping_add(144), p2, p3);
-  store64(frame.wrapping_add(184), 0);
-  store64(frame.wrapping_add(200), 0);
-  store64(frame.wrapping_add(192), constant(0));
-  p4 = load8(frame.wrapping_add(151)) as u32;
+  der_view_plan_plan_of(frame.wrapping_add(136), p2, p3);
+  store64(frame.wrapping_add(176), 0);
+  store64(frame.wrapping_add(192), 0);
+  store64(frame.wrapping_add(184), constant(0));
+  p4 = load8(frame.wrapping_add(143)) as u32;
   v8 = u32::from(p4 == 1);
-  store8(frame.wrapping_add(184), v8 as u8);
-  v9 = load8(frame.wrapping_add(153)) as u32;
-  store8(frame.wrapping_add(185), (v8 & v9) as u8);
+  store8(frame.wrapping_add(176), v8 as u8);
+  v9 = load8(frame.wrapping_add(145)) as u32;
+  store8(frame.wrapping_add(177), (v8 & v9) as u8);
   v8 = 2;
   'after_3: {
   if p4 == 2 {
@@ -24968,7 +25392,7 @@ unsafe fn der_view_showing_show_bytes(p0: u64, p1: u64, p2: u64, mut p3: u64, mu
   }
   'after_5: {
   'after_4: {
-  if ((load8(frame.wrapping_add(144)) as u32) & 255) == 1 {
+  if ((load8(frame.wrapping_add(136)) as u32) & 255) == 1 {
     break 'after_4;
   }
   p4 = 9;
@@ -24978,60 +25402,66 @@ unsafe fn der_view_showing_show_bytes(p0: u64, p1: u64, p2: u64, mut p3: u64, mu
   v9 = 0;
   break 'after_5;
   }
-  v12 = load8(frame.wrapping_add(149)) as u32;
-  v11 = load8(frame.wrapping_add(148)) as u32;
-  p4 = load8(frame.wrapping_add(147)) as u32;
-  v8 = load8(frame.wrapping_add(146)) as u32;
-  v10 = load8(frame.wrapping_add(145)) as u32;
+  v12 = load8(frame.wrapping_add(141)) as u32;
+  v11 = load8(frame.wrapping_add(140)) as u32;
+  p4 = load8(frame.wrapping_add(139)) as u32;
+  v8 = load8(frame.wrapping_add(138)) as u32;
+  v10 = load8(frame.wrapping_add(137)) as u32;
   'after_6: {
-  if ((load8(frame.wrapping_add(150)) as u32) & 255) == 2 {
+  if ((load8(frame.wrapping_add(142)) as u32) & 255) == 2 {
     break 'after_6;
   }
   v9 = 0;
   break 'after_5;
   }
-  v9 = (load8(frame.wrapping_add(152)) as u32) & v9;
+  v9 = (load8(frame.wrapping_add(144)) as u32) & v9;
   }
-  store64(frame.wrapping_add(392), 0);
-  fill(frame.wrapping_add(232), 0, 128);
-  store64(frame.wrapping_add(376), 0);
-  store64(frame.wrapping_add(368), 0);
-  store8(frame.wrapping_add(392), (v9 & 1) as u8);
-  store64(frame.wrapping_add(384), p3);
-  store8(frame.wrapping_add(367), v12 as u8);
-  store8(frame.wrapping_add(366), v11 as u8);
-  store8(frame.wrapping_add(365), p4 as u8);
-  store8(frame.wrapping_add(364), v8 as u8);
-  store8(frame.wrapping_add(363), v10 as u8);
-  der_view_step_step_by(frame.wrapping_add(232), 1, 0, frame.wrapping_add(363), 1, p2, p3);
-  if (load8(frame.wrapping_add(232)) as u32) != 1 {
+  store64(frame.wrapping_add(424), 0);
+  store64(frame.wrapping_add(352), 0);
+  fill(frame.wrapping_add(224), 0, 128);
+  store64(frame.wrapping_add(408), 0);
+  store64(frame.wrapping_add(400), 0);
+  store8(frame.wrapping_add(424), (v9 & 1) as u8);
+  store64(frame.wrapping_add(416), p3);
+  store8(frame.wrapping_add(399), v12 as u8);
+  store8(frame.wrapping_add(398), v11 as u8);
+  store8(frame.wrapping_add(397), p4 as u8);
+  store8(frame.wrapping_add(396), v8 as u8);
+  store8(frame.wrapping_add(395), v10 as u8);
+  der_view_step_step_by(frame.wrapping_add(224), 1, 0, frame.wrapping_add(395), 1, p2, p3);
+  if (load8(frame.wrapping_add(224)) as u32) != 1 {
     break 'after_3;
   }
-  der_view_walk_draw_step_3(frame.wrapping_add(208), frame.wrapping_add(168),
-      frame.wrapping_add(184), p3, frame.wrapping_add(368), 0, frame.wrapping_add(240));
-  if (load8(frame.wrapping_add(176)) as u32) != 1 {
+  store64(frame.wrapping_add(384), p3);
+  store64(frame.wrapping_add(376), p2);
+  store64(frame.wrapping_add(368), 1);
+  store64(frame.wrapping_add(360), frame.wrapping_add(395));
+  der_view_walk_draw_step_3(frame.wrapping_add(200), frame.wrapping_add(160),
+      frame.wrapping_add(176), p3, frame.wrapping_add(400), frame.wrapping_add(352),
+      frame.wrapping_add(232));
+  if (load8(frame.wrapping_add(168)) as u32) != 1 {
     break 'after_3;
   }
   v13 = 0;
-  store64(frame.wrapping_add(272), 0);
   store64(frame.wrapping_add(264), 0);
   store64(frame.wrapping_add(256), 0);
   store64(frame.wrapping_add(248), 0);
   store64(frame.wrapping_add(240), 0);
   store64(frame.wrapping_add(232), 0);
+  store64(frame.wrapping_add(224), 0);
   if p3 == 0 {
     break 'after_3;
   }
   'again_10: loop {
   v14 = p2.wrapping_add(v13);
   v15 = p3.wrapping_sub(v13);
-  der_view_header_Header_read(frame.wrapping_add(232), v14, v15);
-  if (load8(frame.wrapping_add(232)) as u32) != 0 {
+  der_view_header_Header_read(frame.wrapping_add(224), v14, v15);
+  if (load8(frame.wrapping_add(224)) as u32) != 0 {
     break 'after_3;
   }
-  v16 = load64(frame.wrapping_add(272));
-  p4 = load8(frame.wrapping_add(264)) as u32;
-  v17 = load64(frame.wrapping_add(256));
+  v16 = load64(frame.wrapping_add(264));
+  p4 = load8(frame.wrapping_add(256)) as u32;
+  v17 = load64(frame.wrapping_add(248));
   if v13 == v7 {
     break 'after_7;
   }
@@ -25060,61 +25490,61 @@ unsafe fn der_view_showing_show_bytes(p0: u64, p1: u64, p2: u64, mut p3: u64, mu
   break;
   }
   }
-  fill(frame.wrapping_add(32), 0, 112);
-  store32(frame.wrapping_add(56), load32(constant(28148).wrapping_add(0)));
-  store64(frame.wrapping_add(48), load64(constant(28140).wrapping_add(0)));
-  store64(frame.wrapping_add(40), load64(constant(28132).wrapping_add(0)));
-  store64(frame.wrapping_add(32), load64(constant(28124).wrapping_add(0)));
+  fill(frame.wrapping_add(24), 0, 112);
+  store32(frame.wrapping_add(48), load32(constant(28148).wrapping_add(0)));
+  store64(frame.wrapping_add(40), load64(constant(28140).wrapping_add(0)));
+  store64(frame.wrapping_add(32), load64(constant(28132).wrapping_add(0)));
+  store64(frame.wrapping_add(24), load64(constant(28124).wrapping_add(0)));
   p3 = load64(p5.wrapping_add(16));
-  store64(frame.wrapping_add(264), 0);
   store64(frame.wrapping_add(256), 0);
   store64(frame.wrapping_add(248), 0);
   store64(frame.wrapping_add(240), 0);
   store64(frame.wrapping_add(232), 0);
+  store64(frame.wrapping_add(224), 0);
   'after_11: {
-  let t0 = itoa_integer_write_unsigned(p3, frame.wrapping_add(232));
+  let t0 = itoa_integer_write_unsigned(p3, frame.wrapping_add(224));
   v13 = t0;
   p3 = 40u64.wrapping_sub(v13);
   p3 = if p3 < 73 { p3 } else { 73u64 };
   if p3 == 0 {
     break 'after_11;
   }
-  move_((frame.wrapping_add(32)).wrapping_add(28), (frame.wrapping_add(232)).wrapping_add(v13), p3);
+  move_((frame.wrapping_add(24)).wrapping_add(28), (frame.wrapping_add(224)).wrapping_add(v13), p3);
   }
   'after_13: {
   'after_12: {
   p3 = p3.wrapping_add(28);
-  v7 = (frame.wrapping_add(32)).wrapping_add(p3);
+  p2 = (frame.wrapping_add(24)).wrapping_add(p3);
   v13 = (u32::from(p3 != 101)) as u64;
-  if (v7.wrapping_sub(constant(28039))) >= v13 {
+  if (p2.wrapping_sub(constant(28039))) >= v13 {
     break 'after_12;
   }
-  store8(v7, 46);
+  store8(p2, 46);
   break 'after_13;
   }
   if v13 == 0 {
     break 'after_13;
   }
-  fill(v7, 46, v13);
+  fill(p2, 46, v13);
   }
   p3 = p3.wrapping_add(v13);
-  store64(frame.wrapping_add(136), p3);
+  store64(frame.wrapping_add(128), p3);
   'after_15: {
   'after_14: {
   if (load8(p5.wrapping_add(1)) as u32) != 1 {
     break 'after_14;
   }
-  der_view_json_write_last(frame.wrapping_add(16), p1, frame.wrapping_add(32), p3, constant(0), 0);
-  if (load8(frame.wrapping_add(16)) as u32) == 0 {
+  der_view_json_write_last(frame.wrapping_add(8), p1, frame.wrapping_add(24), p3, constant(0), 0);
+  if (load8(frame.wrapping_add(8)) as u32) == 0 {
     break 'after_15;
   }
-  p4 = load8(frame.wrapping_add(17)) as u32;
+  p4 = load8(frame.wrapping_add(9)) as u32;
   v8 = 1;
   break 'after_2;
   }
-  fill(frame.wrapping_add(232), 0, 112);
-  der_view_line_Line_finish(frame.wrapping_add(232), frame.wrapping_add(32));
-  p3 = load64(frame.wrapping_add(336));
+  fill(frame.wrapping_add(224), 0, 112);
+  der_view_line_Line_finish(frame.wrapping_add(224), frame.wrapping_add(24));
+  p3 = load64(frame.wrapping_add(328));
   'after_18: {
   'after_16: {
   v13 = load64(p1.wrapping_add(8));
@@ -25129,7 +25559,7 @@ unsafe fn der_view_showing_show_bytes(p0: u64, p1: u64, p2: u64, mut p3: u64, mu
   if p3 == 0 {
     break 'after_17;
   }
-  move_(load64(p1).wrapping_add(p5), frame.wrapping_add(232), p3);
+  move_(load64(p1).wrapping_add(p5), frame.wrapping_add(224), p3);
   }
   p3 = p5.wrapping_add(p3);
   v13 = load64(p1.wrapping_add(8));
@@ -25158,9 +25588,9 @@ unsafe fn der_view_showing_show_bytes(p0: u64, p1: u64, p2: u64, mut p3: u64, mu
   }
   p3 = v16.wrapping_add(v17);
   let t1 = if (p4 & 255) == 1 { if v15 < p3 { v15 } else { p3 } } else { v15 };
-  der_view_showing_show_part(frame.wrapping_add(24), p1, v14, t1, 2, p5);
-  p4 = load8(frame.wrapping_add(25)) as u32;
-  v8 = load8(frame.wrapping_add(24)) as u32;
+  der_view_showing_show_part(frame.wrapping_add(16), p1, v14, t1, 2, p5);
+  p4 = load8(frame.wrapping_add(17)) as u32;
+  v8 = load8(frame.wrapping_add(16)) as u32;
   }
   store8(p0, v8 as u8);
   store8(p0.wrapping_add(1), p4 as u8);
@@ -26492,62 +26922,155 @@ unsafe fn der_view_showing_show_part(p0: u64, mut p1: u64, mut p2: u64, mut p3: 
 }
 
 // der_view::walk::draw_step::<#ec1ad888fc6273f0>
-unsafe fn der_view_walk_draw_step_3(p0: u64, p1: u64, p2: u64, p3: u64, mut p4: u64, p5: u32,
+unsafe fn der_view_walk_draw_step_3(p0: u64, p1: u64, p2: u64, p3: u64, mut p4: u64, p5: u64,
     mut p6: u64) {
-  let mut array = Frame::<320>::new();
+  let mut array = Frame::<272>::new();
   let frame = address(&raw mut array);
-  let mut v8 = 0u64;
+  let mut v8 = 0u32;
   let mut v9 = 0u64;
   let mut v10 = 0u64;
-  let mut v11 = 0u32;
-  let mut v12 = 0u64;
-  let mut v13 = 0u32;
+  let mut v11 = 0u64;
+  let mut v12 = 0u32;
+  let mut v13 = 0u64;
   let mut v14 = 0u32;
   let mut v15 = 0u32;
   let mut v16 = 0u32;
-  let mut v17 = 0u64;
-  let mut v18 = 0u64;
+  store32(frame.wrapping_add(248), load32(p4.wrapping_add(25)));
+  store32(frame.wrapping_add(251), load32(p4.wrapping_add(28)));
   'after_5: {
-  'after_6: {
-  'after_7: {
-  v8 = load64(p4.wrapping_add(16));
-  v9 = load64(p4);
-  v10 = 0;
+  v8 = load8(p4.wrapping_add(24)) as u32;
+  v9 = load64(p4.wrapping_add(16));
+  v10 = load64(p4.wrapping_add(8));
+  p4 = load64(p4);
+  store64(frame.wrapping_add(264), 0);
+  store64(frame.wrapping_add(256), 0);
+  store64(frame.wrapping_add(208), 0);
+  store64(frame.wrapping_add(216), 0);
+  store64(frame.wrapping_add(224), 0);
+  store64(frame.wrapping_add(232), 0);
+  store64(frame.wrapping_add(240), 0);
   store64(frame.wrapping_add(184), 0);
   store64(frame.wrapping_add(192), 0);
-  v11 = 0;
-  store32(frame.wrapping_add(176), 0);
-  store32(frame.wrapping_add(179), 0);
-  store64(frame.wrapping_add(136), 0);
-  store64(frame.wrapping_add(144), 0);
+  store64(frame.wrapping_add(200), 0);
   store64(frame.wrapping_add(152), 0);
   store64(frame.wrapping_add(160), 0);
   store64(frame.wrapping_add(168), 0);
-  store64(frame.wrapping_add(112), 0);
-  store64(frame.wrapping_add(120), 0);
-  store64(frame.wrapping_add(128), 0);
-  store64(frame.wrapping_add(88), 0);
-  store64(frame.wrapping_add(96), 0);
-  store64(frame.wrapping_add(104), 0);
-  v12 = load64(p4.wrapping_add(8));
-  v13 = load8(p4.wrapping_add(24)) as u32;
-  store64(frame.wrapping_add(80), 0);
-  store64(frame.wrapping_add(72), 0);
+  store64(frame.wrapping_add(176), 0);
   store64(frame.wrapping_add(64), 0);
+  store64(frame.wrapping_add(72), 0);
+  store64(frame.wrapping_add(80), 0);
   store64(frame.wrapping_add(56), 0);
-  store64(frame.wrapping_add(40), 0);
   store64(frame.wrapping_add(48), 0);
-  v14 = 1;
-  v15 = v13 & 1;
-  p4 = v12.wrapping_add(1);
-  v12 = v9.wrapping_add(load64(p6.wrapping_add(16)));
-  v13 = load8(p2) as u32;
+  store64(frame.wrapping_add(40), 0);
+  store64(frame.wrapping_add(32), 0);
+  store64(frame.wrapping_add(16), 0);
+  store64(frame.wrapping_add(24), 0);
+  v11 = v10.wrapping_add(1);
+  store64(frame.wrapping_add(128), v11);
+  store64(frame.wrapping_add(136), v9);
+  v12 = v8 & 1;
+  store8(frame.wrapping_add(144), v12 as u8);
+  store32(frame.wrapping_add(145), 0);
+  store32(frame.wrapping_add(148), 0);
+  v13 = p4.wrapping_add(load64(p6.wrapping_add(16)));
+  store64(frame.wrapping_add(120), v13);
+  der_view_walk_opened_of_3(frame.wrapping_add(152), p1, p2, p3, frame.wrapping_add(120), p6);
+  store8(frame.wrapping_add(112), v8 as u8);
+  store64(frame.wrapping_add(104), v9);
+  store64(frame.wrapping_add(96), v10);
+  store64(frame.wrapping_add(88), p4);
+  store32(frame.wrapping_add(113), load32(frame.wrapping_add(248)));
+  store32(frame.wrapping_add(116), load32(frame.wrapping_add(251)));
+  v14 = load8(frame.wrapping_add(176)) as u32;
+  p4 = load64(frame.wrapping_add(168));
+  v15 = load8(frame.wrapping_add(160)) as u32;
+  v8 = load8(frame.wrapping_add(152)) as u32;
+  der_view_walk_draw_element_3(p1, p2, frame.wrapping_add(88), p5, p6);
   'after_4: {
   'after_3: {
   'after_2: {
   'after_1: {
-  v16 = load8(p6.wrapping_add(58)) as u32;
-  match ((v16 as u64) & 255) as u32 {
+  if v8 != 1 {
+    break 'after_1;
+  }
+  v8 = load8(p6.wrapping_add(24)) as u32;
+  v16 = load8(p5.wrapping_add(1)) as u32;
+  der_view_grammar_Structure_components(frame, v15);
+  store8(frame.wrapping_add(209), v16 as u8);
+  store8(frame.wrapping_add(208), (u32::from(v8 != 1)) as u8);
+  store8(frame.wrapping_add(184), v14 as u8);
+  store64(frame.wrapping_add(32), p4.wrapping_add(v13));
+  store64(frame.wrapping_add(40), v11);
+  store64(frame.wrapping_add(48), v9);
+  store8(frame.wrapping_add(56), v12 as u8);
+  store64(frame.wrapping_add(224), load64(frame.wrapping_add(8)));
+  store64(frame.wrapping_add(216), load64(frame));
+  store8(frame.wrapping_add(185), (load8(p2.wrapping_add(1)) as u32) as u8);
+  store64(frame.wrapping_add(192), load64(p2.wrapping_add(8)));
+  store64(frame.wrapping_add(200), load64(p2.wrapping_add(16)));
+  store64(frame.wrapping_add(240), (load64(p6.wrapping_add(96))).wrapping_sub(p4));
+  store64(frame.wrapping_add(232), (load64(p6.wrapping_add(88))).wrapping_add(p4));
+  store32(frame.wrapping_add(60), 0);
+  store32(frame.wrapping_add(57), 0);
+  der_view_walk_walk_3(frame.wrapping_add(64), p1, frame.wrapping_add(184), p3,
+      frame.wrapping_add(32), frame.wrapping_add(208));
+  if (load8(frame.wrapping_add(64)) as u32) != 1 {
+    break 'after_2;
+  }
+  if v8 == 1 {
+    break 'after_3;
+  }
+  store64(frame.wrapping_add(24), load64(frame.wrapping_add(80)));
+  store64(frame.wrapping_add(16), load64(frame.wrapping_add(72)));
+  break 'after_4;
+  }
+  p4 = load64(p6.wrapping_add(112));
+  p6 = load64(p6.wrapping_add(104));
+  store64(p0, 1);
+  store64(p0.wrapping_add(8), p6);
+  store64(p0.wrapping_add(16), p4);
+  store64(frame.wrapping_add(264), p4);
+  store64(frame.wrapping_add(256), p6);
+  break 'after_5;
+  }
+  store64(p0.wrapping_add(16), 0);
+  store64(p0.wrapping_add(8), 0);
+  store64(p0, 0);
+  break 'after_5;
+  }
+  store64(frame.wrapping_add(24), load64(p6.wrapping_add(112)));
+  store64(frame.wrapping_add(16), load64(p6.wrapping_add(104)));
+  }
+  store64(p0, 1);
+  store64(p0.wrapping_add(8), load64(frame.wrapping_add(16)));
+  store64(p0.wrapping_add(16), load64(frame.wrapping_add(24)));
+  break 'after_5;
+  }
+}
+
+// der_view::walk::opened_of::<#ec1ad888fc6273f0>
+unsafe fn der_view_walk_opened_of_3(p0: u64, p1: u64, p2: u64, p3: u64, p4: u64, mut p5: u64) {
+  let mut array = Frame::<192>::new();
+  let frame = address(&raw mut array);
+  let mut v7 = 0u32;
+  let mut v8 = 0u32;
+  let mut v9 = 0u32;
+  let mut v10 = 0u64;
+  let mut v11 = 0u64;
+  let mut v12 = 0u64;
+  let mut v13 = 0u64;
+  let mut v14 = 0u32;
+  v7 = 0;
+  store32(frame.wrapping_add(59), 0);
+  store32(frame.wrapping_add(56), 0);
+  v8 = load8(p2) as u32;
+  'after_5: {
+  'after_4: {
+  'after_3: {
+  'after_2: {
+  'after_1: {
+  v9 = load8(p5.wrapping_add(58)) as u32;
+  match ((v9 as u64) & 255) as u32 {
   6 => {
     break 'after_1;
   }
@@ -26562,180 +27085,164 @@ unsafe fn der_view_walk_draw_step_3(p0: u64, p1: u64, p2: u64, p3: u64, mut p4: 
   }
   }
   }
-  v11 = load8(p6.wrapping_add(59)) as u32;
+  store32(frame.wrapping_add(64), 0);
+  store32(frame.wrapping_add(67), 0);
+  v10 = load8(p5.wrapping_add(59)) as u64;
+  p5 = 0;
+  v11 = 1;
+  v7 = v8;
   break 'after_5;
   }
-  v17 = load64(p6.wrapping_add(88));
-  v18 = load64(p6.wrapping_add(96));
-  v11 = load8(p6.wrapping_add(59)) as u32;
-  v13 = 0;
-  store32(frame.wrapping_add(313), 0);
-  store8(frame.wrapping_add(312), v15 as u8);
-  store64(frame.wrapping_add(304), v8);
-  store64(frame.wrapping_add(296), p4);
-  store64(frame.wrapping_add(288), v12);
-  store32(frame.wrapping_add(316), 0);
+  v11 = load64(p5.wrapping_add(88));
+  v10 = load64(p5.wrapping_add(96));
+  v8 = load8(p5.wrapping_add(59)) as u32;
+  p5 = 0;
+  store64(frame.wrapping_add(120), 0);
+  store64(frame.wrapping_add(96), 0);
+  store64(frame.wrapping_add(72), 0);
+  store64(frame.wrapping_add(80), 0);
+  store64(frame.wrapping_add(88), 0);
+  store64(frame.wrapping_add(160), load64(p4));
+  store64(frame.wrapping_add(168), load64(p4.wrapping_add(8)));
+  store64(frame.wrapping_add(176), load64(p4.wrapping_add(16)));
+  store64(frame.wrapping_add(184), load64(p4.wrapping_add(24)));
+  der_view_grammar_Structure_components(frame.wrapping_add(8), v8);
+  store64(frame.wrapping_add(152), v10);
+  store64(frame.wrapping_add(144), v11);
+  store16(frame.wrapping_add(120), 256);
+  store8(frame.wrapping_add(96), 0);
+  store64(frame.wrapping_add(136), load64(frame.wrapping_add(16)));
+  store64(frame.wrapping_add(128), load64(frame.wrapping_add(8)));
+  store64(frame.wrapping_add(104), load64(p2.wrapping_add(8)));
+  store64(frame.wrapping_add(112), load64(p2.wrapping_add(16)));
+  store8(frame.wrapping_add(97), (load8(p2.wrapping_add(1)) as u32) as u8);
+  der_view_walk_walk_3(frame.wrapping_add(72), p1, frame.wrapping_add(96), p3,
+      frame.wrapping_add(160), frame.wrapping_add(120));
+  v9 = load8(frame.wrapping_add(72)) as u32;
+  store32(frame.wrapping_add(123), 0);
+  store32(frame.wrapping_add(120), 0);
+  store32(frame.wrapping_add(64), load32(frame.wrapping_add(120)));
+  store32(frame.wrapping_add(67), load32(frame.wrapping_add(123)));
+  v9 = u32::from(v9 == 1);
+  v10 = ((if v9 != 0 { v8 } else { 0u32 }) as u64) & 255;
+  v11 = v9 as u64;
+  break 'after_5;
+  }
   v10 = 0;
-  store64(frame.wrapping_add(248), 0);
-  store64(frame.wrapping_add(224), 0);
-  store64(frame.wrapping_add(200), 0);
-  store64(frame.wrapping_add(208), 0);
-  store64(frame.wrapping_add(216), 0);
-  der_view_grammar_Structure_components(frame.wrapping_add(24), v11);
-  store64(frame.wrapping_add(280), v18);
-  store64(frame.wrapping_add(272), v17);
-  store16(frame.wrapping_add(248), 256);
-  store8(frame.wrapping_add(224), 0);
-  store64(frame.wrapping_add(264), load64(frame.wrapping_add(32)));
-  store64(frame.wrapping_add(256), load64(frame.wrapping_add(24)));
-  store64(frame.wrapping_add(232), load64(p2.wrapping_add(8)));
-  store64(frame.wrapping_add(240), load64(p2.wrapping_add(16)));
-  store8(frame.wrapping_add(225), (load8(p2.wrapping_add(1)) as u32) as u8);
-  der_view_walk_walk_3(frame.wrapping_add(200), p1, frame.wrapping_add(224), p3,
-      frame.wrapping_add(288), frame.wrapping_add(248));
-  v14 = u32::from((load8(frame.wrapping_add(200)) as u32) == 1);
-  v11 = if v14 != 0 { v11 } else { 0u32 };
-  break 'after_5;
-  }
-  v17 = load64(p6.wrapping_add(96));
-  if v17 == 0 {
+  'after_7: {
+  'after_6: {
+  v12 = load64(p5.wrapping_add(96));
+  if v12 != 0 {
     break 'after_6;
   }
-  v14 = 0;
-  v18 = load64(p6.wrapping_add(88));
-  if (load8(v18) as u32) != 0 {
-    break 'after_7;
-  }
-  'after_8: {
-  v17 = v17.wrapping_add(0xffffffffffffffff);
-  if v17 != 0 {
-    break 'after_8;
-  }
-  v14 = 0;
+  v11 = 0;
   break 'after_7;
   }
-  v11 = load8(p6.wrapping_add(59)) as u32;
-  v13 = 0;
-  store32(frame.wrapping_add(273), 0);
-  store8(frame.wrapping_add(272), v15 as u8);
-  store64(frame.wrapping_add(264), v8);
-  store64(frame.wrapping_add(256), p4);
-  store64(frame.wrapping_add(248), v12);
-  store32(frame.wrapping_add(276), 0);
-  let t0 = der_view_walk_follows_3(p1, p2, p3, frame.wrapping_add(248), v11,
-      v18.wrapping_add(1), v17);
-  v14 = t0;
-  v11 = if v14 != 0 { v11 } else { 0u32 };
-  v10 = v14 as u64;
+  'after_8: {
+  v13 = load64(p5.wrapping_add(88));
+  if (load8(v13) as u32) == 0 {
+    break 'after_8;
+  }
+  v11 = 0;
+  break 'after_7;
+  }
+  v11 = 0;
+  v12 = v12.wrapping_add(0xffffffffffffffff);
+  if v12 == 0 {
+    break 'after_7;
+  }
+  v7 = load8(p5.wrapping_add(59)) as u32;
+  store64(frame.wrapping_add(48), load64(p4.wrapping_add(24)));
+  store64(frame.wrapping_add(40), load64(p4.wrapping_add(16)));
+  store64(frame.wrapping_add(32), load64(p4.wrapping_add(8)));
+  store64(frame.wrapping_add(24), load64(p4));
+  let t0 = der_view_walk_follows_3(p1, p2, p3, frame.wrapping_add(24), v7, v13.wrapping_add(1),
+      v12);
+  v8 = t0;
+  store32(frame.wrapping_add(123), 0);
+  store32(frame.wrapping_add(120), 0);
+  store32(frame.wrapping_add(56), load32(frame.wrapping_add(120)));
+  store32(frame.wrapping_add(59), load32(frame.wrapping_add(123)));
+  v10 = if v8 != 0 { (v7 as u64) & 255 } else { 0u64 };
+  v11 = v8 as u64;
+  }
+  store32(frame.wrapping_add(67), load32(frame.wrapping_add(59)));
+  store32(frame.wrapping_add(64), load32(frame.wrapping_add(56)));
+  v7 = 0;
+  p5 = v11;
   break 'after_5;
   }
-  v14 = 1;
+  'after_11: {
   'after_9: {
-  if (load8(p6.wrapping_add(24)) as u32) != 1 {
+  if (load8(p5.wrapping_add(24)) as u32) != 1 {
     break 'after_9;
   }
-  v11 = 0;
-  if (load8(p6.wrapping_add(1)) as u32) != 1 {
-    break 'after_6;
-  }
-  if (((u32::from((v16 & 255) == 9)) | v13) & 1) == 0 {
-    break 'after_6;
-  }
-  }
-  v11 = 84;
-  break 'after_5;
-  }
-  v11 = 0;
-  v13 = 0;
-  break 'after_5;
-  }
-  v14 = 0;
-  v13 = 0;
-  }
+  v14 = load8(p5.wrapping_add(1)) as u32;
+  v7 = 0;
+  store32(frame.wrapping_add(123), 0);
+  store32(frame.wrapping_add(120), 0);
+  v10 = 0;
   'after_10: {
-  if (p5 & 1) != 0 {
+  if v14 == 1 {
     break 'after_10;
   }
-  store64(frame.wrapping_add(280), load64(p6.wrapping_add(32)));
-  store64(frame.wrapping_add(272), load64(p6.wrapping_add(24)));
-  store64(frame.wrapping_add(264), load64(p6.wrapping_add(16)));
-  store64(frame.wrapping_add(256), load64(p6.wrapping_add(8)));
-  store64(frame.wrapping_add(248), load64(p6));
-  der_view_content_shown_len(load8(p2.wrapping_add(1)) as u32, frame.wrapping_add(248),
-      load8(p6.wrapping_add(58)) as u32, load8(p6.wrapping_add(59)) as u32,
-      load64(p6.wrapping_add(88)), load64(p6.wrapping_add(96)));
-  v17 = p1.wrapping_add(8);
-  store8(v17, ((u32::from(v9 == load64(p1))) | (load8(v17) as u32)) as u8);
+  v11 = 0;
+  break 'after_11;
   }
-  'after_15: {
-  'after_14: {
-  'after_13: {
-  'after_12: {
-  'after_11: {
-  if v14 == 0 {
+  v11 = 0;
+  if (((u32::from((v9 & 255) == 9)) | v8) & 1) == 0 {
     break 'after_11;
   }
-  v14 = load8(p6.wrapping_add(24)) as u32;
-  der_view_grammar_Structure_components(frame.wrapping_add(8), v11);
-  store8(frame.wrapping_add(137), p5 as u8);
-  v14 = u32::from(v14 != 1);
-  store8(frame.wrapping_add(136), v14 as u8);
-  store8(frame.wrapping_add(112), v13 as u8);
-  store64(frame.wrapping_add(56), v10.wrapping_add(v12));
-  store64(frame.wrapping_add(64), p4);
-  store64(frame.wrapping_add(72), v8);
-  store8(frame.wrapping_add(80), v15 as u8);
-  store64(frame.wrapping_add(152), load64(frame.wrapping_add(16)));
-  store64(frame.wrapping_add(144), load64(frame.wrapping_add(8)));
-  store8(frame.wrapping_add(113), (load8(p2.wrapping_add(1)) as u32) as u8);
-  store64(frame.wrapping_add(120), load64(p2.wrapping_add(8)));
-  store64(frame.wrapping_add(128), load64(p2.wrapping_add(16)));
-  store64(frame.wrapping_add(168), (load64(p6.wrapping_add(96))).wrapping_sub(v10));
-  store64(frame.wrapping_add(160), (load64(p6.wrapping_add(88))).wrapping_add(v10));
-  store32(frame.wrapping_add(84), load32(frame.wrapping_add(179)));
-  store32(frame.wrapping_add(81), load32(frame.wrapping_add(176)));
-  der_view_walk_walk_3(frame.wrapping_add(88), p1, frame.wrapping_add(112), p3,
-      frame.wrapping_add(56), frame.wrapping_add(136));
-  if (load8(frame.wrapping_add(88)) as u32) != 1 {
-    break 'after_12;
   }
-  if v14 == 0 {
-    break 'after_13;
+  store32(frame.wrapping_add(123), 0);
+  store32(frame.wrapping_add(120), 0);
+  v11 = 1;
+  v10 = 84;
+  v7 = v8;
   }
-  store64(frame.wrapping_add(48), load64(frame.wrapping_add(104)));
-  store64(frame.wrapping_add(40), load64(frame.wrapping_add(96)));
-  break 'after_14;
+  store32(frame.wrapping_add(67), load32(frame.wrapping_add(123)));
+  store32(frame.wrapping_add(64), load32(frame.wrapping_add(120)));
+  p5 = 0;
   }
-  p4 = load64(p6.wrapping_add(112));
-  p6 = load64(p6.wrapping_add(104));
-  store64(p0, 1);
-  store64(p0.wrapping_add(8), p6);
-  store64(p0.wrapping_add(16), p4);
-  store64(frame.wrapping_add(192), p4);
-  store64(frame.wrapping_add(184), p6);
-  break 'after_15;
+  store64(p0, v11);
+  store8(p0.wrapping_add(24), v7 as u8);
+  store64(p0.wrapping_add(16), p5);
+  store64(p0.wrapping_add(8), v10);
+  store32(p0.wrapping_add(25), load32(frame.wrapping_add(64)));
+  store32(p0.wrapping_add(28), load32(frame.wrapping_add(67)));
+  return;
+}
+
+// der_view::walk::draw_element::<#ec1ad888fc6273f0>
+unsafe fn der_view_walk_draw_element_3(p0: u64, p1: u64, p2: u64, mut p3: u64, mut p4: u64) {
+  let mut array = Frame::<48>::new();
+  let frame = address(&raw mut array);
+  'after_1: {
+  if (load8(p3.wrapping_add(1)) as u32) == 1 {
+    break 'after_1;
   }
-  store64(p0.wrapping_add(16), 0);
-  store64(p0.wrapping_add(8), 0);
-  store64(p0, 0);
-  break 'after_15;
+  p3 = load64(p2);
+  store64(frame.wrapping_add(40), load64(p4.wrapping_add(32)));
+  store64(frame.wrapping_add(32), load64(p4.wrapping_add(24)));
+  store64(frame.wrapping_add(24), load64(p4.wrapping_add(16)));
+  store64(frame.wrapping_add(16), load64(p4.wrapping_add(8)));
+  store64(frame.wrapping_add(8), load64(p4));
+  der_view_content_shown_len(load8(p1.wrapping_add(1)) as u32, frame.wrapping_add(8),
+      load8(p4.wrapping_add(58)) as u32, load8(p4.wrapping_add(59)) as u32,
+      load64(p4.wrapping_add(88)), load64(p4.wrapping_add(96)));
+  p4 = p0.wrapping_add(8);
+  store8(p4, ((u32::from(p3 == load64(p0))) | (load8(p4) as u32)) as u8);
   }
-  store64(frame.wrapping_add(48), load64(p6.wrapping_add(112)));
-  store64(frame.wrapping_add(40), load64(p6.wrapping_add(104)));
-  }
-  store64(p0, 1);
-  store64(p0.wrapping_add(8), load64(frame.wrapping_add(40)));
-  store64(p0.wrapping_add(16), load64(frame.wrapping_add(48)));
-  }
+  return;
 }
 
 // der_view::walk::walk::<#ec1ad888fc6273f0>
 unsafe fn der_view_walk_walk_3(p0: u64, p1: u64, p2: u64, mut p3: u64, mut p4: u64, mut p5: u64) {
-  let mut array = Frame::<304>::new();
+  let mut array = Frame::<464>::new();
   let frame = address(&raw mut array);
   let mut v7 = 0u32;
   let mut v8 = 0u32;
-  let mut v9 = 0u32;
+  let mut v9 = 0u64;
   let mut v10 = 0u64;
   let mut v11 = 0u64;
   let mut v12 = 0u64;
@@ -26745,44 +27252,51 @@ unsafe fn der_view_walk_walk_3(p0: u64, p1: u64, p2: u64, mut p3: u64, mut p4: u
   let mut v16 = 0u64;
   let mut v17 = 0u64;
   let mut v18 = 0u32;
-  let mut v19 = 0u32;
+  let mut v19 = 0u64;
+  let mut v20 = 0u32;
   'after_14: {
   'after_9: {
   'after_1: {
   'after_2: {
+  fill(frame.wrapping_add(144), 0, 120);
   store64(frame.wrapping_add(16), 0);
   store64(frame.wrapping_add(8), 0);
   store64(frame, 0);
-  store64(frame.wrapping_add(144), load64(p4));
-  store64(frame.wrapping_add(152), load64(p4.wrapping_add(8)));
-  store64(frame.wrapping_add(160), load64(p4.wrapping_add(16)));
-  store64(frame.wrapping_add(168), load64(p4.wrapping_add(24)));
+  store64(frame.wrapping_add(304), load64(p4));
+  store64(frame.wrapping_add(312), load64(p4.wrapping_add(8)));
+  store64(frame.wrapping_add(320), load64(p4.wrapping_add(16)));
+  store64(frame.wrapping_add(328), load64(p4.wrapping_add(24)));
+  store64(frame.wrapping_add(264), load64(p5));
+  store64(frame.wrapping_add(272), load64(p5.wrapping_add(8)));
+  store64(frame.wrapping_add(280), load64(p5.wrapping_add(16)));
+  store64(frame.wrapping_add(288), load64(p5.wrapping_add(24)));
+  store64(frame.wrapping_add(296), load64(p5.wrapping_add(32)));
   if p3 == 0 {
     break 'after_1;
   }
-  v7 = load8(p5) as u32;
+  v7 = load8(frame.wrapping_add(264)) as u32;
   v8 = v7 ^ 1;
-  v9 = v7 & 1;
-  v10 = load64(p5.wrapping_add(8));
-  v11 = load64(p5.wrapping_add(24));
-  v12 = load64(p5.wrapping_add(32));
-  v13 = load64(p5.wrapping_add(16));
-  if (load64(frame.wrapping_add(152))) > 63 {
+  p4 = load64(frame.wrapping_add(296));
+  if (load64(frame.wrapping_add(312))) > 63 {
     break 'after_2;
   }
-  v14 = load8(p5.wrapping_add(1)) as u32;
-  v15 = frame.wrapping_add(184);
-  v16 = load64(frame.wrapping_add(144));
+  v9 = frame.wrapping_add(208);
+  v10 = (frame.wrapping_add(336)).wrapping_add(8);
+  v11 = (frame.wrapping_add(264)).wrapping_add(8);
+  v12 = load64(frame.wrapping_add(288));
+  v13 = load64(frame.wrapping_add(304));
   'again_13: loop {
-  v7 = load8(p2) as u32;
+  v14 = load8(p2) as u32;
+  v15 = load64(frame.wrapping_add(280));
+  v16 = load64(frame.wrapping_add(272));
   'after_4: {
   'after_7: {
   'after_3: {
-  if v12 > 1 {
+  if p4 > 1 {
     break 'after_3;
   }
   'after_5: {
-  match v12 as u32 {
+  match p4 as u32 {
   1 => {
     break 'after_4;
   }
@@ -26792,63 +27306,63 @@ unsafe fn der_view_walk_walk_3(p0: u64, p1: u64, p2: u64, mut p3: u64, mut p4: u
   }
   }
   'after_6: {
-  if ((v7 | v9) & 255) == 0 {
+  if ((v7 | v14) & 255) == 0 {
     break 'after_6;
   }
   v17 = 0;
-  v18 = v7;
+  v18 = v14;
   break 'after_7;
   }
   v17 = 0;
   'after_8: {
-  if v13 != 0 {
+  if v15 != 0 {
     break 'after_8;
   }
-  v12 = 0;
+  p4 = 0;
   break 'after_9;
   }
-  p4 = v10.wrapping_add(1);
-  p5 = v13;
+  p5 = v16.wrapping_add(1);
+  v19 = v15;
   'again_10: loop {
-  if (load8(p4) as u32) == 0 {
+  if (load8(p5) as u32) == 0 {
     break 'after_4;
   }
-  p4 = p4.wrapping_add(5);
-  p5 = p5.wrapping_add(0xffffffffffffffff);
-  if p5 != 0 {
+  p5 = p5.wrapping_add(5);
+  v19 = v19.wrapping_add(0xffffffffffffffff);
+  if v19 != 0 {
     continue 'again_10;
   }
   break;
   }
-  v12 = 0;
+  p4 = 0;
   break 'after_9;
   }
-  if (load8(v11) as u32) != 0 {
+  if (load8(v12) as u32) != 0 {
     break 'after_4;
   }
-  v18 = (u32::from((load8(v11.wrapping_add(1)) as u32) != 0)) | v8;
-  v19 = v18 & 1;
-  v17 = if v19 != 0 { 0u64 } else { 2u64 };
+  v18 = (u32::from((load8(v12.wrapping_add(1)) as u32) != 0)) | v8;
+  v20 = v18 & 1;
+  v17 = if v20 != 0 { 0u64 } else { 2u64 };
   v18 = v18 ^ 1;
-  if v19 != 0 {
+  if v20 != 0 {
     break 'after_7;
   }
-  if (v7 & 1) != 0 {
+  if (v14 & 1) != 0 {
     break 'after_7;
   }
   v17 = 2;
-  if v13 == 0 {
+  if v15 == 0 {
     break 'after_9;
   }
-  p4 = v10.wrapping_add(1);
-  p5 = v13;
+  p5 = v16.wrapping_add(1);
+  v19 = v15;
   'again_11: loop {
-  if (load8(p4) as u32) == 0 {
+  if (load8(p5) as u32) == 0 {
     break 'after_4;
   }
-  p4 = p4.wrapping_add(5);
-  p5 = p5.wrapping_add(0xffffffffffffffff);
-  if p5 != 0 {
+  p5 = p5.wrapping_add(5);
+  v19 = v19.wrapping_add(0xffffffffffffffff);
+  if v19 != 0 {
     continue 'again_11;
   }
   break 'after_9;
@@ -26858,28 +27372,31 @@ unsafe fn der_view_walk_walk_3(p0: u64, p1: u64, p2: u64, mut p3: u64, mut p4: u
     break 'after_9;
   }
   }
-  fill(frame.wrapping_add(176), 0, 128);
-  v7 = v7 & 1;
-  der_view_step_step_by(frame.wrapping_add(176), v7, v7, v10, v13, v11, v12);
-  v7 = load8(frame.wrapping_add(176)) as u32;
-  move_(frame.wrapping_add(24), v15, 120);
-  if v7 != 1 {
+  fill(frame.wrapping_add(336), 0, 128);
+  v14 = v14 & 1;
+  der_view_step_step_by(frame.wrapping_add(336), v14, v14, v16, v15, v12, p4);
+  v14 = load8(frame.wrapping_add(336)) as u32;
+  move_(frame.wrapping_add(24), v10, 120);
+  if v14 != 1 {
     break 'after_1;
   }
-  v13 = load64(frame.wrapping_add(96));
-  v10 = load64(frame.wrapping_add(88));
+  move_(frame.wrapping_add(144), frame.wrapping_add(24), 120);
   p3 = p3.wrapping_add(0xffffffffffffffff);
-  der_view_walk_draw_step_3(frame, p1, p2, p3, frame.wrapping_add(144), v14,
-      frame.wrapping_add(24));
+  der_view_walk_draw_step_3(frame, p1, p2, p3, frame.wrapping_add(304), frame.wrapping_add(264),
+      frame.wrapping_add(144));
   'after_12: {
   if (load8(frame) as u32) != 1 {
     break 'after_12;
   }
-  p4 = load64(frame.wrapping_add(16));
-  v16 = (v12.wrapping_sub(p4)).wrapping_add(v16);
-  store64(frame.wrapping_add(144), v16);
-  v11 = load64(frame.wrapping_add(8));
-  v12 = p4;
+  store64(v11, load64(v9));
+  store64(v11.wrapping_add(8), load64(v9.wrapping_add(8)));
+  p5 = load64(frame.wrapping_add(16));
+  store64(frame.wrapping_add(296), p5);
+  v12 = load64(frame.wrapping_add(8));
+  store64(frame.wrapping_add(288), v12);
+  v13 = (p4.wrapping_sub(p5)).wrapping_add(v13);
+  store64(frame.wrapping_add(304), v13);
+  p4 = p5;
   if p3 != 0 {
     continue 'again_13;
   }
@@ -26892,14 +27409,17 @@ unsafe fn der_view_walk_walk_3(p0: u64, p1: u64, p2: u64, mut p3: u64, mut p4: u
   store64(p0, 0);
   break 'after_14;
   }
-  v7 = load8(p2) as u32;
+  v14 = load8(p2) as u32;
+  v12 = load64(frame.wrapping_add(288));
+  p5 = load64(frame.wrapping_add(280));
+  v19 = load64(frame.wrapping_add(272));
   'after_18: {
   'after_15: {
-  if v12 > 1 {
+  if p4 > 1 {
     break 'after_15;
   }
   'after_16: {
-  match v12 as u32 {
+  match p4 as u32 {
   1 => {
     break 'after_1;
   }
@@ -26909,29 +27429,29 @@ unsafe fn der_view_walk_walk_3(p0: u64, p1: u64, p2: u64, mut p3: u64, mut p4: u
   }
   }
   'after_17: {
-  if ((v7 | v9) & 255) == 0 {
+  if ((v7 | v14) & 255) == 0 {
     break 'after_17;
   }
   v17 = 0;
-  v14 = v7;
+  v7 = v14;
   break 'after_18;
   }
-  v12 = 0;
+  p4 = 0;
   'after_19: {
-  if v13 != 0 {
+  if p5 != 0 {
     break 'after_19;
   }
   v17 = 0;
   break 'after_9;
   }
-  p4 = v10.wrapping_add(1);
+  v19 = v19.wrapping_add(1);
   'again_20: loop {
-  if (load8(p4) as u32) == 0 {
+  if (load8(v19) as u32) == 0 {
     break 'after_1;
   }
-  p4 = p4.wrapping_add(5);
-  v13 = v13.wrapping_add(0xffffffffffffffff);
-  if v13 != 0 {
+  v19 = v19.wrapping_add(5);
+  p5 = p5.wrapping_add(0xffffffffffffffff);
+  if p5 != 0 {
     continue 'again_20;
   }
   break;
@@ -26939,48 +27459,50 @@ unsafe fn der_view_walk_walk_3(p0: u64, p1: u64, p2: u64, mut p3: u64, mut p4: u
   v17 = 0;
   break 'after_9;
   }
-  if (load8(v11) as u32) != 0 {
+  if (load8(v12) as u32) != 0 {
     break 'after_1;
   }
-  v14 = (u32::from((load8(v11.wrapping_add(1)) as u32) != 0)) | v8;
-  v9 = v14 & 1;
-  v17 = if v9 != 0 { 0u64 } else { 2u64 };
-  v14 = v14 ^ 1;
-  if v9 != 0 {
+  v7 = (u32::from((load8(v12.wrapping_add(1)) as u32) != 0)) | v8;
+  v18 = v7 & 1;
+  v17 = if v18 != 0 { 0u64 } else { 2u64 };
+  v7 = v7 ^ 1;
+  if v18 != 0 {
     break 'after_18;
   }
-  if (v7 & 1) != 0 {
+  if (v14 & 1) != 0 {
     break 'after_18;
   }
   v17 = 2;
-  if v13 == 0 {
+  if p5 == 0 {
     break 'after_9;
   }
-  p4 = v10.wrapping_add(1);
+  v19 = v19.wrapping_add(1);
   'again_21: loop {
-  if (load8(p4) as u32) == 0 {
+  if (load8(v19) as u32) == 0 {
     break 'after_1;
   }
-  p4 = p4.wrapping_add(5);
-  v13 = v13.wrapping_add(0xffffffffffffffff);
-  if v13 != 0 {
+  v19 = v19.wrapping_add(5);
+  p5 = p5.wrapping_add(0xffffffffffffffff);
+  if p5 != 0 {
     continue 'again_21;
   }
   break 'after_9;
   }
   }
-  if (v14 & 1) != 0 {
+  if (v7 & 1) != 0 {
     break 'after_9;
   }
   }
+  der_view_walk_draw_left_3();
   store64(p0.wrapping_add(16), 0);
   store64(p0.wrapping_add(8), 0);
   store64(p0, 0);
   break 'after_14;
   }
+  der_view_walk_draw_end_3();
   store64(p0, 1);
-  store64(p0.wrapping_add(16), v12.wrapping_sub(v17));
-  store64(p0.wrapping_add(8), v11.wrapping_add(v17));
+  store64(p0.wrapping_add(16), p4.wrapping_sub(v17));
+  store64(p0.wrapping_add(8), v12.wrapping_add(v17));
   }
 }
 
@@ -27014,6 +27536,16 @@ unsafe fn der_view_walk_follows_3(p0: u64, p1: u64, p2: u64, p3: u64, mut p4: u3
   return u32::from(p4 == 1);
 }
 
+// der_view::walk::draw_left::<#ec1ad888fc6273f0>
+unsafe fn der_view_walk_draw_left_3() {
+  return;
+}
+
+// der_view::walk::draw_end::<#ec1ad888fc6273f0>
+unsafe fn der_view_walk_draw_end_3() {
+  return;
+}
+
 // der_view::form::draw_rows::<#927bfe390f535f75>
 unsafe fn der_view_form_draw_rows(p0: u64, mut p1: u64, mut p2: u64, p3: u64, mut p4: u32) {
   let mut array = Frame::<640>::new();
@@ -27032,7 +27564,6 @@ unsafe fn der_view_form_draw_rows(p0: u64, mut p1: u64, mut p2: u64, p3: u64, mu
   let mut v17 = 0u32;
   let mut v18 = 0u32;
   let mut v19 = 0u64;
-  let mut v20 = 0u64;
   'after_2: {
   'after_6: {
   v6 = load8(p1.wrapping_add(8)) as u32;
@@ -27149,28 +27680,30 @@ unsafe fn der_view_form_draw_rows(p0: u64, mut p1: u64, mut p2: u64, p3: u64, mu
   if p1 == 0 {
     break 'after_2;
   }
-  p2 = p3.wrapping_sub(p1);
-  v19 = if v15 < p2 { v15 } else { p2 };
-  v15 = v15.wrapping_sub(v19);
-  v20 = if v15 < p1 { v15 } else { p1 };
-  v16 = v16.wrapping_add(v19);
+  p2 = load64(frame.wrapping_add(24));
+  v15 = p3.wrapping_sub(p1);
+  let t0 = p2;
+  p2 = if p2 < v15 { p2 } else { v15 };
+  v16 = t0.wrapping_sub(p2);
+  v16 = if v16 < p1 { v16 } else { p1 };
+  v19 = (load64(frame.wrapping_add(16))).wrapping_add(p2);
   p4 = 3;
-  v15 = 1;
+  p2 = 1;
   'after_7: {
   if p3 != p1 {
     break 'after_7;
   }
-  let t0 = (u32::from((load8(p0.wrapping_add(8)) as u32) != 1)) |
+  let t1 = (u32::from((load8(p0.wrapping_add(8)) as u32) != 1)) |
       (u32::from(((load8(p0.wrapping_add(14)) as u32) & 255) != 0));
-  v8 = t0 | (load8(p0.wrapping_add(18)) as u32);
+  v8 = t1 | (load8(p0.wrapping_add(18)) as u32);
   p4 = if (v8 & 1) != 0 { 0u32 } else { 2u32 };
-  v15 = ((v8 ^ 0xffffffff) as u64) & 1;
+  p2 = ((v8 ^ 0xffffffff) as u64) & 1;
   }
   store32(frame.wrapping_add(289), 0);
   store8(frame.wrapping_add(288), v17 as u8);
   store64(frame.wrapping_add(280), p3);
   store64(frame.wrapping_add(272), 0);
-  store64(frame.wrapping_add(264), p2);
+  store64(frame.wrapping_add(264), v15);
   store64(frame.wrapping_add(368), 0);
   store64(frame.wrapping_add(360), p1);
   store64(frame.wrapping_add(352), 0);
@@ -27186,12 +27719,12 @@ unsafe fn der_view_form_draw_rows(p0: u64, mut p1: u64, mut p2: u64, p3: u64, mu
   store64(frame.wrapping_add(384), 0);
   store64(frame.wrapping_add(392), 0);
   store32(frame.wrapping_add(424), p4);
-  store64(frame.wrapping_add(416), v15);
+  store64(frame.wrapping_add(416), p2);
   store64(frame.wrapping_add(408), 0);
   store64(frame.wrapping_add(400), constant(0));
   fill(frame.wrapping_add(428), 0, 180);
-  store64(frame.wrapping_add(632), v20);
-  store64(frame.wrapping_add(624), v16);
+  store64(frame.wrapping_add(632), v16);
+  store64(frame.wrapping_add(624), v19);
   store64(frame.wrapping_add(616), 0);
   store64(frame.wrapping_add(608), constant(0));
   der_view_printer_Printer_tell(p0, frame.wrapping_add(264));
@@ -27236,337 +27769,127 @@ unsafe fn der_view_form_draw_rows(p0: u64, mut p1: u64, mut p2: u64, p3: u64, mu
 // der_view::walk::draw_step::<#058ff82db2a1a4d6>
 unsafe fn der_view_walk_draw_step_6(p0: u64, p1: u64, p2: u64, p3: u64, mut p4: u64, p5: u64,
     mut p6: u64) {
-  let mut array = Frame::<816>::new();
+  let mut array = Frame::<272>::new();
   let frame = address(&raw mut array);
   let mut v8 = 0u32;
   let mut v9 = 0u64;
   let mut v10 = 0u64;
   let mut v11 = 0u64;
   let mut v12 = 0u32;
-  let mut v13 = 0u32;
+  let mut v13 = 0u64;
   let mut v14 = 0u32;
-  let mut v15 = 0u64;
-  let mut v16 = 0u64;
-  let mut v17 = 0u32;
-  let mut v18 = 0u32;
-  let mut v19 = 0u64;
-  let mut v20 = 0u64;
-  let mut v21 = 0u64;
-  let mut v22 = 0u64;
-  let mut v23 = 0u64;
-  let mut v24 = 0u64;
-  let mut v25 = 0u64;
-  let mut v26 = 0u64;
-  let mut v27 = 0u64;
-  let mut v28 = 0u64;
-  let mut v29 = 0u64;
-  store32(frame.wrapping_add(184), load32(p4.wrapping_add(25)));
-  store32(frame.wrapping_add(187), load32(p4.wrapping_add(28)));
+  let mut v15 = 0u32;
+  let mut v16 = 0u32;
+  store32(frame.wrapping_add(248), load32(p4.wrapping_add(25)));
+  store32(frame.wrapping_add(251), load32(p4.wrapping_add(28)));
   'after_5: {
-  'after_6: {
-  'after_7: {
   v8 = load8(p4.wrapping_add(24)) as u32;
   v9 = load64(p4.wrapping_add(16));
   v10 = load64(p4.wrapping_add(8));
   p4 = load64(p4);
-  v11 = 0;
-  store64(frame.wrapping_add(200), 0);
+  store64(frame.wrapping_add(264), 0);
+  store64(frame.wrapping_add(256), 0);
+  store64(frame.wrapping_add(208), 0);
+  store64(frame.wrapping_add(216), 0);
+  store64(frame.wrapping_add(224), 0);
+  store64(frame.wrapping_add(232), 0);
+  store64(frame.wrapping_add(240), 0);
+  store64(frame.wrapping_add(184), 0);
   store64(frame.wrapping_add(192), 0);
-  v12 = 0;
-  store32(frame.wrapping_add(176), 0);
-  store32(frame.wrapping_add(179), 0);
-  store64(frame.wrapping_add(136), 0);
-  store64(frame.wrapping_add(144), 0);
+  store64(frame.wrapping_add(200), 0);
   store64(frame.wrapping_add(152), 0);
   store64(frame.wrapping_add(160), 0);
   store64(frame.wrapping_add(168), 0);
-  store64(frame.wrapping_add(112), 0);
-  store64(frame.wrapping_add(120), 0);
-  store64(frame.wrapping_add(128), 0);
-  store64(frame.wrapping_add(88), 0);
-  store64(frame.wrapping_add(96), 0);
-  store64(frame.wrapping_add(104), 0);
-  store64(frame.wrapping_add(80), 0);
-  store64(frame.wrapping_add(72), 0);
+  store64(frame.wrapping_add(176), 0);
   store64(frame.wrapping_add(64), 0);
+  store64(frame.wrapping_add(72), 0);
+  store64(frame.wrapping_add(80), 0);
   store64(frame.wrapping_add(56), 0);
   store64(frame.wrapping_add(48), 0);
   store64(frame.wrapping_add(40), 0);
-  v13 = 1;
-  v14 = v8 & 1;
-  v15 = v10.wrapping_add(1);
-  v16 = p4.wrapping_add(load64(p6.wrapping_add(16)));
-  v17 = load8(p2) as u32;
+  store64(frame.wrapping_add(32), 0);
+  store64(frame.wrapping_add(16), 0);
+  store64(frame.wrapping_add(24), 0);
+  v11 = v10.wrapping_add(1);
+  store64(frame.wrapping_add(128), v11);
+  store64(frame.wrapping_add(136), v9);
+  v12 = v8 & 1;
+  store8(frame.wrapping_add(144), v12 as u8);
+  store32(frame.wrapping_add(145), 0);
+  store32(frame.wrapping_add(148), 0);
+  v13 = p4.wrapping_add(load64(p6.wrapping_add(16)));
+  store64(frame.wrapping_add(120), v13);
+  der_view_walk_opened_of_6(frame.wrapping_add(152), p1, p2, p3, frame.wrapping_add(120), p6);
+  store8(frame.wrapping_add(112), v8 as u8);
+  store64(frame.wrapping_add(104), v9);
+  store64(frame.wrapping_add(96), v10);
+  store64(frame.wrapping_add(88), p4);
+  store32(frame.wrapping_add(113), load32(frame.wrapping_add(248)));
+  store32(frame.wrapping_add(116), load32(frame.wrapping_add(251)));
+  v14 = load8(frame.wrapping_add(176)) as u32;
+  p4 = load64(frame.wrapping_add(168));
+  v15 = load8(frame.wrapping_add(160)) as u32;
+  v8 = load8(frame.wrapping_add(152)) as u32;
+  der_view_walk_draw_element_6(p1, p2, frame.wrapping_add(88), p5, u32::from(v8 == 1), p6);
   'after_4: {
   'after_3: {
   'after_2: {
   'after_1: {
-  v18 = load8(p6.wrapping_add(58)) as u32;
-  match ((v18 as u64) & 255) as u32 {
-  6 => {
+  if v8 != 1 {
     break 'after_1;
   }
-  7 => {
+  v8 = load8(p6.wrapping_add(24)) as u32;
+  v16 = load8(p5.wrapping_add(1)) as u32;
+  der_view_grammar_Structure_components(frame, v15);
+  store8(frame.wrapping_add(209), v16 as u8);
+  store8(frame.wrapping_add(208), (u32::from(v8 != 1)) as u8);
+  store8(frame.wrapping_add(184), v14 as u8);
+  store64(frame.wrapping_add(32), p4.wrapping_add(v13));
+  store64(frame.wrapping_add(40), v11);
+  store64(frame.wrapping_add(48), v9);
+  store8(frame.wrapping_add(56), v12 as u8);
+  store64(frame.wrapping_add(224), load64(frame.wrapping_add(8)));
+  store64(frame.wrapping_add(216), load64(frame));
+  store8(frame.wrapping_add(185), (load8(p2.wrapping_add(1)) as u32) as u8);
+  store64(frame.wrapping_add(192), load64(p2.wrapping_add(8)));
+  store64(frame.wrapping_add(200), load64(p2.wrapping_add(16)));
+  store64(frame.wrapping_add(240), (load64(p6.wrapping_add(96))).wrapping_sub(p4));
+  store64(frame.wrapping_add(232), (load64(p6.wrapping_add(88))).wrapping_add(p4));
+  store32(frame.wrapping_add(60), 0);
+  store32(frame.wrapping_add(57), 0);
+  der_view_walk_walk_6(frame.wrapping_add(64), p1, frame.wrapping_add(184), p3,
+      frame.wrapping_add(32), frame.wrapping_add(208));
+  if (load8(frame.wrapping_add(64)) as u32) != 1 {
     break 'after_2;
   }
-  8 => {
+  if v8 == 1 {
     break 'after_3;
   }
-  _ => {
-    break 'after_4;
-  }
-  }
-  }
-  v12 = load8(p6.wrapping_add(59)) as u32;
-  break 'after_5;
-  }
-  v19 = load64(p6.wrapping_add(88));
-  v20 = load64(p6.wrapping_add(96));
-  v12 = load8(p6.wrapping_add(59)) as u32;
-  v17 = 0;
-  store32(frame.wrapping_add(233), 0);
-  store8(frame.wrapping_add(232), v14 as u8);
-  store64(frame.wrapping_add(224), v9);
-  store64(frame.wrapping_add(216), v15);
-  store64(frame.wrapping_add(208), v16);
-  store32(frame.wrapping_add(236), 0);
-  v11 = 0;
-  store64(frame.wrapping_add(408), 0);
-  store64(frame.wrapping_add(344), 0);
-  store64(frame.wrapping_add(784), 0);
-  store64(frame.wrapping_add(792), 0);
-  store64(frame.wrapping_add(800), 0);
-  der_view_grammar_Structure_components(frame.wrapping_add(24), v12);
-  store64(frame.wrapping_add(440), v20);
-  store64(frame.wrapping_add(432), v19);
-  store16(frame.wrapping_add(408), 256);
-  store8(frame.wrapping_add(344), 0);
-  store64(frame.wrapping_add(424), load64(frame.wrapping_add(32)));
-  store64(frame.wrapping_add(416), load64(frame.wrapping_add(24)));
-  store64(frame.wrapping_add(352), load64(p2.wrapping_add(8)));
-  store64(frame.wrapping_add(360), load64(p2.wrapping_add(16)));
-  store8(frame.wrapping_add(345), (load8(p2.wrapping_add(1)) as u32) as u8);
-  der_view_walk_walk_6(frame.wrapping_add(784), p1, frame.wrapping_add(344), p3,
-      frame.wrapping_add(208), frame.wrapping_add(408));
-  v13 = u32::from((load8(frame.wrapping_add(784)) as u32) == 1);
-  v12 = if v13 != 0 { v12 } else { 0u32 };
-  break 'after_5;
-  }
-  v19 = load64(p6.wrapping_add(96));
-  if v19 == 0 {
-    break 'after_6;
-  }
-  v13 = 0;
-  v20 = load64(p6.wrapping_add(88));
-  if (load8(v20) as u32) != 0 {
-    break 'after_7;
-  }
-  'after_8: {
-  v19 = v19.wrapping_add(0xffffffffffffffff);
-  if v19 != 0 {
-    break 'after_8;
-  }
-  v13 = 0;
-  break 'after_7;
-  }
-  v12 = load8(p6.wrapping_add(59)) as u32;
-  v17 = 0;
-  store32(frame.wrapping_add(433), 0);
-  store8(frame.wrapping_add(432), v14 as u8);
-  store64(frame.wrapping_add(424), v9);
-  store64(frame.wrapping_add(416), v15);
-  store64(frame.wrapping_add(408), v16);
-  store32(frame.wrapping_add(436), 0);
-  let t0 = der_view_walk_follows_6(p1, p2, p3, frame.wrapping_add(408), v12,
-      v20.wrapping_add(1), v19);
-  v13 = t0;
-  v12 = if v13 != 0 { v12 } else { 0u32 };
-  v11 = v13 as u64;
-  break 'after_5;
-  }
-  v13 = 1;
-  'after_9: {
-  if (load8(p6.wrapping_add(24)) as u32) != 1 {
-    break 'after_9;
-  }
-  v12 = 0;
-  if (load8(p6.wrapping_add(1)) as u32) != 1 {
-    break 'after_6;
-  }
-  if (((u32::from((v18 & 255) == 9)) | v17) & 1) == 0 {
-    break 'after_6;
-  }
-  }
-  v12 = 84;
-  break 'after_5;
-  }
-  v12 = 0;
-  v17 = 0;
-  break 'after_5;
-  }
-  v13 = 0;
-  v17 = 0;
-  }
-  v19 = (frame.wrapping_add(208)).wrapping_add(56);
-  fill(v19, 0, 80);
-  'after_10: {
-  if (load8(p5.wrapping_add(1)) as u32) != 0 {
-    break 'after_10;
-  }
-  store64(frame.wrapping_add(376), load64(p6.wrapping_add(32)));
-  store64(frame.wrapping_add(368), load64(p6.wrapping_add(24)));
-  store64(frame.wrapping_add(360), load64(p6.wrapping_add(16)));
-  store64(frame.wrapping_add(352), load64(p6.wrapping_add(8)));
-  store64(frame.wrapping_add(344), load64(p6));
-  v21 = load64(p6.wrapping_add(88));
-  v20 = load64(p6.wrapping_add(96));
-  let t1 = der_view_content_shown_len(load8(p2.wrapping_add(1)) as u32, frame.wrapping_add(344),
-      load8(p6.wrapping_add(58)) as u32, load8(p6.wrapping_add(59)) as u32, v21, v20);
-  v22 = t1;
-  v23 = constant(0);
-  v24 = 0;
-  v25 = 0;
-  v26 = constant(0);
-  'after_11: {
-  v18 = load8(p6.wrapping_add(80)) as u32;
-  if v18 != 0 {
-    break 'after_11;
-  }
-  v25 = load64(p5.wrapping_add(16));
-  v26 = load64(p5.wrapping_add(8));
-  }
-  v27 = p6.wrapping_add(40);
-  v28 = p6.wrapping_add(56);
-  v29 = if (load8(frame.wrapping_add(368)) as u32) == 1 { v20 } else { 0u64 };
-  'after_12: {
-  if v13 != 0 {
-    break 'after_12;
-  }
-  v23 = load64(p2.wrapping_add(16));
-  v24 = (load64(frame.wrapping_add(360))).wrapping_add(p4);
-  let t2 = v23;
-  v23 = if v23 < v24 { v23 } else { v24 };
-  v24 = t2.wrapping_sub(v23);
-  v24 = if v24 < v20 { v24 } else { v20 };
-  v23 = (load64(p2.wrapping_add(8))).wrapping_add(v23);
-  }
-  store32(v19, load32(v28));
-  store8(v19.wrapping_add(4), (load8(v28.wrapping_add(4)) as u32) as u8);
-  store64(frame.wrapping_add(240), load64(p6.wrapping_add(32)));
-  store64(frame.wrapping_add(232), load64(p6.wrapping_add(24)));
-  store64(frame.wrapping_add(224), load64(p6.wrapping_add(16)));
-  store64(frame.wrapping_add(216), load64(p6.wrapping_add(8)));
-  store64(frame.wrapping_add(208), load64(p6));
-  store64(frame.wrapping_add(248), load64(v27));
-  store64(frame.wrapping_add(256), load64(v27.wrapping_add(8)));
-  store8(frame.wrapping_add(336), v13 as u8);
-  store64(frame.wrapping_add(328), v24);
-  store64(frame.wrapping_add(320), v23);
-  store64(frame.wrapping_add(312), v22);
-  store64(frame.wrapping_add(304), v21);
-  store64(frame.wrapping_add(296), v29);
-  store8(frame.wrapping_add(288), v18 as u8);
-  store64(frame.wrapping_add(280), v25);
-  store64(frame.wrapping_add(272), v26);
-  store8(frame.wrapping_add(808), v8 as u8);
-  store64(frame.wrapping_add(800), v9);
-  store64(frame.wrapping_add(792), v10);
-  store64(frame.wrapping_add(784), p4);
-  store32(frame.wrapping_add(809), load32(frame.wrapping_add(184)));
-  store32(frame.wrapping_add(812), load32(frame.wrapping_add(187)));
-  fill(frame.wrapping_add(408), 0, 376);
-  store64(frame.wrapping_add(400), load64(p1.wrapping_add(16)));
-  store64(frame.wrapping_add(392), load64(p1.wrapping_add(8)));
-  store64(frame.wrapping_add(384), load64(p1));
-  der_view_facts_RowFacts_of_element(frame.wrapping_add(408), frame.wrapping_add(384), 0,
-      frame.wrapping_add(784), frame.wrapping_add(208));
-  if (load8(p1.wrapping_add(24)) as u32) == 1 {
-    break 'after_10;
-  }
-  p4 = load64(frame.wrapping_add(408));
-  'after_13: {
-  if (load8(frame.wrapping_add(560)) as u32) == 1 {
-    break 'after_13;
-  }
-  if ((load8(frame.wrapping_add(592)) as u32) & 255) == 1 {
-    break 'after_13;
-  }
-  if ((load8(frame.wrapping_add(624)) as u32) & 255) == 1 {
-    break 'after_13;
-  }
-  if ((load8(frame.wrapping_add(656)) as u32) & 255) == 1 {
-    break 'after_13;
-  }
-  if ((load8(frame.wrapping_add(688)) as u32) & 255) == 1 {
-    break 'after_13;
-  }
-  if ((load8(frame.wrapping_add(720)) as u32) & 255) != 1 {
-    break 'after_10;
-  }
-  }
-  store64(p1.wrapping_add(32), p4);
-  store64(p1.wrapping_add(24), 1);
-  }
-  'after_18: {
-  'after_17: {
-  'after_16: {
-  'after_15: {
-  'after_14: {
-  if v13 == 0 {
-    break 'after_14;
-  }
-  v13 = load8(p6.wrapping_add(24)) as u32;
-  v8 = load8(p5.wrapping_add(1)) as u32;
-  der_view_grammar_Structure_components(frame.wrapping_add(8), v12);
-  store8(frame.wrapping_add(137), v8 as u8);
-  v13 = u32::from(v13 != 1);
-  store8(frame.wrapping_add(136), v13 as u8);
-  store8(frame.wrapping_add(112), v17 as u8);
-  store64(frame.wrapping_add(56), v11.wrapping_add(v16));
-  store64(frame.wrapping_add(64), v15);
-  store64(frame.wrapping_add(72), v9);
-  store8(frame.wrapping_add(80), v14 as u8);
-  store64(frame.wrapping_add(152), load64(frame.wrapping_add(16)));
-  store64(frame.wrapping_add(144), load64(frame.wrapping_add(8)));
-  store8(frame.wrapping_add(113), (load8(p2.wrapping_add(1)) as u32) as u8);
-  store64(frame.wrapping_add(120), load64(p2.wrapping_add(8)));
-  store64(frame.wrapping_add(128), load64(p2.wrapping_add(16)));
-  store64(frame.wrapping_add(168), (load64(p6.wrapping_add(96))).wrapping_sub(v11));
-  store64(frame.wrapping_add(160), (load64(p6.wrapping_add(88))).wrapping_add(v11));
-  store32(frame.wrapping_add(84), load32(frame.wrapping_add(179)));
-  store32(frame.wrapping_add(81), load32(frame.wrapping_add(176)));
-  der_view_walk_walk_6(frame.wrapping_add(88), p1, frame.wrapping_add(112), p3,
-      frame.wrapping_add(56), frame.wrapping_add(136));
-  if (load8(frame.wrapping_add(88)) as u32) != 1 {
-    break 'after_15;
-  }
-  if v13 == 0 {
-    break 'after_16;
-  }
-  store64(frame.wrapping_add(48), load64(frame.wrapping_add(104)));
-  store64(frame.wrapping_add(40), load64(frame.wrapping_add(96)));
-  break 'after_17;
+  store64(frame.wrapping_add(24), load64(frame.wrapping_add(80)));
+  store64(frame.wrapping_add(16), load64(frame.wrapping_add(72)));
+  break 'after_4;
   }
   p4 = load64(p6.wrapping_add(112));
   p6 = load64(p6.wrapping_add(104));
   store64(p0, 1);
   store64(p0.wrapping_add(8), p6);
   store64(p0.wrapping_add(16), p4);
-  store64(frame.wrapping_add(200), p4);
-  store64(frame.wrapping_add(192), p6);
-  break 'after_18;
+  store64(frame.wrapping_add(264), p4);
+  store64(frame.wrapping_add(256), p6);
+  break 'after_5;
   }
   store64(p0.wrapping_add(16), 0);
   store64(p0.wrapping_add(8), 0);
   store64(p0, 0);
-  break 'after_18;
+  break 'after_5;
   }
-  store64(frame.wrapping_add(48), load64(p6.wrapping_add(112)));
-  store64(frame.wrapping_add(40), load64(p6.wrapping_add(104)));
+  store64(frame.wrapping_add(24), load64(p6.wrapping_add(112)));
+  store64(frame.wrapping_add(16), load64(p6.wrapping_add(104)));
   }
   store64(p0, 1);
-  store64(p0.wrapping_add(8), load64(frame.wrapping_add(40)));
-  store64(p0.wrapping_add(16), load64(frame.wrapping_add(48)));
+  store64(p0.wrapping_add(8), load64(frame.wrapping_add(16)));
+  store64(p0.wrapping_add(16), load64(frame.wrapping_add(24)));
+  break 'after_5;
   }
 }
 
@@ -29810,312 +30133,127 @@ unsafe fn der_view_printer_Printer_tell(p0: u64, p1: u64) {
 // der_view::walk::draw_step::<#927bfe390f535f75>
 unsafe fn der_view_walk_draw_step_7(p0: u64, p1: u64, p2: u64, p3: u64, mut p4: u64, p5: u64,
     mut p6: u64) {
-  let mut array = Frame::<816>::new();
+  let mut array = Frame::<272>::new();
   let frame = address(&raw mut array);
   let mut v8 = 0u32;
   let mut v9 = 0u64;
   let mut v10 = 0u64;
   let mut v11 = 0u64;
   let mut v12 = 0u32;
-  let mut v13 = 0u32;
+  let mut v13 = 0u64;
   let mut v14 = 0u32;
-  let mut v15 = 0u64;
-  let mut v16 = 0u64;
-  let mut v17 = 0u32;
-  let mut v18 = 0u32;
-  let mut v19 = 0u64;
-  let mut v20 = 0u64;
-  let mut v21 = 0u64;
-  let mut v22 = 0u64;
-  let mut v23 = 0u64;
-  let mut v24 = 0u64;
-  let mut v25 = 0u64;
-  let mut v26 = 0u64;
-  let mut v27 = 0u64;
-  let mut v28 = 0u64;
-  let mut v29 = 0u64;
-  store32(frame.wrapping_add(184), load32(p4.wrapping_add(25)));
-  store32(frame.wrapping_add(187), load32(p4.wrapping_add(28)));
+  let mut v15 = 0u32;
+  let mut v16 = 0u32;
+  store32(frame.wrapping_add(248), load32(p4.wrapping_add(25)));
+  store32(frame.wrapping_add(251), load32(p4.wrapping_add(28)));
   'after_5: {
-  'after_6: {
-  'after_7: {
   v8 = load8(p4.wrapping_add(24)) as u32;
   v9 = load64(p4.wrapping_add(16));
   v10 = load64(p4.wrapping_add(8));
   p4 = load64(p4);
-  v11 = 0;
-  store64(frame.wrapping_add(200), 0);
+  store64(frame.wrapping_add(264), 0);
+  store64(frame.wrapping_add(256), 0);
+  store64(frame.wrapping_add(208), 0);
+  store64(frame.wrapping_add(216), 0);
+  store64(frame.wrapping_add(224), 0);
+  store64(frame.wrapping_add(232), 0);
+  store64(frame.wrapping_add(240), 0);
+  store64(frame.wrapping_add(184), 0);
   store64(frame.wrapping_add(192), 0);
-  v12 = 0;
-  store32(frame.wrapping_add(176), 0);
-  store32(frame.wrapping_add(179), 0);
-  store64(frame.wrapping_add(136), 0);
-  store64(frame.wrapping_add(144), 0);
+  store64(frame.wrapping_add(200), 0);
   store64(frame.wrapping_add(152), 0);
   store64(frame.wrapping_add(160), 0);
   store64(frame.wrapping_add(168), 0);
-  store64(frame.wrapping_add(112), 0);
-  store64(frame.wrapping_add(120), 0);
-  store64(frame.wrapping_add(128), 0);
-  store64(frame.wrapping_add(88), 0);
-  store64(frame.wrapping_add(96), 0);
-  store64(frame.wrapping_add(104), 0);
-  store64(frame.wrapping_add(80), 0);
-  store64(frame.wrapping_add(72), 0);
+  store64(frame.wrapping_add(176), 0);
   store64(frame.wrapping_add(64), 0);
+  store64(frame.wrapping_add(72), 0);
+  store64(frame.wrapping_add(80), 0);
   store64(frame.wrapping_add(56), 0);
   store64(frame.wrapping_add(48), 0);
   store64(frame.wrapping_add(40), 0);
-  v13 = 1;
-  v14 = v8 & 1;
-  v15 = v10.wrapping_add(1);
-  v16 = p4.wrapping_add(load64(p6.wrapping_add(16)));
-  v17 = load8(p2) as u32;
+  store64(frame.wrapping_add(32), 0);
+  store64(frame.wrapping_add(16), 0);
+  store64(frame.wrapping_add(24), 0);
+  v11 = v10.wrapping_add(1);
+  store64(frame.wrapping_add(128), v11);
+  store64(frame.wrapping_add(136), v9);
+  v12 = v8 & 1;
+  store8(frame.wrapping_add(144), v12 as u8);
+  store32(frame.wrapping_add(145), 0);
+  store32(frame.wrapping_add(148), 0);
+  v13 = p4.wrapping_add(load64(p6.wrapping_add(16)));
+  store64(frame.wrapping_add(120), v13);
+  der_view_walk_opened_of_7(frame.wrapping_add(152), p1, p2, p3, frame.wrapping_add(120), p6);
+  store8(frame.wrapping_add(112), v8 as u8);
+  store64(frame.wrapping_add(104), v9);
+  store64(frame.wrapping_add(96), v10);
+  store64(frame.wrapping_add(88), p4);
+  store32(frame.wrapping_add(113), load32(frame.wrapping_add(248)));
+  store32(frame.wrapping_add(116), load32(frame.wrapping_add(251)));
+  v14 = load8(frame.wrapping_add(176)) as u32;
+  p4 = load64(frame.wrapping_add(168));
+  v15 = load8(frame.wrapping_add(160)) as u32;
+  v8 = load8(frame.wrapping_add(152)) as u32;
+  der_view_walk_draw_element_7(p1, p2, frame.wrapping_add(88), p5, u32::from(v8 == 1), p6);
   'after_4: {
   'after_3: {
   'after_2: {
   'after_1: {
-  v18 = load8(p6.wrapping_add(58)) as u32;
-  match ((v18 as u64) & 255) as u32 {
-  6 => {
+  if v8 != 1 {
     break 'after_1;
   }
-  7 => {
+  v8 = load8(p6.wrapping_add(24)) as u32;
+  v16 = load8(p5.wrapping_add(1)) as u32;
+  der_view_grammar_Structure_components(frame, v15);
+  store8(frame.wrapping_add(209), v16 as u8);
+  store8(frame.wrapping_add(208), (u32::from(v8 != 1)) as u8);
+  store8(frame.wrapping_add(184), v14 as u8);
+  store64(frame.wrapping_add(32), p4.wrapping_add(v13));
+  store64(frame.wrapping_add(40), v11);
+  store64(frame.wrapping_add(48), v9);
+  store8(frame.wrapping_add(56), v12 as u8);
+  store64(frame.wrapping_add(224), load64(frame.wrapping_add(8)));
+  store64(frame.wrapping_add(216), load64(frame));
+  store8(frame.wrapping_add(185), (load8(p2.wrapping_add(1)) as u32) as u8);
+  store64(frame.wrapping_add(192), load64(p2.wrapping_add(8)));
+  store64(frame.wrapping_add(200), load64(p2.wrapping_add(16)));
+  store64(frame.wrapping_add(240), (load64(p6.wrapping_add(96))).wrapping_sub(p4));
+  store64(frame.wrapping_add(232), (load64(p6.wrapping_add(88))).wrapping_add(p4));
+  store32(frame.wrapping_add(60), 0);
+  store32(frame.wrapping_add(57), 0);
+  der_view_walk_walk_7(frame.wrapping_add(64), p1, frame.wrapping_add(184), p3,
+      frame.wrapping_add(32), frame.wrapping_add(208));
+  if (load8(frame.wrapping_add(64)) as u32) != 1 {
     break 'after_2;
   }
-  8 => {
+  if v8 == 1 {
     break 'after_3;
   }
-  _ => {
-    break 'after_4;
-  }
-  }
-  }
-  v12 = load8(p6.wrapping_add(59)) as u32;
-  break 'after_5;
-  }
-  v19 = load64(p6.wrapping_add(88));
-  v20 = load64(p6.wrapping_add(96));
-  v12 = load8(p6.wrapping_add(59)) as u32;
-  v17 = 0;
-  store32(frame.wrapping_add(233), 0);
-  store8(frame.wrapping_add(232), v14 as u8);
-  store64(frame.wrapping_add(224), v9);
-  store64(frame.wrapping_add(216), v15);
-  store64(frame.wrapping_add(208), v16);
-  store32(frame.wrapping_add(236), 0);
-  v11 = 0;
-  store64(frame.wrapping_add(408), 0);
-  store64(frame.wrapping_add(344), 0);
-  store64(frame.wrapping_add(784), 0);
-  store64(frame.wrapping_add(792), 0);
-  store64(frame.wrapping_add(800), 0);
-  der_view_grammar_Structure_components(frame.wrapping_add(24), v12);
-  store64(frame.wrapping_add(440), v20);
-  store64(frame.wrapping_add(432), v19);
-  store16(frame.wrapping_add(408), 256);
-  store8(frame.wrapping_add(344), 0);
-  store64(frame.wrapping_add(424), load64(frame.wrapping_add(32)));
-  store64(frame.wrapping_add(416), load64(frame.wrapping_add(24)));
-  store64(frame.wrapping_add(352), load64(p2.wrapping_add(8)));
-  store64(frame.wrapping_add(360), load64(p2.wrapping_add(16)));
-  store8(frame.wrapping_add(345), (load8(p2.wrapping_add(1)) as u32) as u8);
-  der_view_walk_walk_7(frame.wrapping_add(784), p1, frame.wrapping_add(344), p3,
-      frame.wrapping_add(208), frame.wrapping_add(408));
-  v13 = u32::from((load8(frame.wrapping_add(784)) as u32) == 1);
-  v12 = if v13 != 0 { v12 } else { 0u32 };
-  break 'after_5;
-  }
-  v19 = load64(p6.wrapping_add(96));
-  if v19 == 0 {
-    break 'after_6;
-  }
-  v13 = 0;
-  v20 = load64(p6.wrapping_add(88));
-  if (load8(v20) as u32) != 0 {
-    break 'after_7;
-  }
-  'after_8: {
-  v19 = v19.wrapping_add(0xffffffffffffffff);
-  if v19 != 0 {
-    break 'after_8;
-  }
-  v13 = 0;
-  break 'after_7;
-  }
-  v12 = load8(p6.wrapping_add(59)) as u32;
-  v17 = 0;
-  store32(frame.wrapping_add(433), 0);
-  store8(frame.wrapping_add(432), v14 as u8);
-  store64(frame.wrapping_add(424), v9);
-  store64(frame.wrapping_add(416), v15);
-  store64(frame.wrapping_add(408), v16);
-  store32(frame.wrapping_add(436), 0);
-  let t0 = der_view_walk_follows_7(p1, p2, p3, frame.wrapping_add(408), v12,
-      v20.wrapping_add(1), v19);
-  v13 = t0;
-  v12 = if v13 != 0 { v12 } else { 0u32 };
-  v11 = v13 as u64;
-  break 'after_5;
-  }
-  v13 = 1;
-  'after_9: {
-  if (load8(p6.wrapping_add(24)) as u32) != 1 {
-    break 'after_9;
-  }
-  v12 = 0;
-  if (load8(p6.wrapping_add(1)) as u32) != 1 {
-    break 'after_6;
-  }
-  if (((u32::from((v18 & 255) == 9)) | v17) & 1) == 0 {
-    break 'after_6;
-  }
-  }
-  v12 = 84;
-  break 'after_5;
-  }
-  v12 = 0;
-  v17 = 0;
-  break 'after_5;
-  }
-  v13 = 0;
-  v17 = 0;
-  }
-  v19 = (frame.wrapping_add(208)).wrapping_add(56);
-  fill(v19, 0, 80);
-  'after_10: {
-  if (load8(p5.wrapping_add(1)) as u32) != 0 {
-    break 'after_10;
-  }
-  store64(frame.wrapping_add(376), load64(p6.wrapping_add(32)));
-  store64(frame.wrapping_add(368), load64(p6.wrapping_add(24)));
-  store64(frame.wrapping_add(360), load64(p6.wrapping_add(16)));
-  store64(frame.wrapping_add(352), load64(p6.wrapping_add(8)));
-  store64(frame.wrapping_add(344), load64(p6));
-  v21 = load64(p6.wrapping_add(88));
-  v20 = load64(p6.wrapping_add(96));
-  let t1 = der_view_content_shown_len(load8(p2.wrapping_add(1)) as u32, frame.wrapping_add(344),
-      load8(p6.wrapping_add(58)) as u32, load8(p6.wrapping_add(59)) as u32, v21, v20);
-  v22 = t1;
-  v23 = constant(0);
-  v24 = 0;
-  v25 = 0;
-  v26 = constant(0);
-  'after_11: {
-  v18 = load8(p6.wrapping_add(80)) as u32;
-  if v18 != 0 {
-    break 'after_11;
-  }
-  v25 = load64(p5.wrapping_add(16));
-  v26 = load64(p5.wrapping_add(8));
-  }
-  v27 = p6.wrapping_add(40);
-  v28 = p6.wrapping_add(56);
-  v29 = if (load8(frame.wrapping_add(368)) as u32) == 1 { v20 } else { 0u64 };
-  'after_12: {
-  if v13 != 0 {
-    break 'after_12;
-  }
-  v23 = load64(p2.wrapping_add(16));
-  v24 = (load64(frame.wrapping_add(360))).wrapping_add(p4);
-  let t2 = v23;
-  v23 = if v23 < v24 { v23 } else { v24 };
-  v24 = t2.wrapping_sub(v23);
-  v24 = if v24 < v20 { v24 } else { v20 };
-  v23 = (load64(p2.wrapping_add(8))).wrapping_add(v23);
-  }
-  store32(v19, load32(v28));
-  store8(v19.wrapping_add(4), (load8(v28.wrapping_add(4)) as u32) as u8);
-  store64(frame.wrapping_add(240), load64(p6.wrapping_add(32)));
-  store64(frame.wrapping_add(232), load64(p6.wrapping_add(24)));
-  store64(frame.wrapping_add(224), load64(p6.wrapping_add(16)));
-  store64(frame.wrapping_add(216), load64(p6.wrapping_add(8)));
-  store64(frame.wrapping_add(208), load64(p6));
-  store64(frame.wrapping_add(248), load64(v27));
-  store64(frame.wrapping_add(256), load64(v27.wrapping_add(8)));
-  store8(frame.wrapping_add(336), v13 as u8);
-  store64(frame.wrapping_add(328), v24);
-  store64(frame.wrapping_add(320), v23);
-  store64(frame.wrapping_add(312), v22);
-  store64(frame.wrapping_add(304), v21);
-  store64(frame.wrapping_add(296), v29);
-  store8(frame.wrapping_add(288), v18 as u8);
-  store64(frame.wrapping_add(280), v25);
-  store64(frame.wrapping_add(272), v26);
-  store8(frame.wrapping_add(808), v8 as u8);
-  store64(frame.wrapping_add(800), v9);
-  store64(frame.wrapping_add(792), v10);
-  store64(frame.wrapping_add(784), p4);
-  store32(frame.wrapping_add(809), load32(frame.wrapping_add(184)));
-  store32(frame.wrapping_add(812), load32(frame.wrapping_add(187)));
-  fill(frame.wrapping_add(408), 0, 376);
-  store64(frame.wrapping_add(400), load64(p1.wrapping_add(24)));
-  store64(frame.wrapping_add(392), load64(p1.wrapping_add(16)));
-  store64(frame.wrapping_add(384), load64(p1.wrapping_add(8)));
-  der_view_facts_RowFacts_of_element(frame.wrapping_add(408), frame.wrapping_add(384),
-      load8(p1.wrapping_add(32)) as u32, frame.wrapping_add(784), frame.wrapping_add(208));
-  der_view_printer_Printer_tell(p1, frame.wrapping_add(408));
-  }
-  'after_17: {
-  'after_16: {
-  'after_15: {
-  'after_14: {
-  'after_13: {
-  if v13 == 0 {
-    break 'after_13;
-  }
-  v13 = load8(p6.wrapping_add(24)) as u32;
-  v8 = load8(p5.wrapping_add(1)) as u32;
-  der_view_grammar_Structure_components(frame.wrapping_add(8), v12);
-  store8(frame.wrapping_add(137), v8 as u8);
-  v13 = u32::from(v13 != 1);
-  store8(frame.wrapping_add(136), v13 as u8);
-  store8(frame.wrapping_add(112), v17 as u8);
-  store64(frame.wrapping_add(56), v11.wrapping_add(v16));
-  store64(frame.wrapping_add(64), v15);
-  store64(frame.wrapping_add(72), v9);
-  store8(frame.wrapping_add(80), v14 as u8);
-  store64(frame.wrapping_add(152), load64(frame.wrapping_add(16)));
-  store64(frame.wrapping_add(144), load64(frame.wrapping_add(8)));
-  store8(frame.wrapping_add(113), (load8(p2.wrapping_add(1)) as u32) as u8);
-  store64(frame.wrapping_add(120), load64(p2.wrapping_add(8)));
-  store64(frame.wrapping_add(128), load64(p2.wrapping_add(16)));
-  store64(frame.wrapping_add(168), (load64(p6.wrapping_add(96))).wrapping_sub(v11));
-  store64(frame.wrapping_add(160), (load64(p6.wrapping_add(88))).wrapping_add(v11));
-  store32(frame.wrapping_add(84), load32(frame.wrapping_add(179)));
-  store32(frame.wrapping_add(81), load32(frame.wrapping_add(176)));
-  der_view_walk_walk_7(frame.wrapping_add(88), p1, frame.wrapping_add(112), p3,
-      frame.wrapping_add(56), frame.wrapping_add(136));
-  if (load8(frame.wrapping_add(88)) as u32) != 1 {
-    break 'after_14;
-  }
-  if v13 == 0 {
-    break 'after_15;
-  }
-  store64(frame.wrapping_add(48), load64(frame.wrapping_add(104)));
-  store64(frame.wrapping_add(40), load64(frame.wrapping_add(96)));
-  break 'after_16;
+  store64(frame.wrapping_add(24), load64(frame.wrapping_add(80)));
+  store64(frame.wrapping_add(16), load64(frame.wrapping_add(72)));
+  break 'after_4;
   }
   p4 = load64(p6.wrapping_add(112));
   p6 = load64(p6.wrapping_add(104));
   store64(p0, 1);
   store64(p0.wrapping_add(8), p6);
   store64(p0.wrapping_add(16), p4);
-  store64(frame.wrapping_add(200), p4);
-  store64(frame.wrapping_add(192), p6);
-  break 'after_17;
+  store64(frame.wrapping_add(264), p4);
+  store64(frame.wrapping_add(256), p6);
+  break 'after_5;
   }
   store64(p0.wrapping_add(16), 0);
   store64(p0.wrapping_add(8), 0);
   store64(p0, 0);
-  break 'after_17;
+  break 'after_5;
   }
-  store64(frame.wrapping_add(48), load64(p6.wrapping_add(112)));
-  store64(frame.wrapping_add(40), load64(p6.wrapping_add(104)));
+  store64(frame.wrapping_add(24), load64(p6.wrapping_add(112)));
+  store64(frame.wrapping_add(16), load64(p6.wrapping_add(104)));
   }
   store64(p0, 1);
-  store64(p0.wrapping_add(8), load64(frame.wrapping_add(40)));
-  store64(p0.wrapping_add(16), load64(frame.wrapping_add(48)));
+  store64(p0.wrapping_add(8), load64(frame.wrapping_add(16)));
+  store64(p0.wrapping_add(16), load64(frame.wrapping_add(24)));
+  break 'after_5;
   }
 }
 
@@ -35047,15 +35185,180 @@ unsafe fn der_view_values_arcs_Arcs_new(p0: u64, mut p1: u64, mut p2: u64) {
   }
 }
 
-// der_view::walk::walk::<#927bfe390f535f75>
-unsafe fn der_view_walk_walk_7(p0: u64, p1: u64, mut p2: u64, mut p3: u64, mut p4: u64,
-    mut p5: u64) {
-  let mut array = Frame::<592>::new();
+// der_view::walk::opened_of::<#927bfe390f535f75>
+unsafe fn der_view_walk_opened_of_7(p0: u64, p1: u64, p2: u64, p3: u64, p4: u64, mut p5: u64) {
+  let mut array = Frame::<192>::new();
+  let frame = address(&raw mut array);
+  let mut v7 = 0u32;
+  let mut v8 = 0u32;
+  let mut v9 = 0u32;
+  let mut v10 = 0u64;
+  let mut v11 = 0u64;
+  let mut v12 = 0u64;
+  let mut v13 = 0u64;
+  let mut v14 = 0u32;
+  v7 = 0;
+  store32(frame.wrapping_add(59), 0);
+  store32(frame.wrapping_add(56), 0);
+  v8 = load8(p2) as u32;
+  'after_5: {
+  'after_4: {
+  'after_3: {
+  'after_2: {
+  'after_1: {
+  v9 = load8(p5.wrapping_add(58)) as u32;
+  match ((v9 as u64) & 255) as u32 {
+  6 => {
+    break 'after_1;
+  }
+  7 => {
+    break 'after_2;
+  }
+  8 => {
+    break 'after_3;
+  }
+  _ => {
+    break 'after_4;
+  }
+  }
+  }
+  store32(frame.wrapping_add(64), 0);
+  store32(frame.wrapping_add(67), 0);
+  v10 = load8(p5.wrapping_add(59)) as u64;
+  p5 = 0;
+  v11 = 1;
+  v7 = v8;
+  break 'after_5;
+  }
+  v11 = load64(p5.wrapping_add(88));
+  v10 = load64(p5.wrapping_add(96));
+  v8 = load8(p5.wrapping_add(59)) as u32;
+  p5 = 0;
+  store64(frame.wrapping_add(120), 0);
+  store64(frame.wrapping_add(96), 0);
+  store64(frame.wrapping_add(72), 0);
+  store64(frame.wrapping_add(80), 0);
+  store64(frame.wrapping_add(88), 0);
+  store64(frame.wrapping_add(160), load64(p4));
+  store64(frame.wrapping_add(168), load64(p4.wrapping_add(8)));
+  store64(frame.wrapping_add(176), load64(p4.wrapping_add(16)));
+  store64(frame.wrapping_add(184), load64(p4.wrapping_add(24)));
+  der_view_grammar_Structure_components(frame.wrapping_add(8), v8);
+  store64(frame.wrapping_add(152), v10);
+  store64(frame.wrapping_add(144), v11);
+  store16(frame.wrapping_add(120), 256);
+  store8(frame.wrapping_add(96), 0);
+  store64(frame.wrapping_add(136), load64(frame.wrapping_add(16)));
+  store64(frame.wrapping_add(128), load64(frame.wrapping_add(8)));
+  store64(frame.wrapping_add(104), load64(p2.wrapping_add(8)));
+  store64(frame.wrapping_add(112), load64(p2.wrapping_add(16)));
+  store8(frame.wrapping_add(97), (load8(p2.wrapping_add(1)) as u32) as u8);
+  der_view_walk_walk_7(frame.wrapping_add(72), p1, frame.wrapping_add(96), p3,
+      frame.wrapping_add(160), frame.wrapping_add(120));
+  v9 = load8(frame.wrapping_add(72)) as u32;
+  store32(frame.wrapping_add(123), 0);
+  store32(frame.wrapping_add(120), 0);
+  store32(frame.wrapping_add(64), load32(frame.wrapping_add(120)));
+  store32(frame.wrapping_add(67), load32(frame.wrapping_add(123)));
+  v9 = u32::from(v9 == 1);
+  v10 = ((if v9 != 0 { v8 } else { 0u32 }) as u64) & 255;
+  v11 = v9 as u64;
+  break 'after_5;
+  }
+  v10 = 0;
+  'after_7: {
+  'after_6: {
+  v12 = load64(p5.wrapping_add(96));
+  if v12 != 0 {
+    break 'after_6;
+  }
+  v11 = 0;
+  break 'after_7;
+  }
+  'after_8: {
+  v13 = load64(p5.wrapping_add(88));
+  if (load8(v13) as u32) == 0 {
+    break 'after_8;
+  }
+  v11 = 0;
+  break 'after_7;
+  }
+  v11 = 0;
+  v12 = v12.wrapping_add(0xffffffffffffffff);
+  if v12 == 0 {
+    break 'after_7;
+  }
+  v7 = load8(p5.wrapping_add(59)) as u32;
+  store64(frame.wrapping_add(48), load64(p4.wrapping_add(24)));
+  store64(frame.wrapping_add(40), load64(p4.wrapping_add(16)));
+  store64(frame.wrapping_add(32), load64(p4.wrapping_add(8)));
+  store64(frame.wrapping_add(24), load64(p4));
+  let t0 = der_view_walk_follows_7(p1, p2, p3, frame.wrapping_add(24), v7, v13.wrapping_add(1),
+      v12);
+  v8 = t0;
+  store32(frame.wrapping_add(123), 0);
+  store32(frame.wrapping_add(120), 0);
+  store32(frame.wrapping_add(56), load32(frame.wrapping_add(120)));
+  store32(frame.wrapping_add(59), load32(frame.wrapping_add(123)));
+  v10 = if v8 != 0 { (v7 as u64) & 255 } else { 0u64 };
+  v11 = v8 as u64;
+  }
+  store32(frame.wrapping_add(67), load32(frame.wrapping_add(59)));
+  store32(frame.wrapping_add(64), load32(frame.wrapping_add(56)));
+  v7 = 0;
+  p5 = v11;
+  break 'after_5;
+  }
+  'after_11: {
+  'after_9: {
+  if (load8(p5.wrapping_add(24)) as u32) != 1 {
+    break 'after_9;
+  }
+  v14 = load8(p5.wrapping_add(1)) as u32;
+  v7 = 0;
+  store32(frame.wrapping_add(123), 0);
+  store32(frame.wrapping_add(120), 0);
+  v10 = 0;
+  'after_10: {
+  if v14 == 1 {
+    break 'after_10;
+  }
+  v11 = 0;
+  break 'after_11;
+  }
+  v11 = 0;
+  if (((u32::from((v9 & 255) == 9)) | v8) & 1) == 0 {
+    break 'after_11;
+  }
+  }
+  store32(frame.wrapping_add(123), 0);
+  store32(frame.wrapping_add(120), 0);
+  v11 = 1;
+  v10 = 84;
+  v7 = v8;
+  }
+  store32(frame.wrapping_add(67), load32(frame.wrapping_add(123)));
+  store32(frame.wrapping_add(64), load32(frame.wrapping_add(120)));
+  p5 = 0;
+  }
+  store64(p0, v11);
+  store8(p0.wrapping_add(24), v7 as u8);
+  store64(p0.wrapping_add(16), p5);
+  store64(p0.wrapping_add(8), v10);
+  store32(p0.wrapping_add(25), load32(frame.wrapping_add(64)));
+  store32(p0.wrapping_add(28), load32(frame.wrapping_add(67)));
+  return;
+}
+
+// der_view::walk::draw_element::<#927bfe390f535f75>
+unsafe fn der_view_walk_draw_element_7(p0: u64, p1: u64, mut p2: u64, mut p3: u64, p4: u32,
+    p5: u64) {
+  let mut array = Frame::<608>::new();
   let frame = address(&raw mut array);
   let mut v7 = 0u64;
   let mut v8 = 0u64;
-  let mut v9 = 0u32;
-  let mut v10 = 0u32;
+  let mut v9 = 0u64;
+  let mut v10 = 0u64;
   let mut v11 = 0u64;
   let mut v12 = 0u64;
   let mut v13 = 0u64;
@@ -35063,438 +35366,350 @@ unsafe fn der_view_walk_walk_7(p0: u64, p1: u64, mut p2: u64, mut p3: u64, mut p
   let mut v15 = 0u32;
   let mut v16 = 0u64;
   let mut v17 = 0u64;
-  let mut v18 = 0u64;
-  let mut v19 = 0u32;
-  let mut v20 = 0u64;
-  let mut v21 = 0u32;
-  'after_16: {
+  v7 = load64(p2);
+  fill(frame.wrapping_add(56), 0, 80);
+  'after_1: {
+  if (load8(p3.wrapping_add(1)) as u32) == 1 {
+    break 'after_1;
+  }
+  store64(frame.wrapping_add(168), load64(p5.wrapping_add(32)));
+  store64(frame.wrapping_add(160), load64(p5.wrapping_add(24)));
+  store64(frame.wrapping_add(152), load64(p5.wrapping_add(16)));
+  store64(frame.wrapping_add(144), load64(p5.wrapping_add(8)));
+  store64(frame.wrapping_add(136), load64(p5));
+  v8 = load64(p5.wrapping_add(88));
+  v9 = load64(p5.wrapping_add(96));
+  let t0 = der_view_content_shown_len(load8(p1.wrapping_add(1)) as u32, frame.wrapping_add(136),
+      load8(p5.wrapping_add(58)) as u32, load8(p5.wrapping_add(59)) as u32, v8, v9);
+  v10 = t0;
+  v11 = constant(0);
+  v12 = 0;
+  v13 = 0;
+  v14 = constant(0);
   'after_2: {
-  'after_10: {
+  v15 = load8(p5.wrapping_add(80)) as u32;
+  if v15 != 0 {
+    break 'after_2;
+  }
+  v13 = load64(p3.wrapping_add(16));
+  v14 = load64(p3.wrapping_add(8));
+  }
+  p2 = p2.wrapping_add(8);
+  p3 = p5.wrapping_add(40);
+  v16 = p5.wrapping_add(56);
+  v17 = if (load8(frame.wrapping_add(160)) as u32) == 1 { v9 } else { 0u64 };
   'after_3: {
+  if p4 != 0 {
+    break 'after_3;
+  }
+  v11 = load64(p1.wrapping_add(16));
+  v12 = (load64(frame.wrapping_add(152))).wrapping_add(v7);
+  let t1 = v11;
+  v11 = if v11 < v12 { v11 } else { v12 };
+  v12 = t1.wrapping_sub(v11);
+  v12 = if v12 < v9 { v12 } else { v9 };
+  v11 = (load64(p1.wrapping_add(8))).wrapping_add(v11);
+  }
+  store64(frame.wrapping_add(32), load64(p5.wrapping_add(32)));
+  store64(frame.wrapping_add(24), load64(p5.wrapping_add(24)));
+  store64(frame.wrapping_add(16), load64(p5.wrapping_add(16)));
+  store64(frame.wrapping_add(8), load64(p5.wrapping_add(8)));
+  store64(frame, load64(p5));
+  store64(frame.wrapping_add(40), load64(p3));
+  store64(frame.wrapping_add(48), load64(p3.wrapping_add(8)));
+  store32(frame.wrapping_add(56), load32(v16));
+  store8(frame.wrapping_add(60), (load8(v16.wrapping_add(4)) as u32) as u8);
+  store8(frame.wrapping_add(128), p4 as u8);
+  store64(frame.wrapping_add(120), v12);
+  store64(frame.wrapping_add(112), v11);
+  store64(frame.wrapping_add(104), v10);
+  store64(frame.wrapping_add(96), v8);
+  store64(frame.wrapping_add(88), v17);
+  store8(frame.wrapping_add(80), v15 as u8);
+  store64(frame.wrapping_add(72), v13);
+  store64(frame.wrapping_add(64), v14);
+  store64(frame.wrapping_add(576), v7);
+  store64(frame.wrapping_add(584), load64(p2));
+  store64(frame.wrapping_add(592), load64(p2.wrapping_add(8)));
+  store64(frame.wrapping_add(600), load64(p2.wrapping_add(16)));
+  fill(frame.wrapping_add(200), 0, 376);
+  store64(frame.wrapping_add(192), load64(p0.wrapping_add(24)));
+  store64(frame.wrapping_add(184), load64(p0.wrapping_add(16)));
+  store64(frame.wrapping_add(176), load64(p0.wrapping_add(8)));
+  der_view_facts_RowFacts_of_element(frame.wrapping_add(200), frame.wrapping_add(176),
+      load8(p0.wrapping_add(32)) as u32, frame.wrapping_add(576), frame);
+  der_view_printer_Printer_tell(p0, frame.wrapping_add(200));
+  }
+  return;
+}
+
+// der_view::walk::walk::<#927bfe390f535f75>
+unsafe fn der_view_walk_walk_7(p0: u64, p1: u64, p2: u64, mut p3: u64, mut p4: u64, mut p5: u64) {
+  let mut array = Frame::<464>::new();
+  let frame = address(&raw mut array);
+  let mut v7 = 0u32;
+  let mut v8 = 0u32;
+  let mut v9 = 0u64;
+  let mut v10 = 0u64;
+  let mut v11 = 0u64;
+  let mut v12 = 0u64;
+  let mut v13 = 0u64;
+  let mut v14 = 0u32;
+  let mut v15 = 0u64;
+  let mut v16 = 0u64;
+  let mut v17 = 0u64;
+  let mut v18 = 0u32;
+  let mut v19 = 0u64;
+  let mut v20 = 0u32;
+  'after_14: {
+  'after_9: {
+  'after_1: {
+  'after_2: {
+  fill(frame.wrapping_add(144), 0, 120);
   store64(frame.wrapping_add(16), 0);
   store64(frame.wrapping_add(8), 0);
   store64(frame, 0);
-  store64(frame.wrapping_add(184), load64(p4));
-  store64(frame.wrapping_add(192), load64(p4.wrapping_add(8)));
-  store64(frame.wrapping_add(200), load64(p4.wrapping_add(16)));
-  store64(frame.wrapping_add(208), load64(p4.wrapping_add(24)));
-  store64(frame.wrapping_add(144), load64(p5));
-  store64(frame.wrapping_add(152), load64(p5.wrapping_add(8)));
-  store64(frame.wrapping_add(160), load64(p5.wrapping_add(16)));
-  store64(frame.wrapping_add(168), load64(p5.wrapping_add(24)));
-  store64(frame.wrapping_add(176), load64(p5.wrapping_add(32)));
-  v7 = load64(frame.wrapping_add(184));
-  'after_1: {
-  if p3 != 0 {
+  store64(frame.wrapping_add(304), load64(p4));
+  store64(frame.wrapping_add(312), load64(p4.wrapping_add(8)));
+  store64(frame.wrapping_add(320), load64(p4.wrapping_add(16)));
+  store64(frame.wrapping_add(328), load64(p4.wrapping_add(24)));
+  store64(frame.wrapping_add(264), load64(p5));
+  store64(frame.wrapping_add(272), load64(p5.wrapping_add(8)));
+  store64(frame.wrapping_add(280), load64(p5.wrapping_add(16)));
+  store64(frame.wrapping_add(288), load64(p5.wrapping_add(24)));
+  store64(frame.wrapping_add(296), load64(p5.wrapping_add(32)));
+  if p3 == 0 {
     break 'after_1;
   }
-  v8 = load64(frame.wrapping_add(192));
-  break 'after_2;
+  v7 = load8(frame.wrapping_add(264)) as u32;
+  v8 = v7 ^ 1;
+  p4 = load64(frame.wrapping_add(296));
+  if (load64(frame.wrapping_add(312))) > 63 {
+    break 'after_2;
   }
-  v9 = load8(frame.wrapping_add(144)) as u32;
-  v10 = v9 ^ 1;
-  p4 = load64(frame.wrapping_add(176));
-  v8 = load64(frame.wrapping_add(192));
-  if v8 > 63 {
+  v9 = frame.wrapping_add(208);
+  v10 = (frame.wrapping_add(336)).wrapping_add(8);
+  v11 = (frame.wrapping_add(264)).wrapping_add(8);
+  v12 = load64(frame.wrapping_add(288));
+  v13 = load64(frame.wrapping_add(304));
+  'again_13: loop {
+  v14 = load8(p2) as u32;
+  v15 = load64(frame.wrapping_add(280));
+  v16 = load64(frame.wrapping_add(272));
+  'after_4: {
+  'after_7: {
+  'after_3: {
+  if p4 > 1 {
     break 'after_3;
   }
-  v11 = (frame.wrapping_add(216)).wrapping_add(8);
-  v12 = (frame.wrapping_add(144)).wrapping_add(8);
-  v13 = frame.wrapping_add(88);
-  v14 = load64(frame.wrapping_add(168));
-  'again_15: loop {
-  v15 = load8(p2) as u32;
-  v16 = load64(frame.wrapping_add(160));
-  v17 = load64(frame.wrapping_add(152));
   'after_5: {
-  'after_8: {
-  'after_4: {
-  if p4 > 1 {
+  match p4 as u32 {
+  1 => {
     break 'after_4;
   }
-  'after_6: {
-  match p4 as u32 {
-  1 => {
+  _ => {
     break 'after_5;
   }
-  _ => {
+  }
+  }
+  'after_6: {
+  if ((v7 | v14) & 255) == 0 {
     break 'after_6;
   }
+  v17 = 0;
+  v18 = v14;
+  break 'after_7;
   }
+  v17 = 0;
+  'after_8: {
+  if v15 != 0 {
+    break 'after_8;
   }
-  'after_7: {
-  if ((v9 | v15) & 255) == 0 {
+  p4 = 0;
+  break 'after_9;
+  }
+  p5 = v16.wrapping_add(1);
+  v19 = v15;
+  'again_10: loop {
+  if (load8(p5) as u32) == 0 {
+    break 'after_4;
+  }
+  p5 = p5.wrapping_add(5);
+  v19 = v19.wrapping_add(0xffffffffffffffff);
+  if v19 != 0 {
+    continue 'again_10;
+  }
+  break;
+  }
+  p4 = 0;
+  break 'after_9;
+  }
+  if (load8(v12) as u32) != 0 {
+    break 'after_4;
+  }
+  v18 = (u32::from((load8(v12.wrapping_add(1)) as u32) != 0)) | v8;
+  v20 = v18 & 1;
+  v17 = if v20 != 0 { 0u64 } else { 2u64 };
+  v18 = v18 ^ 1;
+  if v20 != 0 {
     break 'after_7;
   }
-  v18 = 0;
-  v19 = v15;
-  break 'after_8;
+  if (v14 & 1) != 0 {
+    break 'after_7;
   }
-  v18 = 0;
-  'after_9: {
-  if v16 != 0 {
+  v17 = 2;
+  if v15 == 0 {
     break 'after_9;
   }
-  v16 = 0;
-  p4 = 0;
-  break 'after_10;
-  }
-  p5 = v17.wrapping_add(1);
-  v20 = v16;
+  p5 = v16.wrapping_add(1);
+  v19 = v15;
   'again_11: loop {
   if (load8(p5) as u32) == 0 {
-    break 'after_5;
+    break 'after_4;
   }
   p5 = p5.wrapping_add(5);
-  v20 = v20.wrapping_add(0xffffffffffffffff);
-  if v20 != 0 {
+  v19 = v19.wrapping_add(0xffffffffffffffff);
+  if v19 != 0 {
     continue 'again_11;
   }
-  break;
+  break 'after_9;
   }
-  p4 = 0;
-  break 'after_10;
   }
-  if (load8(v14) as u32) != 0 {
-    break 'after_5;
+  if (v18 & 1) != 0 {
+    break 'after_9;
   }
-  v19 = (u32::from((load8(v14.wrapping_add(1)) as u32) != 0)) | v10;
-  v21 = v19 & 1;
-  v18 = if v21 != 0 { 0u64 } else { 2u64 };
-  v19 = v19 ^ 1;
-  if v21 != 0 {
-    break 'after_8;
   }
-  if (v15 & 1) != 0 {
-    break 'after_8;
+  fill(frame.wrapping_add(336), 0, 128);
+  v14 = v14 & 1;
+  der_view_step_step_by(frame.wrapping_add(336), v14, v14, v16, v15, v12, p4);
+  v14 = load8(frame.wrapping_add(336)) as u32;
+  move_(frame.wrapping_add(24), v10, 120);
+  if v14 != 1 {
+    break 'after_1;
   }
-  v18 = 2;
+  move_(frame.wrapping_add(144), frame.wrapping_add(24), 120);
+  p3 = p3.wrapping_add(0xffffffffffffffff);
+  der_view_walk_draw_step_7(frame, p1, p2, p3, frame.wrapping_add(304), frame.wrapping_add(264),
+      frame.wrapping_add(144));
   'after_12: {
-  if v16 != 0 {
+  if (load8(frame) as u32) != 1 {
     break 'after_12;
   }
-  v16 = 0;
-  break 'after_10;
-  }
-  p5 = v17.wrapping_add(1);
-  v20 = v16;
-  'again_13: loop {
-  if (load8(p5) as u32) == 0 {
-    break 'after_5;
-  }
-  p5 = p5.wrapping_add(5);
-  v20 = v20.wrapping_add(0xffffffffffffffff);
-  if v20 != 0 {
+  store64(v11, load64(v9));
+  store64(v11.wrapping_add(8), load64(v9.wrapping_add(8)));
+  p5 = load64(frame.wrapping_add(16));
+  store64(frame.wrapping_add(296), p5);
+  v12 = load64(frame.wrapping_add(8));
+  store64(frame.wrapping_add(288), v12);
+  v13 = (p4.wrapping_sub(p5)).wrapping_add(v13);
+  store64(frame.wrapping_add(304), v13);
+  p4 = p5;
+  if p3 != 0 {
     continue 'again_13;
   }
-  break 'after_10;
-  }
-  }
-  if (v19 & 1) != 0 {
-    break 'after_10;
-  }
-  }
-  fill(frame.wrapping_add(216), 0, 128);
-  v15 = v15 & 1;
-  der_view_step_step_by(frame.wrapping_add(216), v15, v15, v17, v16, v14, p4);
-  v15 = load8(frame.wrapping_add(216)) as u32;
-  move_(frame.wrapping_add(24), v11, 120);
-  if v15 != 1 {
-    break 'after_2;
-  }
-  p3 = p3.wrapping_add(0xffffffffffffffff);
-  der_view_walk_draw_step_7(frame, p1, p2, p3, frame.wrapping_add(184), frame.wrapping_add(144),
-      frame.wrapping_add(24));
-  'after_14: {
-  if (load8(frame) as u32) != 1 {
-    break 'after_14;
-  }
-  store64(v12, load64(v13));
-  store64(v12.wrapping_add(8), load64(v13.wrapping_add(8)));
-  p5 = load64(frame.wrapping_add(16));
-  store64(frame.wrapping_add(176), p5);
-  v14 = load64(frame.wrapping_add(8));
-  store64(frame.wrapping_add(168), v14);
-  v7 = (p4.wrapping_sub(p5)).wrapping_add(v7);
-  store64(frame.wrapping_add(184), v7);
-  p4 = p5;
-  if p3 == 0 {
-    break 'after_2;
-  }
-  continue 'again_15;
+  break 'after_1;
   }
   break;
   }
   store64(p0.wrapping_add(16), 0);
   store64(p0.wrapping_add(8), 0);
   store64(p0, 0);
-  break 'after_16;
+  break 'after_14;
   }
-  v15 = load8(p2) as u32;
-  v14 = load64(frame.wrapping_add(168));
-  v16 = load64(frame.wrapping_add(160));
-  v17 = load64(frame.wrapping_add(152));
-  'after_20: {
-  'after_17: {
-  if p4 > 1 {
-    break 'after_17;
-  }
+  v14 = load8(p2) as u32;
+  v12 = load64(frame.wrapping_add(288));
+  p5 = load64(frame.wrapping_add(280));
+  v19 = load64(frame.wrapping_add(272));
   'after_18: {
+  'after_15: {
+  if p4 > 1 {
+    break 'after_15;
+  }
+  'after_16: {
   match p4 as u32 {
   1 => {
-    break 'after_2;
+    break 'after_1;
   }
   _ => {
-    break 'after_18;
+    break 'after_16;
   }
   }
   }
-  'after_19: {
-  if ((v9 | v15) & 255) == 0 {
-    break 'after_19;
+  'after_17: {
+  if ((v7 | v14) & 255) == 0 {
+    break 'after_17;
   }
-  v18 = 0;
-  v9 = v15;
-  break 'after_20;
+  v17 = 0;
+  v7 = v14;
+  break 'after_18;
   }
   p4 = 0;
-  'after_21: {
-  if v16 != 0 {
-    break 'after_21;
+  'after_19: {
+  if p5 != 0 {
+    break 'after_19;
   }
-  v16 = 0;
-  v18 = 0;
-  break 'after_10;
+  v17 = 0;
+  break 'after_9;
   }
-  p5 = v17.wrapping_add(1);
-  v20 = v16;
-  'again_22: loop {
-  if (load8(p5) as u32) == 0 {
-    break 'after_2;
+  v19 = v19.wrapping_add(1);
+  'again_20: loop {
+  if (load8(v19) as u32) == 0 {
+    break 'after_1;
   }
-  p5 = p5.wrapping_add(5);
-  v20 = v20.wrapping_add(0xffffffffffffffff);
-  if v20 != 0 {
-    continue 'again_22;
+  v19 = v19.wrapping_add(5);
+  p5 = p5.wrapping_add(0xffffffffffffffff);
+  if p5 != 0 {
+    continue 'again_20;
   }
   break;
   }
-  v18 = 0;
-  break 'after_10;
+  v17 = 0;
+  break 'after_9;
   }
-  if (load8(v14) as u32) != 0 {
-    break 'after_2;
+  if (load8(v12) as u32) != 0 {
+    break 'after_1;
   }
-  v9 = (u32::from((load8(v14.wrapping_add(1)) as u32) != 0)) | v10;
-  v19 = v9 & 1;
-  v18 = if v19 != 0 { 0u64 } else { 2u64 };
-  v9 = v9 ^ 1;
-  if v19 != 0 {
-    break 'after_20;
+  v7 = (u32::from((load8(v12.wrapping_add(1)) as u32) != 0)) | v8;
+  v18 = v7 & 1;
+  v17 = if v18 != 0 { 0u64 } else { 2u64 };
+  v7 = v7 ^ 1;
+  if v18 != 0 {
+    break 'after_18;
   }
-  if (v15 & 1) != 0 {
-    break 'after_20;
+  if (v14 & 1) != 0 {
+    break 'after_18;
   }
-  v18 = 2;
-  'after_23: {
-  if v16 != 0 {
-    break 'after_23;
+  v17 = 2;
+  if p5 == 0 {
+    break 'after_9;
   }
-  v16 = 0;
-  break 'after_10;
+  v19 = v19.wrapping_add(1);
+  'again_21: loop {
+  if (load8(v19) as u32) == 0 {
+    break 'after_1;
   }
-  p5 = v17.wrapping_add(1);
-  v20 = v16;
-  'again_24: loop {
-  if (load8(p5) as u32) == 0 {
-    break 'after_2;
+  v19 = v19.wrapping_add(5);
+  p5 = p5.wrapping_add(0xffffffffffffffff);
+  if p5 != 0 {
+    continue 'again_21;
   }
-  p5 = p5.wrapping_add(5);
-  v20 = v20.wrapping_add(0xffffffffffffffff);
-  if v20 != 0 {
-    continue 'again_24;
-  }
-  break 'after_10;
+  break 'after_9;
   }
   }
-  if (v9 & 1) == 0 {
-    break 'after_2;
+  if (v7 & 1) != 0 {
+    break 'after_9;
   }
   }
-  'after_25: {
-  if (load8(frame.wrapping_add(145)) as u32) != 0 {
-    break 'after_25;
-  }
-  v15 = load8(frame.wrapping_add(208)) as u32;
-  p3 = load64(frame.wrapping_add(200));
-  'after_26: {
-  if v16 == 0 {
-    break 'after_26;
-  }
-  p2 = frame.wrapping_add(209);
-  p5 = v17.wrapping_add(1);
-  v20 = v16;
-  'after_27: {
-  'again_28: loop {
-  if (load8(p5) as u32) == 0 {
-    break 'after_27;
-  }
-  p5 = p5.wrapping_add(5);
-  v20 = v20.wrapping_add(0xffffffffffffffff);
-  if v20 != 0 {
-    continue 'again_28;
-  }
-  break 'after_26;
-  }
-  }
-  'after_30: {
-  'after_29: {
-  if v8 != 0 {
-    break 'after_29;
-  }
-  if v7 == 0 {
-    break 'after_29;
-  }
-  v9 = 3;
-  p5 = 1;
-  break 'after_30;
-  }
-  let t0 = (u32::from((load8(p1.wrapping_add(8)) as u32) != 1)) |
-      (u32::from(((load8(p1.wrapping_add(14)) as u32) & 255) != 0));
-  v19 = t0 | (load8(p1.wrapping_add(18)) as u32);
-  v9 = if (v19 & 1) != 0 { 0u32 } else { 2u32 };
-  p5 = ((v19 ^ 0xffffffff) as u64) & 1;
-  }
-  store8(frame.wrapping_add(240), v15 as u8);
-  store64(frame.wrapping_add(232), p3);
-  store64(frame.wrapping_add(224), v8);
-  store64(frame.wrapping_add(216), v7);
-  store64(frame.wrapping_add(288), 0);
-  store64(frame.wrapping_add(280), 1);
-  store64(frame.wrapping_add(272), 0);
-  store64(frame.wrapping_add(264), constant(0));
-  store32(frame.wrapping_add(260), 0);
-  store64(frame.wrapping_add(252), 0);
-  store32(frame.wrapping_add(248), 2);
-  store64(frame.wrapping_add(296), 0);
-  store64(frame.wrapping_add(304), 0);
-  store64(frame.wrapping_add(312), 0);
-  store64(frame.wrapping_add(320), 0);
-  store64(frame.wrapping_add(328), 0);
-  store64(frame.wrapping_add(336), 0);
-  store64(frame.wrapping_add(344), 0);
-  store32(frame.wrapping_add(241), load32(p2));
-  store32(frame.wrapping_add(244), load32(p2.wrapping_add(3)));
-  store32(frame.wrapping_add(376), v9);
-  store64(frame.wrapping_add(368), p5);
-  store64(frame.wrapping_add(360), 0);
-  store64(frame.wrapping_add(352), constant(0));
-  fill(frame.wrapping_add(380), 0, 180);
-  store64(frame.wrapping_add(584), 0);
-  store64(frame.wrapping_add(576), constant(0));
-  store64(frame.wrapping_add(568), v16);
-  store64(frame.wrapping_add(560), v17);
-  der_view_printer_Printer_tell(p1, frame.wrapping_add(216));
-  }
-  if v18 == 0 {
-    break 'after_25;
-  }
-  store32(frame.wrapping_add(241), 0);
-  store8(frame.wrapping_add(240), v15 as u8);
-  store64(frame.wrapping_add(232), p3);
-  store64(frame.wrapping_add(216), v7);
-  store64(frame.wrapping_add(288), 0);
-  store64(frame.wrapping_add(280), 1);
-  store64(frame.wrapping_add(272), 2);
-  store64(frame.wrapping_add(264), constant(1941));
-  store32(frame.wrapping_add(260), 0);
-  store64(frame.wrapping_add(252), 0);
-  store64(frame.wrapping_add(244), 0x100000000);
-  store64(frame.wrapping_add(296), 0);
-  store64(frame.wrapping_add(304), 0);
-  store64(frame.wrapping_add(312), 0);
-  store64(frame.wrapping_add(320), 0);
-  store64(frame.wrapping_add(328), 0);
-  store64(frame.wrapping_add(336), 0);
-  store64(frame.wrapping_add(344), 0);
-  store64(frame.wrapping_add(224), v8.wrapping_sub((u32::from(v8 != 0)) as u64));
-  store64(frame.wrapping_add(352), constant(0));
-  fill(frame.wrapping_add(360), 0, 200);
-  store64(frame.wrapping_add(584), 0);
-  store64(frame.wrapping_add(576), constant(0));
-  store64(frame.wrapping_add(568), 0);
-  store64(frame.wrapping_add(560), constant(0));
-  der_view_printer_Printer_tell(p1, frame.wrapping_add(216));
-  }
-  store64(p0, 1);
-  store64(p0.wrapping_add(16), p4.wrapping_sub(v18));
-  store64(p0.wrapping_add(8), v14.wrapping_add(v18));
-  break 'after_16;
-  }
-  'after_31: {
-  if (load8(frame.wrapping_add(145)) as u32) != 0 {
-    break 'after_31;
-  }
-  p4 = load64(frame.wrapping_add(208));
-  p5 = load64(p2.wrapping_add(16));
-  v20 = if p5 < v7 { p5 } else { v7 };
-  p3 = p5.wrapping_sub(v20);
-  v14 = load64(frame.wrapping_add(200));
-  p5 = v14.wrapping_sub(v7);
-  p3 = if p3 < p5 { p3 } else { p5 };
-  v20 = (load64(p2.wrapping_add(8))).wrapping_add(v20);
-  p2 = load64(frame.wrapping_add(160));
-  v16 = load64(frame.wrapping_add(152));
-  'after_33: {
-  'after_32: {
-  if v8 != 0 {
-    break 'after_32;
-  }
-  if v7 == 0 {
-    break 'after_32;
-  }
-  v15 = 3;
-  v17 = 1;
-  break 'after_33;
-  }
-  let t1 = (u32::from((load8(p1.wrapping_add(8)) as u32) != 1)) |
-      (u32::from(((load8(p1.wrapping_add(14)) as u32) & 255) != 0));
-  v9 = t1 | (load8(p1.wrapping_add(18)) as u32);
-  v15 = if (v9 & 1) != 0 { 0u32 } else { 2u32 };
-  v17 = ((v9 ^ 0xffffffff) as u64) & 1;
-  }
-  store64(frame.wrapping_add(320), 0);
-  store64(frame.wrapping_add(312), p5);
-  store64(frame.wrapping_add(304), 0);
-  store64(frame.wrapping_add(296), p5);
-  store64(frame.wrapping_add(288), p5);
-  store64(frame.wrapping_add(280), 1);
-  store64(frame.wrapping_add(272), 0);
-  store64(frame.wrapping_add(264), constant(0));
-  store32(frame.wrapping_add(260), 0);
-  store64(frame.wrapping_add(252), 0);
-  store32(frame.wrapping_add(248), 2);
-  store64(frame.wrapping_add(240), p4);
-  store64(frame.wrapping_add(232), v14);
-  store64(frame.wrapping_add(224), v8);
-  store64(frame.wrapping_add(216), v7);
-  store64(frame.wrapping_add(328), 0);
-  store64(frame.wrapping_add(336), 0);
-  store64(frame.wrapping_add(344), 0);
-  store32(frame.wrapping_add(376), v15);
-  store64(frame.wrapping_add(368), v17);
-  store64(frame.wrapping_add(360), 0);
-  store64(frame.wrapping_add(352), constant(0));
-  fill(frame.wrapping_add(380), 0, 180);
-  store64(frame.wrapping_add(584), p3);
-  store64(frame.wrapping_add(576), v20);
-  store64(frame.wrapping_add(568), p2);
-  store64(frame.wrapping_add(560), v16);
-  der_view_printer_Printer_tell(p1, frame.wrapping_add(216));
-  }
+  der_view_walk_draw_left_7(p1, p2, frame.wrapping_add(304), frame.wrapping_add(264));
   store64(p0.wrapping_add(16), 0);
   store64(p0.wrapping_add(8), 0);
   store64(p0, 0);
+  break 'after_14;
+  }
+  der_view_walk_draw_end_7(p1, frame.wrapping_add(304), frame.wrapping_add(264), v17);
+  store64(p0.wrapping_add(16), p4.wrapping_sub(v17));
+  store64(p0.wrapping_add(8), v12.wrapping_add(v17));
+  store64(p0, 1);
   }
 }
 
@@ -35528,13 +35743,382 @@ unsafe fn der_view_walk_follows_7(p0: u64, p1: u64, p2: u64, p3: u64, mut p4: u3
   return u32::from(p4 == 1);
 }
 
-// der_view::walk::walk::<#058ff82db2a1a4d6>
-unsafe fn der_view_walk_walk_6(p0: u64, p1: u64, p2: u64, mut p3: u64, mut p4: u64, mut p5: u64) {
-  let mut array = Frame::<352>::new();
+// der_view::walk::draw_left::<#927bfe390f535f75>
+unsafe fn der_view_walk_draw_left_7(p0: u64, mut p1: u64, mut p2: u64, mut p3: u64) {
+  let mut array = Frame::<384>::new();
   let frame = address(&raw mut array);
+  let mut v5 = 0u64;
+  let mut v6 = 0u64;
   let mut v7 = 0u64;
+  let mut v8 = 0u64;
+  let mut v9 = 0u64;
+  let mut v10 = 0u64;
+  let mut v11 = 0u64;
+  let mut v12 = 0u32;
+  let mut v13 = 0u32;
+  v5 = 1;
+  'after_1: {
+  if (load8(p3.wrapping_add(1)) as u32) == 1 {
+    break 'after_1;
+  }
+  v6 = load64(p2.wrapping_add(24));
+  v7 = load64(p1.wrapping_add(16));
+  v8 = load64(p2);
+  v9 = if v7 < v8 { v7 } else { v8 };
+  v10 = v7.wrapping_sub(v9);
+  v11 = load64(p2.wrapping_add(16));
+  v7 = v11.wrapping_sub(v8);
+  v10 = if v10 < v7 { v10 } else { v7 };
+  p1 = (load64(p1.wrapping_add(8))).wrapping_add(v9);
+  v9 = load64(p3.wrapping_add(16));
+  p3 = load64(p3.wrapping_add(8));
+  'after_3: {
+  'after_2: {
+  p2 = load64(p2.wrapping_add(8));
+  if p2 != 0 {
+    break 'after_2;
+  }
+  v12 = 3;
+  if v8 != 0 {
+    break 'after_3;
+  }
+  }
+  let t0 = (u32::from((load8(p0.wrapping_add(8)) as u32) != 1)) |
+      (u32::from(((load8(p0.wrapping_add(14)) as u32) & 255) != 0));
+  v13 = t0 | (load8(p0.wrapping_add(18)) as u32);
+  v12 = if (v13 & 1) != 0 { 0u32 } else { 2u32 };
+  v5 = ((v13 ^ 0xffffffff) as u64) & 1;
+  }
+  store64(frame.wrapping_add(112), 0);
+  store64(frame.wrapping_add(104), v7);
+  store64(frame.wrapping_add(96), 0);
+  store64(frame.wrapping_add(88), v7);
+  store64(frame.wrapping_add(80), v7);
+  store64(frame.wrapping_add(72), 1);
+  store64(frame.wrapping_add(64), 0);
+  store64(frame.wrapping_add(56), constant(0));
+  store32(frame.wrapping_add(52), 0);
+  store64(frame.wrapping_add(44), 0);
+  store32(frame.wrapping_add(40), 2);
+  store64(frame.wrapping_add(32), v6);
+  store64(frame.wrapping_add(24), v11);
+  store64(frame.wrapping_add(16), p2);
+  store64(frame.wrapping_add(8), v8);
+  store64(frame.wrapping_add(120), 0);
+  store64(frame.wrapping_add(128), 0);
+  store64(frame.wrapping_add(136), 0);
+  store32(frame.wrapping_add(168), v12);
+  store64(frame.wrapping_add(160), v5);
+  store64(frame.wrapping_add(152), 0);
+  store64(frame.wrapping_add(144), constant(0));
+  fill(frame.wrapping_add(172), 0, 180);
+  store64(frame.wrapping_add(376), v10);
+  store64(frame.wrapping_add(368), p1);
+  store64(frame.wrapping_add(360), v9);
+  store64(frame.wrapping_add(352), p3);
+  der_view_printer_Printer_tell(p0, frame.wrapping_add(8));
+  }
+  return;
+}
+
+// der_view::walk::draw_end::<#927bfe390f535f75>
+unsafe fn der_view_walk_draw_end_7(p0: u64, mut p1: u64, mut p2: u64, p3: u64) {
+  let mut array = Frame::<384>::new();
+  let frame = address(&raw mut array);
+  let mut v5 = 0u32;
+  let mut v6 = 0u64;
+  let mut v7 = 0u64;
+  let mut v8 = 0u64;
+  let mut v9 = 0u64;
+  let mut v10 = 0u64;
+  let mut v11 = 0u64;
+  let mut v12 = 0u32;
+  let mut v13 = 0u32;
+  'after_1: {
+  if (load8(p2.wrapping_add(1)) as u32) == 1 {
+    break 'after_1;
+  }
+  v5 = load8(p1.wrapping_add(24)) as u32;
+  v6 = load64(p1.wrapping_add(16));
+  v7 = load64(p1.wrapping_add(8));
+  v8 = load64(p1);
+  'after_2: {
+  v9 = load64(p2.wrapping_add(16));
+  if v9 == 0 {
+    break 'after_2;
+  }
+  v10 = p1.wrapping_add(25);
+  v11 = load64(p2.wrapping_add(8));
+  p1 = v11.wrapping_add(1);
+  p2 = v9;
+  'after_3: {
+  'again_4: loop {
+  if (load8(p1) as u32) == 0 {
+    break 'after_3;
+  }
+  p1 = p1.wrapping_add(5);
+  p2 = p2.wrapping_add(0xffffffffffffffff);
+  if p2 != 0 {
+    continue 'again_4;
+  }
+  break 'after_2;
+  }
+  }
+  'after_6: {
+  'after_5: {
+  if v7 != 0 {
+    break 'after_5;
+  }
+  if v8 == 0 {
+    break 'after_5;
+  }
+  v12 = 3;
+  p1 = 1;
+  break 'after_6;
+  }
+  let t0 = (u32::from((load8(p0.wrapping_add(8)) as u32) != 1)) |
+      (u32::from(((load8(p0.wrapping_add(14)) as u32) & 255) != 0));
+  v13 = t0 | (load8(p0.wrapping_add(18)) as u32);
+  v12 = if (v13 & 1) != 0 { 0u32 } else { 2u32 };
+  p1 = ((v13 ^ 0xffffffff) as u64) & 1;
+  }
+  store8(frame.wrapping_add(32), v5 as u8);
+  store64(frame.wrapping_add(24), v6);
+  store64(frame.wrapping_add(16), v7);
+  store64(frame.wrapping_add(8), v8);
+  store64(frame.wrapping_add(80), 0);
+  store64(frame.wrapping_add(72), 1);
+  store64(frame.wrapping_add(64), 0);
+  store64(frame.wrapping_add(56), constant(0));
+  store32(frame.wrapping_add(52), 0);
+  store64(frame.wrapping_add(44), 0);
+  store32(frame.wrapping_add(40), 2);
+  store64(frame.wrapping_add(88), 0);
+  store64(frame.wrapping_add(96), 0);
+  store64(frame.wrapping_add(104), 0);
+  store64(frame.wrapping_add(112), 0);
+  store64(frame.wrapping_add(120), 0);
+  store64(frame.wrapping_add(128), 0);
+  store64(frame.wrapping_add(136), 0);
+  store32(frame.wrapping_add(33), load32(v10));
+  store32(frame.wrapping_add(36), load32(v10.wrapping_add(3)));
+  store32(frame.wrapping_add(168), v12);
+  store64(frame.wrapping_add(160), p1);
+  store64(frame.wrapping_add(152), 0);
+  store64(frame.wrapping_add(144), constant(0));
+  fill(frame.wrapping_add(172), 0, 180);
+  store64(frame.wrapping_add(376), 0);
+  store64(frame.wrapping_add(368), constant(0));
+  store64(frame.wrapping_add(360), v9);
+  store64(frame.wrapping_add(352), v11);
+  der_view_printer_Printer_tell(p0, frame.wrapping_add(8));
+  }
+  if p3 == 0 {
+    break 'after_1;
+  }
+  store32(frame.wrapping_add(33), 0);
+  store8(frame.wrapping_add(32), v5 as u8);
+  store64(frame.wrapping_add(24), v6);
+  store64(frame.wrapping_add(8), v8);
+  store64(frame.wrapping_add(80), 0);
+  store64(frame.wrapping_add(72), 1);
+  store64(frame.wrapping_add(64), 2);
+  store64(frame.wrapping_add(56), constant(1941));
+  store32(frame.wrapping_add(52), 0);
+  store64(frame.wrapping_add(44), 0);
+  store64(frame.wrapping_add(36), 0x100000000);
+  store64(frame.wrapping_add(88), 0);
+  store64(frame.wrapping_add(96), 0);
+  store64(frame.wrapping_add(104), 0);
+  store64(frame.wrapping_add(112), 0);
+  store64(frame.wrapping_add(120), 0);
+  store64(frame.wrapping_add(128), 0);
+  store64(frame.wrapping_add(136), 0);
+  store64(frame.wrapping_add(16), v7.wrapping_sub((u32::from(v7 != 0)) as u64));
+  store64(frame.wrapping_add(144), constant(0));
+  fill(frame.wrapping_add(152), 0, 200);
+  store64(frame.wrapping_add(376), 0);
+  store64(frame.wrapping_add(368), constant(0));
+  store64(frame.wrapping_add(360), 0);
+  store64(frame.wrapping_add(352), constant(0));
+  der_view_printer_Printer_tell(p0, frame.wrapping_add(8));
+  }
+  return;
+}
+
+// der_view::walk::opened_of::<#058ff82db2a1a4d6>
+unsafe fn der_view_walk_opened_of_6(p0: u64, p1: u64, p2: u64, p3: u64, p4: u64, mut p5: u64) {
+  let mut array = Frame::<192>::new();
+  let frame = address(&raw mut array);
+  let mut v7 = 0u32;
   let mut v8 = 0u32;
   let mut v9 = 0u32;
+  let mut v10 = 0u64;
+  let mut v11 = 0u64;
+  let mut v12 = 0u64;
+  let mut v13 = 0u64;
+  let mut v14 = 0u32;
+  v7 = 0;
+  store32(frame.wrapping_add(59), 0);
+  store32(frame.wrapping_add(56), 0);
+  v8 = load8(p2) as u32;
+  'after_5: {
+  'after_4: {
+  'after_3: {
+  'after_2: {
+  'after_1: {
+  v9 = load8(p5.wrapping_add(58)) as u32;
+  match ((v9 as u64) & 255) as u32 {
+  6 => {
+    break 'after_1;
+  }
+  7 => {
+    break 'after_2;
+  }
+  8 => {
+    break 'after_3;
+  }
+  _ => {
+    break 'after_4;
+  }
+  }
+  }
+  store32(frame.wrapping_add(64), 0);
+  store32(frame.wrapping_add(67), 0);
+  v10 = load8(p5.wrapping_add(59)) as u64;
+  p5 = 0;
+  v11 = 1;
+  v7 = v8;
+  break 'after_5;
+  }
+  v11 = load64(p5.wrapping_add(88));
+  v10 = load64(p5.wrapping_add(96));
+  v8 = load8(p5.wrapping_add(59)) as u32;
+  p5 = 0;
+  store64(frame.wrapping_add(120), 0);
+  store64(frame.wrapping_add(96), 0);
+  store64(frame.wrapping_add(72), 0);
+  store64(frame.wrapping_add(80), 0);
+  store64(frame.wrapping_add(88), 0);
+  store64(frame.wrapping_add(160), load64(p4));
+  store64(frame.wrapping_add(168), load64(p4.wrapping_add(8)));
+  store64(frame.wrapping_add(176), load64(p4.wrapping_add(16)));
+  store64(frame.wrapping_add(184), load64(p4.wrapping_add(24)));
+  der_view_grammar_Structure_components(frame.wrapping_add(8), v8);
+  store64(frame.wrapping_add(152), v10);
+  store64(frame.wrapping_add(144), v11);
+  store16(frame.wrapping_add(120), 256);
+  store8(frame.wrapping_add(96), 0);
+  store64(frame.wrapping_add(136), load64(frame.wrapping_add(16)));
+  store64(frame.wrapping_add(128), load64(frame.wrapping_add(8)));
+  store64(frame.wrapping_add(104), load64(p2.wrapping_add(8)));
+  store64(frame.wrapping_add(112), load64(p2.wrapping_add(16)));
+  store8(frame.wrapping_add(97), (load8(p2.wrapping_add(1)) as u32) as u8);
+  der_view_walk_walk_6(frame.wrapping_add(72), p1, frame.wrapping_add(96), p3,
+      frame.wrapping_add(160), frame.wrapping_add(120));
+  v9 = load8(frame.wrapping_add(72)) as u32;
+  store32(frame.wrapping_add(123), 0);
+  store32(frame.wrapping_add(120), 0);
+  store32(frame.wrapping_add(64), load32(frame.wrapping_add(120)));
+  store32(frame.wrapping_add(67), load32(frame.wrapping_add(123)));
+  v9 = u32::from(v9 == 1);
+  v10 = ((if v9 != 0 { v8 } else { 0u32 }) as u64) & 255;
+  v11 = v9 as u64;
+  break 'after_5;
+  }
+  v10 = 0;
+  'after_7: {
+  'after_6: {
+  v12 = load64(p5.wrapping_add(96));
+  if v12 != 0 {
+    break 'after_6;
+  }
+  v11 = 0;
+  break 'after_7;
+  }
+  'after_8: {
+  v13 = load64(p5.wrapping_add(88));
+  if (load8(v13) as u32) == 0 {
+    break 'after_8;
+  }
+  v11 = 0;
+  break 'after_7;
+  }
+  v11 = 0;
+  v12 = v12.wrapping_add(0xffffffffffffffff);
+  if v12 == 0 {
+    break 'after_7;
+  }
+  v7 = load8(p5.wrapping_add(59)) as u32;
+  store64(frame.wrapping_add(48), load64(p4.wrapping_add(24)));
+  store64(frame.wrapping_add(40), load64(p4.wrapping_add(16)));
+  store64(frame.wrapping_add(32), load64(p4.wrapping_add(8)));
+  store64(frame.wrapping_add(24), load64(p4));
+  let t0 = der_view_walk_follows_6(p1, p2, p3, frame.wrapping_add(24), v7, v13.wrapping_add(1),
+      v12);
+  v8 = t0;
+  store32(frame.wrapping_add(123), 0);
+  store32(frame.wrapping_add(120), 0);
+  store32(frame.wrapping_add(56), load32(frame.wrapping_add(120)));
+  store32(frame.wrapping_add(59), load32(frame.wrapping_add(123)));
+  v10 = if v8 != 0 { (v7 as u64) & 255 } else { 0u64 };
+  v11 = v8 as u64;
+  }
+  store32(frame.wrapping_add(67), load32(frame.wrapping_add(59)));
+  store32(frame.wrapping_add(64), load32(frame.wrapping_add(56)));
+  v7 = 0;
+  p5 = v11;
+  break 'after_5;
+  }
+  'after_11: {
+  'after_9: {
+  if (load8(p5.wrapping_add(24)) as u32) != 1 {
+    break 'after_9;
+  }
+  v14 = load8(p5.wrapping_add(1)) as u32;
+  v7 = 0;
+  store32(frame.wrapping_add(123), 0);
+  store32(frame.wrapping_add(120), 0);
+  v10 = 0;
+  'after_10: {
+  if v14 == 1 {
+    break 'after_10;
+  }
+  v11 = 0;
+  break 'after_11;
+  }
+  v11 = 0;
+  if (((u32::from((v9 & 255) == 9)) | v8) & 1) == 0 {
+    break 'after_11;
+  }
+  }
+  store32(frame.wrapping_add(123), 0);
+  store32(frame.wrapping_add(120), 0);
+  v11 = 1;
+  v10 = 84;
+  v7 = v8;
+  }
+  store32(frame.wrapping_add(67), load32(frame.wrapping_add(123)));
+  store32(frame.wrapping_add(64), load32(frame.wrapping_add(120)));
+  p5 = 0;
+  }
+  store64(p0, v11);
+  store8(p0.wrapping_add(24), v7 as u8);
+  store64(p0.wrapping_add(16), p5);
+  store64(p0.wrapping_add(8), v10);
+  store32(p0.wrapping_add(25), load32(frame.wrapping_add(64)));
+  store32(p0.wrapping_add(28), load32(frame.wrapping_add(67)));
+  return;
+}
+
+// der_view::walk::draw_element::<#058ff82db2a1a4d6>
+unsafe fn der_view_walk_draw_element_6(p0: u64, p1: u64, mut p2: u64, mut p3: u64, p4: u32,
+    mut p5: u64) {
+  let mut array = Frame::<608>::new();
+  let frame = address(&raw mut array);
+  let mut v7 = 0u64;
+  let mut v8 = 0u64;
+  let mut v9 = 0u64;
   let mut v10 = 0u64;
   let mut v11 = 0u64;
   let mut v12 = 0u64;
@@ -35543,50 +36127,161 @@ unsafe fn der_view_walk_walk_6(p0: u64, p1: u64, p2: u64, mut p3: u64, mut p4: u
   let mut v15 = 0u32;
   let mut v16 = 0u64;
   let mut v17 = 0u64;
-  let mut v18 = 0u64;
-  let mut v19 = 0u32;
-  let mut v20 = 0u32;
-  'after_17: {
-  'after_12: {
-  'after_14: {
+  v7 = load64(p2);
+  fill(frame.wrapping_add(56), 0, 80);
   'after_1: {
-  'after_21: {
-  'after_18: {
-  'after_9: {
-  'after_22: {
-  'after_8: {
+  if (load8(p3.wrapping_add(1)) as u32) == 1 {
+    break 'after_1;
+  }
+  store64(frame.wrapping_add(168), load64(p5.wrapping_add(32)));
+  store64(frame.wrapping_add(160), load64(p5.wrapping_add(24)));
+  store64(frame.wrapping_add(152), load64(p5.wrapping_add(16)));
+  store64(frame.wrapping_add(144), load64(p5.wrapping_add(8)));
+  store64(frame.wrapping_add(136), load64(p5));
+  v8 = load64(p5.wrapping_add(88));
+  v9 = load64(p5.wrapping_add(96));
+  let t0 = der_view_content_shown_len(load8(p1.wrapping_add(1)) as u32, frame.wrapping_add(136),
+      load8(p5.wrapping_add(58)) as u32, load8(p5.wrapping_add(59)) as u32, v8, v9);
+  v10 = t0;
+  v11 = constant(0);
+  v12 = 0;
+  v13 = 0;
+  v14 = constant(0);
   'after_2: {
-  store64(frame.wrapping_add(24), 0);
+  v15 = load8(p5.wrapping_add(80)) as u32;
+  if v15 != 0 {
+    break 'after_2;
+  }
+  v13 = load64(p3.wrapping_add(16));
+  v14 = load64(p3.wrapping_add(8));
+  }
+  p2 = p2.wrapping_add(8);
+  p3 = p5.wrapping_add(40);
+  v16 = p5.wrapping_add(56);
+  v17 = if (load8(frame.wrapping_add(160)) as u32) == 1 { v9 } else { 0u64 };
+  'after_3: {
+  if p4 != 0 {
+    break 'after_3;
+  }
+  v11 = load64(p1.wrapping_add(16));
+  v12 = (load64(frame.wrapping_add(152))).wrapping_add(v7);
+  let t1 = v11;
+  v11 = if v11 < v12 { v11 } else { v12 };
+  v12 = t1.wrapping_sub(v11);
+  v12 = if v12 < v9 { v12 } else { v9 };
+  v11 = (load64(p1.wrapping_add(8))).wrapping_add(v11);
+  }
+  store64(frame.wrapping_add(32), load64(p5.wrapping_add(32)));
+  store64(frame.wrapping_add(24), load64(p5.wrapping_add(24)));
+  store64(frame.wrapping_add(16), load64(p5.wrapping_add(16)));
+  store64(frame.wrapping_add(8), load64(p5.wrapping_add(8)));
+  store64(frame, load64(p5));
+  store64(frame.wrapping_add(40), load64(p3));
+  store64(frame.wrapping_add(48), load64(p3.wrapping_add(8)));
+  store32(frame.wrapping_add(56), load32(v16));
+  store8(frame.wrapping_add(60), (load8(v16.wrapping_add(4)) as u32) as u8);
+  store8(frame.wrapping_add(128), p4 as u8);
+  store64(frame.wrapping_add(120), v12);
+  store64(frame.wrapping_add(112), v11);
+  store64(frame.wrapping_add(104), v10);
+  store64(frame.wrapping_add(96), v8);
+  store64(frame.wrapping_add(88), v17);
+  store8(frame.wrapping_add(80), v15 as u8);
+  store64(frame.wrapping_add(72), v13);
+  store64(frame.wrapping_add(64), v14);
+  store64(frame.wrapping_add(576), v7);
+  store64(frame.wrapping_add(584), load64(p2));
+  store64(frame.wrapping_add(592), load64(p2.wrapping_add(8)));
+  store64(frame.wrapping_add(600), load64(p2.wrapping_add(16)));
+  fill(frame.wrapping_add(200), 0, 376);
+  store64(frame.wrapping_add(192), load64(p0.wrapping_add(16)));
+  store64(frame.wrapping_add(184), load64(p0.wrapping_add(8)));
+  store64(frame.wrapping_add(176), load64(p0));
+  der_view_facts_RowFacts_of_element(frame.wrapping_add(200), frame.wrapping_add(176), 0,
+      frame.wrapping_add(576), frame);
+  if (load8(p0.wrapping_add(24)) as u32) == 1 {
+    break 'after_1;
+  }
+  p5 = load64(frame.wrapping_add(200));
+  'after_4: {
+  if (load8(frame.wrapping_add(352)) as u32) == 1 {
+    break 'after_4;
+  }
+  if ((load8(frame.wrapping_add(384)) as u32) & 255) == 1 {
+    break 'after_4;
+  }
+  if ((load8(frame.wrapping_add(416)) as u32) & 255) == 1 {
+    break 'after_4;
+  }
+  if ((load8(frame.wrapping_add(448)) as u32) & 255) == 1 {
+    break 'after_4;
+  }
+  if ((load8(frame.wrapping_add(480)) as u32) & 255) == 1 {
+    break 'after_4;
+  }
+  if ((load8(frame.wrapping_add(512)) as u32) & 255) != 1 {
+    break 'after_1;
+  }
+  }
+  store64(p0.wrapping_add(32), p5);
+  store64(p0.wrapping_add(24), 1);
+  }
+  return;
+}
+
+// der_view::walk::walk::<#058ff82db2a1a4d6>
+unsafe fn der_view_walk_walk_6(p0: u64, p1: u64, p2: u64, mut p3: u64, mut p4: u64, mut p5: u64) {
+  let mut array = Frame::<464>::new();
+  let frame = address(&raw mut array);
+  let mut v7 = 0u32;
+  let mut v8 = 0u32;
+  let mut v9 = 0u64;
+  let mut v10 = 0u64;
+  let mut v11 = 0u64;
+  let mut v12 = 0u64;
+  let mut v13 = 0u64;
+  let mut v14 = 0u32;
+  let mut v15 = 0u64;
+  let mut v16 = 0u64;
+  let mut v17 = 0u64;
+  let mut v18 = 0u32;
+  let mut v19 = 0u64;
+  let mut v20 = 0u32;
+  'after_14: {
+  'after_9: {
+  'after_1: {
+  'after_2: {
+  fill(frame.wrapping_add(144), 0, 120);
   store64(frame.wrapping_add(16), 0);
   store64(frame.wrapping_add(8), 0);
-  store64(frame.wrapping_add(192), load64(p4));
-  store64(frame.wrapping_add(200), load64(p4.wrapping_add(8)));
-  store64(frame.wrapping_add(208), load64(p4.wrapping_add(16)));
-  store64(frame.wrapping_add(216), load64(p4.wrapping_add(24)));
-  store64(frame.wrapping_add(152), load64(p5));
-  store64(frame.wrapping_add(160), load64(p5.wrapping_add(8)));
-  store64(frame.wrapping_add(168), load64(p5.wrapping_add(16)));
-  store64(frame.wrapping_add(176), load64(p5.wrapping_add(24)));
-  store64(frame.wrapping_add(184), load64(p5.wrapping_add(32)));
-  v7 = load64(frame.wrapping_add(192));
+  store64(frame, 0);
+  store64(frame.wrapping_add(304), load64(p4));
+  store64(frame.wrapping_add(312), load64(p4.wrapping_add(8)));
+  store64(frame.wrapping_add(320), load64(p4.wrapping_add(16)));
+  store64(frame.wrapping_add(328), load64(p4.wrapping_add(24)));
+  store64(frame.wrapping_add(264), load64(p5));
+  store64(frame.wrapping_add(272), load64(p5.wrapping_add(8)));
+  store64(frame.wrapping_add(280), load64(p5.wrapping_add(16)));
+  store64(frame.wrapping_add(288), load64(p5.wrapping_add(24)));
+  store64(frame.wrapping_add(296), load64(p5.wrapping_add(32)));
   if p3 == 0 {
     break 'after_1;
   }
-  v8 = load8(frame.wrapping_add(152)) as u32;
-  v9 = v8 ^ 1;
-  p4 = load64(frame.wrapping_add(184));
-  v10 = load64(frame.wrapping_add(200));
-  if v10 > 63 {
+  v7 = load8(frame.wrapping_add(264)) as u32;
+  v8 = v7 ^ 1;
+  p4 = load64(frame.wrapping_add(296));
+  if (load64(frame.wrapping_add(312))) > 63 {
     break 'after_2;
   }
-  v11 = (frame.wrapping_add(224)).wrapping_add(8);
-  v12 = (frame.wrapping_add(152)).wrapping_add(8);
-  v13 = frame.wrapping_add(96);
-  v14 = load64(frame.wrapping_add(176));
-  'again_16: loop {
-  v15 = load8(p2) as u32;
-  v16 = load64(frame.wrapping_add(168));
-  v17 = load64(frame.wrapping_add(160));
+  v9 = frame.wrapping_add(208);
+  v10 = (frame.wrapping_add(336)).wrapping_add(8);
+  v11 = (frame.wrapping_add(264)).wrapping_add(8);
+  v12 = load64(frame.wrapping_add(288));
+  v13 = load64(frame.wrapping_add(304));
+  'again_13: loop {
+  v14 = load8(p2) as u32;
+  v15 = load64(frame.wrapping_add(280));
+  v16 = load64(frame.wrapping_add(272));
   'after_4: {
   'after_7: {
   'after_3: {
@@ -35604,96 +36299,99 @@ unsafe fn der_view_walk_walk_6(p0: u64, p1: u64, p2: u64, mut p3: u64, mut p4: u
   }
   }
   'after_6: {
-  if ((v8 | v15) & 255) == 0 {
+  if ((v7 | v14) & 255) == 0 {
     break 'after_6;
   }
-  v18 = 0;
-  v19 = v15;
+  v17 = 0;
+  v18 = v14;
   break 'after_7;
   }
-  if v16 == 0 {
+  v17 = 0;
+  'after_8: {
+  if v15 != 0 {
     break 'after_8;
   }
-  p5 = v17.wrapping_add(1);
-  v18 = v16;
+  p4 = 0;
+  break 'after_9;
+  }
+  p5 = v16.wrapping_add(1);
+  v19 = v15;
   'again_10: loop {
   if (load8(p5) as u32) == 0 {
     break 'after_4;
   }
   p5 = p5.wrapping_add(5);
-  v18 = v18.wrapping_add(0xffffffffffffffff);
-  if v18 == 0 {
-    break 'after_9;
+  v19 = v19.wrapping_add(0xffffffffffffffff);
+  if v19 != 0 {
+    continue 'again_10;
   }
-  continue 'again_10;
+  break;
   }
+  p4 = 0;
+  break 'after_9;
   }
-  if (load8(v14) as u32) != 0 {
+  if (load8(v12) as u32) != 0 {
     break 'after_4;
   }
-  v19 = (u32::from((load8(v14.wrapping_add(1)) as u32) != 0)) | v9;
-  v20 = v19 & 1;
-  v18 = if v20 != 0 { 0u64 } else { 2u64 };
-  v19 = v19 ^ 1;
+  v18 = (u32::from((load8(v12.wrapping_add(1)) as u32) != 0)) | v8;
+  v20 = v18 & 1;
+  v17 = if v20 != 0 { 0u64 } else { 2u64 };
+  v18 = v18 ^ 1;
   if v20 != 0 {
     break 'after_7;
   }
-  if (v15 & 1) != 0 {
+  if (v14 & 1) != 0 {
     break 'after_7;
   }
-  'after_11: {
-  if v16 != 0 {
-    break 'after_11;
+  v17 = 2;
+  if v15 == 0 {
+    break 'after_9;
   }
-  v18 = 2;
-  break 'after_12;
-  }
-  p5 = v17.wrapping_add(1);
-  v18 = v16;
-  'again_13: loop {
+  p5 = v16.wrapping_add(1);
+  v19 = v15;
+  'again_11: loop {
   if (load8(p5) as u32) == 0 {
     break 'after_4;
   }
   p5 = p5.wrapping_add(5);
-  v18 = v18.wrapping_add(0xffffffffffffffff);
-  if v18 != 0 {
-    continue 'again_13;
+  v19 = v19.wrapping_add(0xffffffffffffffff);
+  if v19 != 0 {
+    continue 'again_11;
   }
-  break;
-  }
-  v18 = 2;
-  break 'after_14;
-  }
-  if (v19 & 1) != 0 {
-    break 'after_14;
+  break 'after_9;
   }
   }
-  fill(frame.wrapping_add(224), 0, 128);
-  v15 = v15 & 1;
-  der_view_step_step_by(frame.wrapping_add(224), v15, v15, v17, v16, v14, p4);
-  v15 = load8(frame.wrapping_add(224)) as u32;
-  move_(frame.wrapping_add(32), v11, 120);
-  if v15 != 1 {
+  if (v18 & 1) != 0 {
+    break 'after_9;
+  }
+  }
+  fill(frame.wrapping_add(336), 0, 128);
+  v14 = v14 & 1;
+  der_view_step_step_by(frame.wrapping_add(336), v14, v14, v16, v15, v12, p4);
+  v14 = load8(frame.wrapping_add(336)) as u32;
+  move_(frame.wrapping_add(24), v10, 120);
+  if v14 != 1 {
     break 'after_1;
   }
+  move_(frame.wrapping_add(144), frame.wrapping_add(24), 120);
   p3 = p3.wrapping_add(0xffffffffffffffff);
-  der_view_walk_draw_step_6(frame.wrapping_add(8), p1, p2, p3, frame.wrapping_add(192),
-      frame.wrapping_add(152), frame.wrapping_add(32));
-  'after_15: {
-  if (load8(frame.wrapping_add(8)) as u32) != 1 {
-    break 'after_15;
+  der_view_walk_draw_step_6(frame, p1, p2, p3, frame.wrapping_add(304), frame.wrapping_add(264),
+      frame.wrapping_add(144));
+  'after_12: {
+  if (load8(frame) as u32) != 1 {
+    break 'after_12;
   }
-  store64(v12, load64(v13));
-  store64(v12.wrapping_add(8), load64(v13.wrapping_add(8)));
-  p5 = load64(frame.wrapping_add(24));
-  store64(frame.wrapping_add(184), p5);
-  v14 = load64(frame.wrapping_add(16));
-  store64(frame.wrapping_add(176), v14);
-  v7 = (p4.wrapping_sub(p5)).wrapping_add(v7);
-  store64(frame.wrapping_add(192), v7);
+  store64(v11, load64(v9));
+  store64(v11.wrapping_add(8), load64(v9.wrapping_add(8)));
+  p5 = load64(frame.wrapping_add(16));
+  store64(frame.wrapping_add(296), p5);
+  v12 = load64(frame.wrapping_add(8));
+  store64(frame.wrapping_add(288), v12);
+  v13 = (p4.wrapping_sub(p5)).wrapping_add(v13);
+  store64(frame.wrapping_add(304), v13);
   p4 = p5;
   if p3 != 0 {
-    continue 'again_16;
+    continue 'again_13;
   }
   break 'after_1;
   }
@@ -35702,176 +36400,102 @@ unsafe fn der_view_walk_walk_6(p0: u64, p1: u64, p2: u64, mut p3: u64, mut p4: u
   store64(p0.wrapping_add(16), 0);
   store64(p0.wrapping_add(8), 0);
   store64(p0, 0);
-  break 'after_17;
+  break 'after_14;
   }
-  v15 = load8(p2) as u32;
-  v14 = load64(frame.wrapping_add(176));
-  v16 = load64(frame.wrapping_add(168));
-  v17 = load64(frame.wrapping_add(160));
+  v14 = load8(p2) as u32;
+  v12 = load64(frame.wrapping_add(288));
+  p5 = load64(frame.wrapping_add(280));
+  v19 = load64(frame.wrapping_add(272));
+  'after_18: {
+  'after_15: {
   if p4 > 1 {
-    break 'after_18;
+    break 'after_15;
   }
-  'after_19: {
+  'after_16: {
   match p4 as u32 {
   1 => {
     break 'after_1;
   }
   _ => {
+    break 'after_16;
+  }
+  }
+  }
+  'after_17: {
+  if ((v7 | v14) & 255) == 0 {
+    break 'after_17;
+  }
+  v17 = 0;
+  v7 = v14;
+  break 'after_18;
+  }
+  p4 = 0;
+  'after_19: {
+  if p5 != 0 {
     break 'after_19;
   }
+  v17 = 0;
+  break 'after_9;
   }
-  }
-  'after_20: {
-  if ((v8 | v15) & 255) == 0 {
-    break 'after_20;
-  }
-  v18 = 0;
-  v8 = v15;
-  break 'after_21;
-  }
-  if v16 != 0 {
-    break 'after_22;
-  }
-  }
-  v18 = 0;
-  p4 = 0;
-  break 'after_12;
-  }
-  p5 = v17.wrapping_add(1);
-  p4 = v16;
-  'again_23: loop {
-  if (load8(p5) as u32) == 0 {
+  v19 = v19.wrapping_add(1);
+  'again_20: loop {
+  if (load8(v19) as u32) == 0 {
     break 'after_1;
   }
-  p5 = p5.wrapping_add(5);
-  p4 = p4.wrapping_add(0xffffffffffffffff);
-  if p4 != 0 {
-    continue 'again_23;
+  v19 = v19.wrapping_add(5);
+  p5 = p5.wrapping_add(0xffffffffffffffff);
+  if p5 != 0 {
+    continue 'again_20;
   }
   break;
   }
+  v17 = 0;
+  break 'after_9;
   }
-  p4 = 0;
-  v18 = 0;
-  break 'after_14;
-  }
-  if (load8(v14) as u32) != 0 {
+  if (load8(v12) as u32) != 0 {
     break 'after_1;
   }
-  v8 = (u32::from((load8(v14.wrapping_add(1)) as u32) != 0)) | v9;
-  v19 = v8 & 1;
-  v18 = if v19 != 0 { 0u64 } else { 2u64 };
-  v8 = v8 ^ 1;
-  if v19 != 0 {
-    break 'after_21;
+  v7 = (u32::from((load8(v12.wrapping_add(1)) as u32) != 0)) | v8;
+  v18 = v7 & 1;
+  v17 = if v18 != 0 { 0u64 } else { 2u64 };
+  v7 = v7 ^ 1;
+  if v18 != 0 {
+    break 'after_18;
   }
-  if (v15 & 1) != 0 {
-    break 'after_21;
+  if (v14 & 1) != 0 {
+    break 'after_18;
   }
-  'after_24: {
-  if v16 != 0 {
-    break 'after_24;
+  v17 = 2;
+  if p5 == 0 {
+    break 'after_9;
   }
-  v18 = 2;
-  break 'after_12;
-  }
-  p5 = v17.wrapping_add(1);
-  p3 = v16;
-  'again_25: loop {
-  if (load8(p5) as u32) == 0 {
+  v19 = v19.wrapping_add(1);
+  'again_21: loop {
+  if (load8(v19) as u32) == 0 {
     break 'after_1;
   }
-  p5 = p5.wrapping_add(5);
-  v18 = 2;
-  p3 = p3.wrapping_add(0xffffffffffffffff);
-  if p3 != 0 {
-    continue 'again_25;
+  v19 = v19.wrapping_add(5);
+  p5 = p5.wrapping_add(0xffffffffffffffff);
+  if p5 != 0 {
+    continue 'again_21;
   }
-  break 'after_14;
-  }
-  }
-  if (v8 & 1) != 0 {
-    break 'after_14;
+  break 'after_9;
   }
   }
-  'after_26: {
-  if (load8(frame.wrapping_add(153)) as u32) != 0 {
-    break 'after_26;
-  }
-  'after_28: {
-  'after_27: {
-  if (load64(frame.wrapping_add(200))) != 0 {
-    break 'after_27;
-  }
-  v15 = 1;
-  if v7 != 0 {
-    break 'after_28;
+  if (v7 & 1) != 0 {
+    break 'after_9;
   }
   }
-  let t0 = (u32::from((load8(p1) as u32) == 1)) & (u32::from(((load8(p1.wrapping_add(6)) as u32)
-      & 255) == 0));
-  v15 = t0 & (u32::from(((load8(p1.wrapping_add(10)) as u32) & 1) == 0));
-  }
-  if (load8(p1.wrapping_add(24)) as u32) == 1 {
-    break 'after_26;
-  }
-  if v15 == 0 {
-    break 'after_26;
-  }
-  store64(p1.wrapping_add(32), v7);
-  store64(p1.wrapping_add(24), 1);
-  }
+  der_view_walk_draw_left_6(p1, frame.wrapping_add(304), frame.wrapping_add(264));
   store64(p0.wrapping_add(16), 0);
   store64(p0.wrapping_add(8), 0);
   store64(p0, 0);
-  break 'after_17;
+  break 'after_14;
   }
-  if (load8(frame.wrapping_add(153)) as u32) != 0 {
-    break 'after_12;
-  }
-  if v16 == 0 {
-    break 'after_12;
-  }
-  p5 = v17.wrapping_add(1);
-  'after_29: {
-  'again_30: loop {
-  if (load8(p5) as u32) == 0 {
-    break 'after_29;
-  }
-  p5 = p5.wrapping_add(5);
-  v16 = v16.wrapping_add(0xffffffffffffffff);
-  if v16 != 0 {
-    continue 'again_30;
-  }
-  break 'after_12;
-  }
-  }
-  'after_32: {
-  'after_31: {
-  if v10 != 0 {
-    break 'after_31;
-  }
-  v15 = 1;
-  if v7 != 0 {
-    break 'after_32;
-  }
-  }
-  let t1 = (u32::from((load8(p1) as u32) == 1)) & (u32::from(((load8(p1.wrapping_add(6)) as u32)
-      & 255) == 0));
-  v15 = t1 & (u32::from(((load8(p1.wrapping_add(10)) as u32) & 1) == 0));
-  }
-  if (load8(p1.wrapping_add(24)) as u32) == 1 {
-    break 'after_12;
-  }
-  if v15 == 0 {
-    break 'after_12;
-  }
-  store64(p1.wrapping_add(32), v7);
-  store64(p1.wrapping_add(24), 1);
-  }
+  der_view_walk_draw_end_6(p1, frame.wrapping_add(304), frame.wrapping_add(264));
+  store64(p0.wrapping_add(16), p4.wrapping_sub(v17));
+  store64(p0.wrapping_add(8), v12.wrapping_add(v17));
   store64(p0, 1);
-  store64(p0.wrapping_add(16), p4.wrapping_sub(v18));
-  store64(p0.wrapping_add(8), v14.wrapping_add(v18));
   }
 }
 
@@ -35903,6 +36527,95 @@ unsafe fn der_view_walk_follows_6(p0: u64, p1: u64, p2: u64, p3: u64, mut p4: u3
       frame.wrapping_add(112), frame.wrapping_add(72));
   p4 = load8(frame.wrapping_add(24)) as u32;
   return u32::from(p4 == 1);
+}
+
+// der_view::walk::draw_left::<#058ff82db2a1a4d6>
+unsafe fn der_view_walk_draw_left_6(p0: u64, p1: u64, mut p2: u64) {
+  let mut v3 = 0u32;
+  v3 = 1;
+  'after_1: {
+  if (load8(p2.wrapping_add(1)) as u32) == 1 {
+    break 'after_1;
+  }
+  p2 = load64(p1);
+  'after_3: {
+  'after_2: {
+  if (load64(p1.wrapping_add(8))) != 0 {
+    break 'after_2;
+  }
+  if p2 != 0 {
+    break 'after_3;
+  }
+  }
+  let t0 = (u32::from((load8(p0) as u32) == 1)) & (u32::from(((load8(p0.wrapping_add(6)) as u32)
+      & 255) == 0));
+  v3 = t0 & (u32::from(((load8(p0.wrapping_add(10)) as u32) & 1) == 0));
+  }
+  if (load8(p0.wrapping_add(24)) as u32) == 1 {
+    break 'after_1;
+  }
+  if v3 == 0 {
+    break 'after_1;
+  }
+  store64(p0.wrapping_add(32), p2);
+  store64(p0.wrapping_add(24), 1);
+  }
+  return;
+}
+
+// der_view::walk::draw_end::<#058ff82db2a1a4d6>
+unsafe fn der_view_walk_draw_end_6(p0: u64, mut p1: u64, mut p2: u64) {
+  let mut v3 = 0u64;
+  let mut v4 = 0u64;
+  let mut v5 = 0u32;
+  'after_1: {
+  if (load8(p2.wrapping_add(1)) as u32) == 1 {
+    break 'after_1;
+  }
+  v3 = load64(p2.wrapping_add(16));
+  if v3 == 0 {
+    break 'after_1;
+  }
+  v4 = load64(p1.wrapping_add(8));
+  p1 = load64(p1);
+  p2 = (load64(p2.wrapping_add(8))).wrapping_add(1);
+  'after_2: {
+  'again_3: loop {
+  if (load8(p2) as u32) == 0 {
+    break 'after_2;
+  }
+  p2 = p2.wrapping_add(5);
+  v3 = v3.wrapping_add(0xffffffffffffffff);
+  if v3 != 0 {
+    continue 'again_3;
+  }
+  break 'after_1;
+  }
+  }
+  'after_5: {
+  'after_4: {
+  if v4 != 0 {
+    break 'after_4;
+  }
+  v5 = 1;
+  if p1 != 0 {
+    break 'after_5;
+  }
+  }
+  let t0 = (u32::from((load8(p0) as u32) == 1)) & (u32::from(((load8(p0.wrapping_add(6)) as u32)
+      & 255) == 0));
+  v5 = t0 & (u32::from(((load8(p0.wrapping_add(10)) as u32) & 1) == 0));
+  }
+  if (load8(p0.wrapping_add(24)) as u32) == 1 {
+    break 'after_1;
+  }
+  if v5 == 0 {
+    break 'after_1;
+  }
+  store64(p0.wrapping_add(32), p1);
+  store64(p0.wrapping_add(24), 1);
+  }
+  return;
 }
 
 // der_view::line::Line::push_identified
