@@ -25,16 +25,19 @@ LEVELS = {
     # a structure has at most ten components
     "der_view::step::fitting": 11,
     "der_view::line::Line::push_expected": 11,
-    # the rows of the table of names
-    "der_view::names::names_after": 170,
     # a row has room for six marks
     "der_view::printer::write_marks": 7,
+    "sec1_c::picture::lines::Lines::push_marks": 7,
+    # the rows of the table of the forms' words
+    "der_view::sentences::form_in": 25,
+    # the characters of a sentence, of which the longest has 83
+    "der_view::line::Line::push_sentence": 84,
+    # five sentences are said
+    "der_view::drawing::write_sentences": 6,
     # the forms, of which one comes first
     "der_view::plan::best": 35,
     # levels 64 to 0
     "der_view::faults::walk::check": 65,
-    # a row has at most six marks, and then there is none
-    "der_view::known::summarized": 7,
     # a number is below 2^128, and has no leading digits 0: 18 digits of 7 bits are 126
     "der_view::values::arcs::split_subidentifier": 20,
     # five digits of 7 bits in 32, and then 0

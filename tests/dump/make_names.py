@@ -7,6 +7,7 @@
 Each line of names.txt is an identifier in dotted text, its name, and the standard that has it.
 """
 import pathlib
+import re
 import sys
 
 CRATE = pathlib.Path(__file__).resolve().parent.parent.parent / "crates/der_view"
@@ -16,9 +17,18 @@ LINE = 100
 HEAD = '''//! The names of identifiers, as `tests/dump/make_names.py` makes them of `names.txt`.
 
 /// A row for all identifiers whose contents have one front, which is all but the last byte: the
-/// number of bytes of the front, that of the names in two bytes, the front, and the names by the
-/// last byte, from 0 on, with a comma between. An empty one is none.
-pub(super) const NAMES: [u8; @SIZE@] = *b"\\
+/// number whose digits in base 256 are a 128 and the front, and how many bytes its names have.
+// With a 128, neither half of a number looks like an address of the module for WebAssembly.
+#[rattlefmt::skip]
+pub(super) static ROWS: [(u128, usize); @COUNT@] = [
+@ROWS@
+];
+
+/// The names of each row, by the last byte from 0 on, with a comma after each. An empty one is
+/// none.
+pub(super) static NAMES: [u8; @SIZE@] = *b"\\
+@NAMES@\\
+";
 '''
 
 
@@ -48,30 +58,36 @@ def names():
     return found
 
 
-def pieces(front, named):
-    """The pieces of a row, after each of which a line may end, and its number of bytes."""
-    words = [named.get(last, "") for last in range(max(named) + 1)]
-    names = ",".join(words)
-    octets = bytes([len(front), *divmod(len(names), 256)]) + front
-    head = "".join(f"\\x{byte:02X}" for byte in octets)
-    return [head, *(f"{word}," for word in words[:-1]), words[-1]], len(octets) + len(names)
+def lines(pieces, between, end):
+    """Lines of these pieces: what is between two of them, and at the end of a line but the last."""
+    filled = [pieces[0]]
+    for piece in pieces[1:]:
+        if 4 + len(filled[-1] + between + piece + end) > LINE:
+            filled.append(piece)
+        else:
+            filled[-1] += between + piece
+    return f"{end}\n".join("    " + line for line in filled)
 
 
 def text():
-    """The text of the file."""
-    rows = {}
+    """The text of the file. A line may end after each comma or hyphen of the names."""
+    fronts = {}
     for dotted, name in names().items():
         octets = content(dotted)
-        rows.setdefault(octets[:-1], {})[octets[-1]] = name
-    lines, total = ["    "], 0
-    for front, named in sorted(rows.items()):
-        found, size = pieces(front, named)
-        total += size
-        for piece in found:
-            if len(lines[-1] + piece) >= LINE:
-                lines.append("    ")
-            lines[-1] += piece
-    return HEAD.replace("@SIZE@", str(total)) + "\\\n".join(lines) + '\\\n";\n'
+        fronts.setdefault(octets[:-1], {})[octets[-1]] = name
+    rows, words = [], ""
+    # Short fronts first: many identifiers have one.
+    for front, named in sorted(fronts.items(), key=lambda row: (len(row[0]), row[0])):
+        found = "".join(named.get(last, "") + "," for last in range(max(named) + 1))
+        rows.append(f"(0x80_{front.hex().upper()}, {len(found)}),")
+        words += found
+    parts = {
+        "@COUNT@": str(len(rows)),
+        "@ROWS@": lines(rows, " ", ""),
+        "@SIZE@": str(len(words)),
+        "@NAMES@": lines(re.findall("[^,-]*[,-]", words), "", "\\"),
+    }
+    return re.sub("@[A-Z]+@", lambda part: parts[part[0]], HEAD)
 
 
 def is_made():

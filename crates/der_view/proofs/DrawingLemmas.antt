@@ -9,9 +9,9 @@ use Rattle.der_view.specs.Lines.{kept, shown}
 use Rattle.der_view.specs.Parts.{Content, IsIn, content_of, found_with}
 use Rattle.der_view.specs.Pictures.{picture, plan_of}
 use Rattle.der_view.specs.Printing.{line_text}
-use Rattle.der_view.specs.Said.{first_text, said_text}
+use Rattle.der_view.specs.Said.{first_words, said_of, said_text}
 use Rattle.der_view.specs.Sources.{Der, SourceView, has_begin, is_der, is_text, sources_by, sources_of, wide_note}
-use Rattle.der_view.specs.declared.said.Reading.TheVariants as readings
+use Rattle.der_view.specs.declared.sentences.Reading.TheVariants as readings
 use Rattle.der_view.specs.declared.sentences.Sentence.{Sentence}
 use Rattle.der_view.specs.declared.text.Found.{Found}
 use Rattle.der_view.specs.declared.text.Found.TheVariants as founds
@@ -53,7 +53,7 @@ key_drawn a whole = rw whole refl
 
 key_text_is : (a b : List ℕ) → plan_of a ≡ plan_of b → picture false a ≡ picture false b → is_key_of a ≡ true
     → is_key_of b ≡ true → bytes_text false readings.Der a ≡ bytes_text false readings.Der b
-unfolding bytes_text known_of picture said_text first_text
+unfolding bytes_text known_of picture said_text said_of first_words
 key_text_is a b plan rows one two = let same = rw plan at rows in rw (one, two, plan, same) refl
 
 -- keys with the same plan and the same rows have the same picture
@@ -97,10 +97,3 @@ module _ {W : Type 0} (Writes : W → W → List ℕ → Type 0)
         → Writes a b first → OnOk r (Writes b c second) → OnOk r (Writes a c whole)
     then_on a b c first second whole (Ok x) is one two = rw is (joined a b c first second one two)
     then_on a b c first second whole (Err e) is one two = two
-
-    pub five_on : {A E : Type 0} (a b c d e f : W) (v w x y z : List ℕ) (r : Result A E) → Writes a b v → Writes b c w
-        → Writes c d x → Writes d e y → OnOk r (Writes e f z) → OnOk r (Writes a f (v ++ (w ++ (x ++ (y ++ z)))))
-    five_on a b c d e f v w x y z (Ok done) one two three four five =
-        joined a b f v _ one
-        (joined b c f w _ two (joined c d f x _ three (joined d e f y z four five)))
-    five_on a b c d e f v w x y z (Err error) one two three four five = five

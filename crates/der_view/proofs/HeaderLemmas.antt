@@ -1,10 +1,10 @@
 -- The header that bytes begin with follows from these bytes alone.
-use Rattle.std.proofs.Common.{◌≡◌, refl, ℕ, zero, suc, ◌+◌, ◌-◌, ◌*◌, ◌%◌, ◌<◌, ◌≤◌, List, [], ◌∷◌, ◌++◌, length, drop}
+use Rattle.std.proofs.Common.{◌≡◌, refl, ℕ, zero, suc, ◌+◌, ◌*◌, ◌%◌, ◌<◌, ◌≤◌, List, [], ◌∷◌, ◌++◌, length, drop}
 use Rattle.std.proofs.Common.{arith}
 use Rattle.std.proofs.lemmas.List.{length-append, take-append-le}
 use Rattle.std.proofs.lemmas.Bool.Decides.{nat_tests}
 use Rattle.std.specs.Prelude.{Option, Result, Ok, Err}
-use Rattle.der_view.specs.Headers.{header_after, header_of, header_with, length_at, long_length, number_after, tag_at}
+use Rattle.der_view.specs.Headers.{header_after, header_of, header_with, length_at, number_after, tag_at}
 use Rattle.der_view.specs.declared.header.ElementFault.{ElementFault}
 use Rattle.der_view.specs.declared.header.Header.{Header}
 use Rattle.der_view.specs.declared.header.Tag.{Tag}
@@ -24,17 +24,12 @@ tag_front [] [] b p is = cc
 tag_front [] (first ∷ a) b p is = grind (arith, nat_tests, number_front 4 0 [] a b)
 tag_front (first ∷ front) a b p is = grind (arith, nat_tests, number_front 4 0 front a b)
 
-long_front : (count : ℕ) (front a b : List ℕ) (p : Option ℕ × ℕ) → long_length count (front ++ a) ≡ Ok p
-    → (0 < p.1) × (p.1 ≤ suc (length (front ++ a)))
-    × (p.1 ≤ suc (length front) → long_length count (front ++ b) ≡ Ok p)
-long_front count front a b p is = grind (arith, nat_tests, take-append-le, length-append {A = ℕ})
-
 -- after so many bytes
 length_front : (n : ℕ) (front a b : List ℕ) (p : Option ℕ × ℕ) → length_at (drop n (front ++ a)) ≡ Ok p
     → (0 < p.1) × (n + p.1 ≤ length (front ++ a)) × (n + p.1 ≤ length front → length_at (drop n (front ++ b)) ≡ Ok p)
 length_front zero [] [] b p is = cc
-length_front zero [] (first ∷ a) b p is = grind (arith, nat_tests, long_front (first - 0x80) [] a b)
-length_front zero (first ∷ front) a b p is = grind (arith, nat_tests, long_front (first - 0x80) front a b)
+length_front zero [] (first ∷ a) b p is = grind (arith, nat_tests, take-append-le, length-append {A = ℕ})
+length_front zero (first ∷ front) a b p is = grind (arith, nat_tests, take-append-le, length-append {A = ℕ})
 length_front (suc n) [] [] b p is = cc
 length_front (suc n) [] (first ∷ a) b p is = grind (arith, length_front n [] a b p is)
 length_front (suc n) (first ∷ front) a b p is = grind (arith, length_front n front a b p is)

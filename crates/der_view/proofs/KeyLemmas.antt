@@ -1,59 +1,49 @@
--- Masks of elements in DER whose contents differ, of what is around them, and of private keys.
-use Rattle.std.proofs.lemmas.Bool.{not-true, cases_Bool, and_parts, cases_lt}
-use Rattle.std.proofs.Common.{eqb-true, le-ltb, subst, ap₂, ◌||◌, ◌≡◌, ◌==◌, ◌&&◌, ℕ, zero, suc, ◌+◌, ◌<◌, ◌≤◌, Bool}
-use Rattle.std.proofs.Common.{true, false, List, [], ◌∷◌, ◌++◌, length, take, drop, refl, sym, ap, ◌∙◌, Option, Some}
-use Rattle.std.proofs.Common.{None, arith, length-append, append_assoc, ⊎_elim, append-nil, inl, inr, ◌-◌, ◌/◌, ◌%◌}
-use Rattle.std.proofs.Common.{if◌then◌else◌, Result, Ok, not, lt-ltb, ne_eqb, drop_at, length-take, take_all, take_at}
-use Rattle.std.proofs.Common.{is_some, is_none, nat_lt}
+-- Masks of elements in DER whose contents differ, of what is around them, and of inputs with private keys.
+use Rattle.std.proofs.Common.{eqb-true, ◌≡◌, ◌==◌, ◌&&◌, ℕ, zero, suc, ◌+◌, ◌<◌, ◌≤◌, Bool, true, false, List, [], ◌∷◌}
+use Rattle.std.proofs.Common.{◌++◌, length, take, drop, refl, sym, ap, ◌∙◌, Option, Some, None, arith, length-append}
+use Rattle.std.proofs.Common.{append_assoc, append-nil, inl, inr, ◌-◌, ◌%◌, if◌then◌else◌, Ok, not, drop_at}
+use Rattle.std.proofs.Common.{length-take, take_at, is_some, nat_lt, take-append-drop, replicate, option_map}
 use Rattle.std.proofs.lemmas.List.{nil_from_length, drop_all}
-use Rattle.der_view.specs.Rows.{after_inside, inside_bytes, inside_loose, is_open, opened_of, rest_after, rest_of}
-use Rattle.der_view.specs.Rows.{rest_with, Step, admits, component_by, end_at, fitting, has_tag, is_followed, opened_in}
-use Rattle.der_view.specs.Rows.{others_after, step_at, step_by, step_made, step_with, element_at, element_by}
-use Rattle.std.proofs.Math.Bool.{and-false, or-true}
+use Rattle.der_view.specs.Rows.{is_open, rest_after, Step, component_at, end_at, fitting, others_after, step_at}
+use Rattle.der_view.specs.Rows.{step_by}
 use Rattle.std.proofs.lemmas.Bool.Decides.{nat_tests}
-use Rattle.sec1_der.specs.Elements.{element, header, length_octets, number_of}
-use Rattle.der_view.specs.Contents.{is_small, is_whole, shown_len}
-use Rattle.der_view.specs.Grammar.{Component, cases, components}
-use Rattle.der_view.specs.Headers.{max_content_len, header_of, length_at, tag_of}
-use Rattle.der_view.specs.Keys.{AreLevels, AreParts, DifferIn, IsContent, Level, Part, is_low, key_in, parts_before}
-use Rattle.der_view.specs.Masks.{masked, next_mask, step_mask, undrawn}
+use Rattle.sec1_der.specs.Elements.{header, length_octets, number_of, element}
+use Rattle.der_view.specs.Contents.{shown_len, has_type, is_number, is_small, shown_in, is_shown}
+use Rattle.der_view.specs.Grammar.{Component, cases, components, Form}
+use Rattle.der_view.specs.Headers.{max_content_len, length_at, tag_of}
+use Rattle.der_view.specs.Keys.{AreLevels, AreParts, DifferIn, IsContent, IsCutIn, Level, Part, is_low, key_in}
+use Rattle.der_view.specs.Keys.{parts_before, AreUnseen, integers, key_bytes}
+use Rattle.std.proofs.Math.Seq.{take-append-add}
+use Rattle.der_view.specs.Pictures.{root_step, best, better, known_as, nearest, plan_of, root_of}
+use Rattle.der_view.specs.Masks.{mask_as, mask_with, masked, next_mask, step_mask, undrawn, AreAlike, AreAlikeAs}
+use Rattle.der_view.specs.Masks.{mask_by_way}
 use Rattle.der_view.specs.declared.grammar.Content.{Content}
 use Rattle.der_view.specs.declared.grammar.Content.TheVariants as contents
 use Rattle.der_view.specs.declared.grammar.TheConstants as elements
 use Rattle.der_view.specs.declared.grammar.Structure.{Structure}
 use Rattle.der_view.specs.declared.header.Header.{Header}
-use Rattle.der_view.proofs.SameLemmas.{SameContent, StepsAlike, any, closed_alike, content_alike, inside_content}
-use Rattle.der_view.proofs.SameLemmas.{same_content, step_as, unseen_len, unseen_same, whole_len}
+use Rattle.der_view.proofs.SameLemmas.{SameContent, any, content_alike, inside_content, same_content, step_as}
 use Rattle.std.proofs.lemmas.Int.Digits.{length-digits_of_step, length-digits_of-le, number_digits_of}
 use Rattle.std.specs.Int.Digits.{digits_of}
-use Rattle.sec1_der.proofs.LengthLaws.{len_1, len_long}
-use Rattle.der_view.specs.declared.header.ElementFault.{ElementFault}
+use Rattle.std.proofs.lemmas.Bool.{agree_below, agree_below_at, and_parts}
+use Rattle.der_view.specs.declared.grammar.forms.TheConstants as tables
+use Rattle.der_view.specs.declared.plan.Plan.{Plan}
+use Rattle.sec1.specs.Keys.{IsKeyOf, Key, field}
+use Rattle.sec1_der.specs.Identifiers.{content_of}
+use Rattle.sec1_der.specs.Trees.{forest, joined, leaf}
+use Rattle.std.specs.Option.{option_map_or}
 
 -- ---- an element in DER
 
 -- the length of a content in DER
 length_in_der : (n : ℕ) (rest : List ℕ) → n ≤ max_content_len
     → length_at (length_octets n ++ rest) ≡ Ok (Some n, length (length_octets n))
-length_in_der n rest few = ⊎_elim
-    (λ small. rw (len_1 n small, lt-ltb n 128 small) refl)
-    (λ large.
-    let d : ℕ = length (digits_of 256 n) in
-    let more : d ≡ length (digits_of 256 (n / 256)) + 1 = length-digits_of_step 256 n (omega arith) (omega arith) in
-    let most : d ≤ 4 = length-digits_of-le 256 4 n (omega arith) (omega arith) in
-    let count : 128 + d - 0x80 ≡ d = omega arith in
-    let long : nat_lt (128 + d) 0x80 ≡ false = grind (arith, nat_tests) in
-    let some : (128 + d == 0x80) ≡ false = ne_eqb (128 + d) 0x80 (λ e. omega arith) in
-    let other : (128 + d == 0xFF) ≡ false = ne_eqb (128 + d) 0xFF (λ e. omega arith) in
-    let short : nat_lt 0x84 (128 + d) ≡ false = grind (arith, nat_tests) in
-    let fits : nat_lt (length (digits_of 256 n ++ rest)) d ≡ false =
-    le-ltb (length (digits_of 256 n ++ rest)) d (omega (arith, length-append (digits_of 256 n) rest)) in
-    let front : take d (digits_of 256 n ++ rest) ≡ digits_of 256 n = take_at (digits_of 256 n) rest d refl in
-    let number : number_of (digits_of 256 n) ≡ n = number_digits_of 256 n (omega arith) in
-    let within : nat_lt max_content_len n ≡ false = grind (arith, nat_tests) in
-    let size : d + 1 ≡ suc d = omega arith in
-    rw (len_long n (digits_of 256 n) large refl, long, some, other, short, count, fits, front, number, within, size)
-    refl)
-    (cases_lt n 128)
+unfolding length_octets
+length_in_der n rest few =
+    let digits : List ℕ = digits_of 256 n in
+    let most : length digits ≤ 4 = length-digits_of-le 256 4 n (omega arith) (omega arith) in
+    let number : number_of digits ≡ n = number_digits_of 256 n (omega arith) in
+    grind (arith, nat_tests, length-digits_of_step 256 n, length-append digits rest, take_at digits rest)
 
 -- the header of an element of n bytes
 abbrev pub der_header : ℕ → ℕ → Header
@@ -64,128 +54,65 @@ der_header tag n = record {
   content_len = Some n;
 }
 
-head_len : (tag n : ℕ) → (der_header tag n).len ≡ length (header tag n)
-head_len tag n = omega arith
+-- such an element, as one component
+abbrev pub der_step : (tag n : ℕ) → Component → List Component → Bool → List ℕ → List ℕ → Step
+der_step tag n c others follows content rest =
+    step_as (der_header tag n) (header tag n) c others follows content rest
 
-head_in_der : (tag n : ℕ) (x : List ℕ) → is_low tag ≡ true → n ≤ max_content_len
-    → header_of (header tag n ++ x) ≡ Ok (der_header tag n)
-head_in_der tag n x low few =
-    let parts = and_parts (not (tag == 0x00 || tag == 0x20)) (nat_lt (tag % 0x20) 0x1F) low in
-    let free : (tag == 0x00 || tag == 0x20) ≡ false = not-true (tag == 0x00 || tag == 0x20) parts.0 in
-    let small : nat_lt (tag % 0x20) 0x1F ≡ true = parts.1 in
-    rw (free, small, length_in_der n x few) refl
+abbrev pub der_made : Bool → ℕ → ℕ → List ℕ → List ℕ → Option (Component × List Component) → Option Step
+der_made misfit tag n content rest (Some (c, others)) = Some (der_step tag n c others true content rest)
+der_made misfit tag n content rest None =
+    if misfit then Some (der_step tag n elements.ELEMENT any false content rest) else None
 
--- the element which bytes begin with
-element_in_der : (cut : Bool) (tag n : ℕ) (x : List ℕ) → is_low tag ≡ true → n ≤ max_content_len
-    → element_at cut (header tag n ++ x)
-    ≡ (if nat_lt (length x) n && not cut then None else Some (der_header tag n, take n x, drop n x))
-element_in_der cut tag n x low few =
-    let tail : drop (der_header tag n).len (header tag n ++ x) ≡ x =
-    drop_at (header tag n) x (der_header tag n).len (sym (head_len tag n)) in
-    ap (λ (r : Result Header ElementFault). element_by cut (header tag n ++ x) r) (head_in_der tag n x low few)
-    ∙ rw tail (elim (cases_Bool (nat_lt (length x) n)) [
-      | inl short ↦
-          let less : length x ≤ n = grind (arith, nat_tests) in
-          rw (short, take_all n x less, drop_all n x less)
-          (elim (cases_Bool cut) [ inl is ↦ rw is refl | inr whole ↦ rw whole refl ])
-      | inr long ↦ rw long refl
-    ])
-
--- ---- the next element
-
--- of bytes that begin with a header
-pub next_is : (cut misfit : Bool) (some : List Component) (tag n : ℕ) (x : List ℕ) → is_low tag ≡ true
-    → n ≤ max_content_len → step_by cut misfit some (header tag n ++ x) ≡ step_with misfit tag some (header tag n ++ x)
-    (if nat_lt (length x) n && not cut then None else Some (der_header tag n, take n x, drop n x))
-unfolding step_by
-next_is cut misfit some tag n x low few =
-    ap (λ (e : Option (Header × List ℕ × List ℕ)). step_with misfit tag some (header tag n ++ x) e)
-    (element_in_der cut tag n x low few)
+-- the next element of bytes that begin with its header, of which all comes or the bytes end in it
+pub next_is : (cut misfit : Bool) (some : List Component) (tag n : ℕ) (a s : List ℕ) → is_low tag ≡ true
+    → IsContent n a s → step_by cut misfit some (header tag n ++ (a ++ s))
+    ≡ (if nat_lt (length a) n && not cut then None
+    else der_made misfit tag n a s (component_at tag (der_header tag n) a some))
+unfolding step_by components
+next_is cut misfit some tag n a s low is =
+    let head : List ℕ = header tag n in
+    let x : List ℕ = a ++ s in
+    grind (
+      arith,
+      nat_tests,
+      length_in_der n x is.few,
+      take_at head x,
+      drop_at head x,
+      length-append a s,
+      take_at a s n,
+      drop_at a s n,
+      append-nil a,
+    )
 
 -- no level ends at a header
 pub goes_on : (loose : Bool) (some : List Component) (byte : ℕ) (bytes : List ℕ)
     → end_at loose false some (byte ∷ bytes) ≡ None
 unfolding end_at
-goes_on loose some byte [] = refl
-goes_on loose some byte (next ∷ bytes) = rw (and-false (byte == 0x00 && next == 0x00)) refl
+goes_on loose some byte bytes = grind arith
 
 -- ---- bytes and contents that are masked alike
 
--- these as these components
-abbrev pub Same : List Component → List ℕ → List Component → List ℕ → Type 0
-Same cs x ds y =
+abbrev pub Same : List Component → List ℕ → List ℕ → Type 0
+Same cs x y =
     (loose small : Bool) (most depth : ℕ)
-    → masked loose small most depth false cs x ≡ masked loose small most depth false ds y
+    → masked loose small most depth false cs x ≡ masked loose small most depth false cs y
 
 -- as any components of which this holds
 pub record Alike (holds : List Component → Bool) (x y : List ℕ) : Type 0 where
   pub len : length x ≡ length y
   pub anything : holds any ≡ true
-  pub masks : (cs : List Component) → holds cs ≡ true → Same cs x cs y
+  pub masks : (cs : List Component) → holds cs ≡ true → Same cs x y
 
 -- as any content of which this holds
 pub record Unseen (fine : Content → Bool) (header : Header) (a b : List ℕ) : Type 0 where
+  pub len : length a ≡ length b
   pub anything : fine contents.Free ≡ true
   pub same :
       (c : Component) → fine c.2 ≡ true → (loose small : Bool) (most depth : ℕ)
       → SameContent loose small most depth header c a b
 
--- bytes after a header: such a content, or as much of it as is there, and such bytes
-pub record Contents (fine : Content → Bool) (holds : List Component → Bool) (tag n : ℕ) (x y : List ℕ) : Type 0 where
-  pub low : is_low tag ≡ true
-  pub few : n ≤ max_content_len
-  pub len : length x ≡ length y
-  pub content : Unseen fine (der_header tag n) (take n x) (take n y)
-  pub rest : Alike holds (drop n x) (drop n y)
-
--- ---- two elements with one header
-
-pub record AreSteps (p q : Step) : Type 0 where
-  pub head : p.head ≡ q.head
-  pub definite : is_none p.header.content_len ≡ false
-  pub also : is_none q.header.content_len ≡ false
-  pub same : (loose small : Bool) (most depth : ℕ) → StepsAlike loose small most depth p q
-  pub len : length p.rest ≡ length q.rest
-  pub rest : Same p.others p.rest q.others q.rest
-
-pub undrawn_same : (x y : List ℕ) → length x ≡ length y → undrawn x ≡ undrawn y
-undrawn_same x y size = rw size refl
-
-rest_is : (loose : Bool) (most depth : ℕ) (p : Step) → is_none p.header.content_len ≡ false
-    → rest_after loose most depth p ≡ (if is_some (rest_after loose most depth p) then Some p.rest else None)
-rest_is loose most depth p definite =
-    by_opened (λ s. rest_of (inside_loose p.component.2 loose) most depth (is_open p) (components s) (inside_bytes p))
-    (opened_of loose most depth p)
-  where
-    by_opened : (inside : Structure → Option (List ℕ)) (o : Option Structure)
-        → rest_with inside o p ≡ (if is_some (rest_with inside o p) then Some p.rest else None)
-    by_opened inside None = refl
-    by_opened inside (Some s) = rw definite (elim (inside s) as (λ (o : Option (List ℕ)). after_inside false p.rest o
-        ≡ (if is_some (after_inside false p.rest o) then Some p.rest else None)) [ None ↦ refl | Some r ↦ refl ])
-
-pub masks_alike : (loose small : Bool) (most depth : ℕ) (p q : Step) (f g : List ℕ → List ℕ) → AreSteps p q
-    → f p.rest ≡ g q.rest
-    → p.head ++ (step_mask loose small most depth p ++ next_mask p.rest f (rest_after loose most depth p))
-    ≡ q.head ++ (step_mask loose small most depth q ++ next_mask q.rest g (rest_after loose most depth q))
-masks_alike loose small most depth p q f g are same =
-    let alike = are.same loose small most depth in
-    ap₂ (λ (x y : List ℕ). x ++ y) are.head (ap₂ (λ (x y : List ℕ). x ++ y) alike.mask
-    (rw (rest_is loose most depth p are.definite, rest_is loose most depth q are.also, ← alike.goes)
-    (by_test (is_some (rest_after loose most depth p)))))
-  where
-    by_test : (test : Bool) → next_mask p.rest f (if test then Some p.rest else None)
-        ≡ next_mask q.rest g (if test then Some q.rest else None)
-    by_test true = same
-    by_test false = undrawn_same p.rest q.rest are.len
-
-abbrev pub SameNext : Option Step → Option Step → Type 0
-SameNext None None = Unit {0}
-SameNext (Some p) (Some q) = AreSteps p q
-SameNext _ _ = ⊥
-
--- ---- one element
-
-abbrev goes_by : (Content → Bool) → (List Component → Bool) → Option (Component × List Component) → Bool
+abbrev pub goes_by : (Content → Bool) → (List Component → Bool) → Option (Component × List Component) → Bool
 goes_by fine holds None = true
 goes_by fine holds (Some found) = length (cases found.0.3) == 0 && (fine found.0.2 && holds found.1)
 
@@ -199,109 +126,94 @@ fixed_after : (h : Header) (c : Component) (x : List ℕ) (others : List Compone
 unfolding others_after
 fixed_after h c x others is = rw (nil_from_length (cases c.3) (eqb-true (length (cases c.3)) 0 is)) refl
 
-pub next_alike : (cut misfit : Bool) (some : List Component) (fine : Content → Bool) (holds : List Component → Bool)
-    (tag n : ℕ) (x y : List ℕ) → Contents fine holds tag n x y → goes tag fine holds some ≡ true
-    → SameNext (step_by cut misfit some (header tag n ++ x)) (step_by cut misfit some (header tag n ++ y))
-next_alike cut misfit some fine holds tag n x y e is =
-    rw (next_is cut misfit some tag n x e.low e.few, next_is cut misfit some tag n y e.low e.few, ← e.len)
-    (by_cut (nat_lt (length x) n && not cut))
-  where
-    h : Header
-    h = der_header tag n
+-- the mask of what comes after an element of a definite length
+next_by : (loose : Bool) (most depth : ℕ) (step : Step) (f : List ℕ → List ℕ) → is_open step ≡ false
+    → next_mask step.rest f (rest_after loose most depth step)
+    ≡ (if is_some (rest_after loose most depth step) then f step.rest else undrawn step.rest)
+next_by loose most depth step f definite = grind (arith, definite)
 
-    hx : List ℕ
-    hx = take h.len (header tag n ++ x)
+-- Two elements with one header and contents that are masked alike, or as much of these as is there, and the bytes
+-- after them.
+module _ {fine : Content → Bool} {holds : List Component → Bool} (tag n : ℕ) {a b s t : List ℕ}
+    (low : is_low tag ≡ true) (is : IsContent n a s) (content : Unseen fine (der_header tag n) a b)
+    (rest : Alike holds s t) where
+  abbrev first : List ℕ
+  first = header tag n ++ (a ++ s)
 
-    heads : hx ≡ take h.len (header tag n ++ y)
-    heads =
-        take_at (header tag n) x h.len (sym (head_len tag n))
-        ∙ sym (take_at (header tag n) y h.len (sym (head_len tag n)))
+  abbrev second : List ℕ
+  second = header tag n ++ (b ++ t)
 
-    of : List ℕ → Bool → Option (Component × List Component) → Option Step
-    of z test o = step_made test (header tag n ++ z) (h, take n z, drop n z) o
+  size_same : length (length_octets n ++ (a ++ s)) ≡ length (length_octets n ++ (b ++ t))
+  size_same = simp (length-append, content.len, rest.len)
 
-    steps : (c : Component) (others : List Component) (follows : Bool) → fine c.2 ≡ true
-        → Same others (drop n x) others (drop n y) → AreSteps (step_as h hx c others follows (take n x) (drop n x))
-        (step_as h (take h.len (header tag n ++ y)) c others follows (take n y) (drop n y))
-    steps c others follows known rest = record {
-      head = heads;
-      definite = refl;
-      also = refl;
-      same = λ loose small most depth.
-          subst (λ (z : List ℕ). StepsAlike loose small most depth (step_as h hx c others follows (take n x) (drop n x))
-          (step_as h z c others follows (take n y) (drop n y))) heads
-          ((e.content.same c known loose small most depth).alike hx others follows (drop n x) (drop n y));
-      len = e.rest.len;
-      rest = rest;
-    }
+  pub undrawn_same : undrawn first ≡ undrawn second
+  undrawn_same = rw size_same refl
 
-    by_misfit : (test : Bool) → SameNext (of x test None) (of y test None)
-    by_misfit true = steps elements.ELEMENT any false e.content.anything (e.rest.masks any e.rest.anything)
-    by_misfit false = tt
+  -- what is the same of both as any component is the same of what bytes that begin with them begin with
+  next_alike : (f g : Option Step → List ℕ) → f None ≡ g None
+      → ((c : Component) (others : List Component) (follows : Bool) → fine c.2 ≡ true → holds others ≡ true
+      → f (Some (der_step tag n c others follows a s)) ≡ g (Some (der_step tag n c others follows b t)))
+      → (deep cut misfit : Bool) (some : List Component) → goes tag fine holds some ≡ true
+      → f (if deep then step_by cut misfit some first else None)
+      ≡ g (if deep then step_by cut misfit some second else None)
+  next_alike f g none steps deep cut misfit some good =
+      let also : IsContent n b t = record {
+        few = is.few;
+        there = grind (arith, is.there, content.len, rest.len, nil_from_length t);
+      } in
+      let misfits = steps elements.ELEMENT any false content.anything rest.anything in
+      let admitted = λ (c : Component) (known : fine c.2 ≡ true). (content.same c known false false 0 0).admitted in
+      rw (next_is cut misfit some tag n a s low is, next_is cut misfit some tag n b t low also, ← content.len)
+      (grind (arith, none, misfits, admitted, fixed_after, steps))
 
-    by_fit : (o : Option (Component × List Component)) → goes_by fine holds o ≡ true
-        → SameNext (of x misfit (component_by h (take n x) o)) (of y misfit (component_by h (take n y) o))
-    by_fit None known = by_misfit misfit
-    by_fit (Some (c, others)) known =
-        let fixed = and_parts (length (cases c.3) == 0) (fine c.2 && holds others) known in
-        let both = and_parts (fine c.2) (holds others) fixed.1 in
-        let same = e.content.same c both.0 false false 0 0 in
-        rw (← same.admitted, fixed_after h c (take n x) others fixed.0, fixed_after h c (take n y) others fixed.0)
-        (by_test (steps c others true both.0 (e.rest.masks others both.1)) (admits h c.2 (take n x)))
-      where
-        by_test : AreSteps (step_as h hx c others true (take n x) (drop n x))
-            (step_as h (take h.len (header tag n ++ y)) c others true (take n y) (drop n y))
-            → (test : Bool) → SameNext (of x misfit (if test then Some (c, others) else None))
-            (of y misfit (if test then Some (c, others) else None))
-        by_test are true = are
-        by_test are false = by_misfit misfit
+  -- their masks, and those of the bytes after them
+  module _ (loose small : Bool) (most depth : ℕ) (next : List Component → List ℕ → List ℕ)
+      (same : (others : List Component) → holds others ≡ true → next others s ≡ next others t) where
+    abbrev drawn : List ℕ → Option Step → List ℕ
+    drawn bytes step =
+        option_map_or (λ p. p.head ++ (step_mask loose small most depth p
+        ++ next_mask p.rest (λ rest. next p.others rest) (rest_after loose most depth p))) step (undrawn bytes)
 
-    by_cut : (test : Bool)
-        → SameNext (step_with misfit tag some (header tag n ++ x) (if test then None else Some (h, take n x, drop n x)))
-        (step_with misfit tag some (header tag n ++ y) (if test then None else Some (h, take n y, drop n y)))
-    by_cut true = tt
-    by_cut false = by_fit (fitting tag some) is
+    step_alike : (c : Component) (others : List Component) (follows : Bool) → fine c.2 ≡ true → holds others ≡ true
+        → drawn first (Some (der_step tag n c others follows a s))
+        ≡ drawn second (Some (der_step tag n c others follows b t))
+    step_alike c others follows known good =
+        let p : Step = der_step tag n c others follows a s in
+        let q : Step = der_step tag n c others follows b t in
+        let alike = (content.same c known loose small most depth).alike (header tag n) others follows s t in
+        rw (next_by loose most depth p (next others) refl, next_by loose most depth q (next others) refl, alike.mask)
+        (rw (alike.goes, same others good, rest.len))
 
-pub lens : (front x y : List ℕ) → length x ≡ length y → length (front ++ x) ≡ length (front ++ y)
-lens front x y size = length-append front x ∙ (rw size refl ∙ sym (length-append front y))
+    level_alike : (deep cut misfit : Bool) (some : List Component) → goes tag fine holds some ≡ true
+        → drawn first (if deep then step_by cut misfit some first else None)
+        ≡ drawn second (if deep then step_by cut misfit some second else None)
+    level_alike = next_alike (drawn first) (drawn second) undrawn_same step_alike
 
-pub element_alike : (fine : Content → Bool) (holds : List Component → Bool) (tag n : ℕ) (x y : List ℕ)
-    → Contents fine holds tag n x y → Alike (goes tag fine holds) (header tag n ++ x) (header tag n ++ y)
-unfolding cases components step_at
-element_alike fine holds tag n x y e = record {
-  len = size;
-  anything =
-      let test : has_tag 0x00 tag ≡ true = or-true (0x00 == tag || false) in
-      rw (test, e.content.anything, e.rest.anything) refl;
-  masks = by_most;
-}
-  where
-    size : length (header tag n ++ x) ≡ length (header tag n ++ y)
-    size = lens (header tag n) x y e.len
+  masked_same : (cs : List Component) → goes tag fine holds cs ≡ true → Same cs first second
+  unfolding step_at
+  masked_same cs is loose small zero depth = undrawn_same
+  masked_same cs is loose small (suc most) depth =
+      rw (goes_on loose cs tag (length_octets n ++ (a ++ s)), goes_on loose cs tag (length_octets n ++ (b ++ t)))
+      (level_alike loose small most (depth + 1) (λ others rest. masked loose small most depth false others rest)
+      (λ others good. rest.masks others good loose small most depth) (nat_lt depth 64) loose loose cs is)
 
-    level : (loose small : Bool) (most depth : ℕ) (cs : List Component) (o k : Option Step)
-        → step_at loose depth cs (header tag n ++ x) ≡ o → step_at loose depth cs (header tag n ++ y) ≡ k → SameNext o k
-        → masked loose small (suc most) depth false cs (header tag n ++ x)
-        ≡ masked loose small (suc most) depth false cs (header tag n ++ y)
-    level loose small most depth cs None (Some q) one two are = absurd are
-    level loose small most depth cs (Some p) None one two are = absurd are
-    level loose small most depth cs None None one two are =
-        rw (goes_on loose cs tag (length_octets n ++ x), goes_on loose cs tag (length_octets n ++ y), one, two)
-        (undrawn_same (header tag n ++ x) (header tag n ++ y) size)
-    level loose small most depth cs (Some p) (Some q) one two are =
-        rw (goes_on loose cs tag (length_octets n ++ x), goes_on loose cs tag (length_octets n ++ y), one, two)
-        (masks_alike loose small most (depth + 1) p q (λ rest. masked loose small most depth false p.others rest)
-        (λ rest. masked loose small most depth false q.others rest) are (are.rest loose small most depth))
+  -- as a root, whose mask ends with it
+  pub root_alike : (root : Component) → goes tag fine holds (root ∷ []) ≡ true → (loose small : Bool)
+      → mask_as loose small root first ≡ mask_as loose small root second
+  unfolding mask_as root_step
+  root_alike root is loose small =
+      next_alike (mask_with loose small first) (mask_with loose small second) undrawn_same
+      (λ c others follows known good. rw size_same (step_alike loose small (length second) 1
+      (λ others rest. undrawn rest) (λ others good. rw rest.len refl) c others follows known good))
+      true true false (root ∷ []) is
 
-    by_most : (cs : List Component) → goes tag fine holds cs ≡ true → Same cs (header tag n ++ x) cs (header tag n ++ y)
-    by_most cs is loose small zero depth = undrawn_same (header tag n ++ x) (header tag n ++ y) size
-    by_most cs is loose small (suc most) depth =
-        level loose small most depth cs _ _ refl refl (by_depth (nat_lt depth 64))
-      where
-        by_depth : (test : Bool) → SameNext (if test then step_by loose loose cs (header tag n ++ x) else None)
-            (if test then step_by loose loose cs (header tag n ++ y) else None)
-        by_depth true = next_alike loose loose cs fine holds tag n x y e is
-        by_depth false = tt
+  pub element_alike : Alike (goes tag fine holds) first second
+  unfolding cases components
+  element_alike = record {
+    len = ap suc size_same;
+    anything = grind (arith, content.anything, rest.anything);
+    masks = masked_same;
+  }
 
 -- ---- elements before it
 
@@ -310,30 +222,6 @@ everything cs = true
 
 pub same_alike : (x : List ℕ) → Alike everything x x
 same_alike x = record { len = refl; anything = refl; masks = λ cs is loose small most depth. refl }
-
-parts_of : (n : ℕ) (a b s t : List ℕ) → IsContent n a s → length a ≡ length b → length s ≡ length t
-    → (take n (b ++ t) ≡ b) × (drop n (b ++ t) ≡ t)
-parts_of n a b s t is size same = ⊎_elim
-    (λ (all : length a ≡ n). (take_at b t n (sym size ∙ all), drop_at b t n (sym size ∙ all)))
-    (λ (cut : (length a ≤ n) × (s ≡ [])).
-    let none : t ≡ [] = nil_from_length t (sym same ∙ ap length cut.1) in
-    let few : length b ≤ n = omega (arith, cut.0, size) in
-    rw (none, append-nil b) (take_all n b few, drop_all n b few))
-    is.there
-
-with_content : (fine : Content → Bool) (holds : List Component → Bool) (tag n : ℕ) (a b s t : List ℕ)
-    → is_low tag ≡ true → IsContent n a s → length a ≡ length b → Unseen fine (der_header tag n) a b
-    → Alike holds s t → Contents fine holds tag n (a ++ s) (b ++ t)
-with_content fine holds tag n a b s t low is size content rest =
-    let p = parts_of n a a s s is refl refl in
-    let q = parts_of n a b s t is size rest.len in
-    record {
-      low = low;
-      few = is.few;
-      len = omega (arith, length-append a s, length-append b t, size, rest.len);
-      content = rw (p.0, q.0) content;
-      rest = rw (p.1, q.1) rest;
-    }
 
 -- whether this holds of the components after elements with these tags, if such follow
 abbrev pub passed : (List Component → Bool) → List ℕ → List Component → Bool
@@ -344,100 +232,84 @@ abbrev pub tags_of : List Part → List ℕ
 tags_of [] = []
 tags_of (part ∷ parts) = part.0 ∷ tags_of parts
 
-parts_alike : (parts : List Part) (holds : List Component → Bool) (s t : List ℕ) → AreParts parts → Alike holds s t
-    → Alike (passed holds (tags_of parts)) (parts_before parts s) (parts_before parts t)
-parts_alike [] holds s t are alike = alike
-parts_alike (part ∷ parts) holds s t (low, few, are) alike =
-    let u : List ℕ = parts_before parts s in
-    let v : List ℕ = parts_before parts t in
-    let n : ℕ = length part.1 in
-    rw (append_assoc (header part.0 n) part.1 u, append_assoc (header part.0 n) part.1 v)
-    (element_alike (λ k. true) (passed holds (tags_of parts)) part.0 n (part.1 ++ u) (part.1 ++ v)
-    (with_content (λ k. true) (passed holds (tags_of parts)) part.0 n part.1 part.1 u v low
-    (record { few = few; there = inl refl }) refl (record {
+-- elements, one with such a content, and the same bytes after it
+pub hole_alike : (fine : Content → Bool) (before : List Part) (tag n : ℕ) (a b s : List ℕ) → AreParts before
+    → is_low tag ≡ true → IsContent n a s → Unseen fine (der_header tag n) a b
+    → Alike (passed (goes tag fine everything) (tags_of before)) (parts_before before (header tag n ++ (a ++ s)))
+    (parts_before before (header tag n ++ (b ++ s)))
+hole_alike fine [] tag n a b s are low is content = element_alike tag n low is content (same_alike s)
+hole_alike fine ((g, x) ∷ parts) tag n a b s (first, few, are) low is content =
+    simp append_assoc
+    (element_alike {fine = λ k. true} g (length x) first (record { few = few; there = inl refl }) (record {
+      len = refl;
       anything = refl;
-      same = λ c is loose small most depth. same_content loose small most depth (der_header part.0 n) c part.1 refl;
-    }) (parts_alike parts holds s t are alike)))
+      same = λ c known loose small most depth. same_content loose small most depth (der_header g (length x)) c x refl;
+    }) (hole_alike fine parts tag n a b s are low is content))
 
 -- ---- contents
 
--- An element of this tag and length isn't small, unless it is constructed.
+-- of an element of this tag and length nothing is shown in a whole tree
 abbrev pub IsShut : ℕ → ℕ → Type 0
-IsShut tag n =
-    (x : List ℕ) → length x ≡ n → (der_header tag n).tag.constructed ≡ false
-    → is_small (der_header tag n).tag x ≡ false
-
-free_len : (small : Bool) (tag n : ℕ) (x : List ℕ) → IsShut tag n → (der_header tag n).tag.constructed ≡ false
-    → shown_len small (der_header tag n) contents.Free x ≡ 0
-unfolding shown_len
-free_len small tag n x shut made = ⊎_elim
-    (λ (is : (n == length x) ≡ true).
-    unseen_len small (der_header tag n) x (shut x (sym (eqb-true n (length x) is)) made))
-    (λ (is : (n == length x) ≡ false).
-    let none : is_whole (der_header tag n) x ≡ false = rw (made, is) refl in
-    rw none refl)
-    (cases_Bool (n == length x))
+IsShut tag n = (small : Bool) (x : List ℕ) → shown_len small (der_header tag n) contents.Free x ≡ 0
 
 -- a content that is any elements, or a structure of which this holds, or isn't shown
 abbrev pub inside : (List Component → Bool) → Content → Bool
-inside holds k = inside_content (λ s. holds (components s)) k
+inside holds k = inside_content (λ whole s. holds (components s)) k
 
-content_unseen : (holds : List Component → Bool) (tag n : ℕ) (a b : List ℕ) → length a ≡ length b → IsShut tag n
-    → ((cs : List Component) → holds cs ≡ true → Same cs a cs b)
-    → ((der_header tag n).tag.constructed ≡ true → Same any a any b) → Unseen (inside holds) (der_header tag n) a b
+-- contents that are masked alike as a structure, or as one that they have to follow to the end
+abbrev SameAs : Bool → Structure → List ℕ → List ℕ → Type 0
+SameAs whole s a b =
+    (loose small : Bool) (most depth : ℕ)
+    → masked (not whole && loose) small most depth false (components s) a
+    ≡ masked (not whole && loose) small most depth false (components s) b
+
+content_unseen : (holds : Bool → Structure → Bool) (tag n : ℕ) (a b : List ℕ) → length a ≡ length b → IsShut tag n
+    → ((whole : Bool) (s : Structure) → holds whole s ≡ true → SameAs whole s a b)
+    → ((der_header tag n).tag.constructed ≡ true → Same any a b) → Unseen (inside_content holds) (der_header tag n) a b
 content_unseen holds tag n a b size shut inner other = record {
+  len = size;
   anything = refl;
-  same = λ c is loose small most depth.
-      content_alike loose small most depth (der_header tag n) c a b (λ s. holds (components s))
+  same = λ c is loose small most depth. content_alike loose small most depth (der_header tag n) holds a b
       (record {
         definite = refl;
         len = size;
-        inner = λ s l known. inner (components s) known l small most depth;
+        inner = λ s whole l known. inner whole s known l small most depth;
         anything = λ l made. other made l small most depth;
-        unseen = λ x len made. free_len small tag n x shut made;
-      }) is;
+        unseen = shut small;
+      }) c is;
 }
 
--- an element of any content that is masked alike, or of as much of it as is there
-pub inside_alike : (holds : List Component → Bool) (tag n : ℕ) (a b after : List ℕ) → is_low tag ≡ true
-    → IsContent n a after → IsShut tag n → Alike holds a b
-    → Contents (inside holds) everything tag n (a ++ after) (b ++ after)
-inside_alike holds tag n a b after low is shut alike =
-    with_content (inside holds) everything tag n a b after after low is alike.len
-    (content_unseen holds tag n a b alike.len shut alike.masks (λ made. alike.masks any alike.anything))
-    (same_alike after)
+pub inside_unseen : (holds : List Component → Bool) (tag n : ℕ) (a b : List ℕ) → IsShut tag n → Alike holds a b
+    → Unseen (inside holds) (der_header tag n) a b
+inside_unseen holds tag n a b shut alike =
+    content_unseen (λ whole s. holds (components s)) tag n a b alike.len shut
+    (λ whole s is loose small most depth. alike.masks (components s) is (not whole && loose) small most depth)
+    (λ made. alike.masks any alike.anything)
 
 -- ---- private elements
 
--- elements, and one whose content isn't seen
+-- elements, and one whose content isn't seen, or as much of it as is there
 private_alike : (fine : Content → Bool) (before : List Part) (tag n : ℕ) (x y : List ℕ) → AreParts before
     → is_low tag ≡ true → DifferIn n x y → Unseen fine (der_header tag n) (take n x) (take n y)
     → Alike (passed (goes tag fine everything) (tags_of before)) (key_in [] before tag n x) (key_in [] before tag n y)
 private_alike fine before tag n x y are low differ content =
-    parts_alike before (goes tag fine everything) (header tag n ++ x) (header tag n ++ y) are
-    (element_alike fine everything tag n x y (record {
-      low = low;
-      few = differ.few;
-      len = differ.len;
-      content = content;
-      rest = rw differ.after (same_alike (drop n y));
-    }))
+    let there : IsContent n (take n x) (drop n x) =
+    record { few = differ.few; there = grind (arith, length-take n x, drop_all n x) } in
+    rw (take-append-drop n x, differ.after, take-append-drop n y) at
+    (hole_alike fine before tag n (take n x) (take n y) (drop n x) are low there content)
 
-abbrev is_hidden : Content → Bool
+abbrev pub is_hidden : Content → Bool
 is_hidden = inside (λ cs. false)
 
--- elements around a primitive one, that aren't small
+-- elements around a primitive one, of which nothing is shown in a whole tree
 abbrev pub AreShut : List Level → ℕ → ℕ → Type 0
 AreShut [] tag n = IsShut tag n × ((der_header tag n).tag.constructed ≡ false)
 AreShut (level ∷ levels) tag n = ((m : ℕ) → IsShut level.tag m) × AreShut levels tag n
 
-takes : (n : ℕ) (x y : List ℕ) → length x ≡ length y → length (take n x) ≡ length (take n y)
-takes n x y size = length-take n x ∙ (rw size refl ∙ sym (length-take n y))
-
-hidden_unseen : (tag n : ℕ) (x y : List ℕ) → AreShut [] tag n → length x ≡ length y
-    → Unseen is_hidden (der_header tag n) (take n x) (take n y)
-hidden_unseen tag n x y (shut, plain) size =
-    content_unseen (λ cs. false) tag n (take n x) (take n y) (takes n x y size) shut (λ cs is. absurd (cc is))
+pub hidden_unseen : (tag n : ℕ) (a b : List ℕ) → AreShut [] tag n → length a ≡ length b
+    → Unseen is_hidden (der_header tag n) a b
+hidden_unseen tag n a b (shut, plain) size =
+    content_unseen (λ whole s. false) tag n a b size shut (λ whole s is. absurd (cc is))
     (λ made. absurd (cc (sym made ∙ plain)))
 
 -- whether a private element, inside these elements and after such with these tags, is hidden or isn't drawn
@@ -450,71 +322,182 @@ pub key_alike : (levels : List Level) (before : List Part) (tag n : ℕ) (x y : 
     → AreShut levels tag n → DifferIn n x y
     → Alike (blind levels (tags_of before) tag) (key_in levels before tag n x) (key_in levels before tag n y)
 key_alike [] before tag n x y (are, low) shut differ =
-    private_alike is_hidden before tag n x y are low differ (hidden_unseen tag n x y shut differ.len)
+    private_alike is_hidden before tag n x y are low differ
+    (hidden_unseen tag n (take n x) (take n y) shut (simp (length-take, differ.len)))
 key_alike (level ∷ levels) before tag n x y (are, low, few, inner) (shut, more) differ =
     let a : List ℕ = key_in levels before tag n x in
     let b : List ℕ = key_in levels before tag n y in
     let k : ℕ = length a in
     let holds : List Component → Bool = blind levels (tags_of before) tag in
     let alike = key_alike levels before tag n x y inner more differ in
-    parts_alike level.before (goes level.tag (inside holds) everything) (element level.tag a ++ level.after)
-    (element level.tag b ++ level.after) are
-    (rw (
-      append_assoc (header level.tag k) a level.after,
-      append_assoc (header level.tag (length b)) b level.after,
-      ← alike.len,
-    )
-    (element_alike (inside holds) everything level.tag k (a ++ level.after) (b ++ level.after)
-    (inside_alike holds level.tag k a b level.after low (record { few = few; there = inl refl }) (shut k) alike)))
+    simp append_assoc (rw (← alike.len) (hole_alike (inside holds) level.before level.tag k a b level.after are low
+    (record { few = few; there = inl refl }) (inside_unseen holds level.tag k a b (shut k) alike)))
 
 -- ---- a private element with one in it that doesn't end there
 
--- no structure is followed to its end in these bytes
-abbrev pub Unfollowed : List ℕ → Type 0
-Unfollowed x = (most depth : ℕ) (s : Structure) → is_followed most depth s x ≡ false
-
-pub cut_unfollowed : (tag k : ℕ) (x : List ℕ) → is_low tag ≡ true → k ≤ max_content_len → length x < k
-    → Unfollowed (header tag k ++ x)
+-- no level in them is drawn strictly
+cut_undrawn : (n tag k : ℕ) (x y : List ℕ) → IsCutIn n tag k x → length (header tag k ++ x) ≡ length (header tag k ++ y)
+    → (small : Bool) (most depth : ℕ) (some : List Component)
+    → masked false small most depth false some (take n (header tag k ++ y)) ≡ undrawn (take n (header tag k ++ y))
 unfolding step_at
-cut_unfollowed tag k x low few short zero depth s = refl
-cut_unfollowed tag k x low few short (suc most) depth s =
-    let long : nat_lt (length x) k ≡ true = grind (arith, nat_tests) in
-    let end : end_at false false (components s) (header tag k ++ x) ≡ None =
-    goes_on false (components s) tag (length_octets k ++ x) in
-    let none : step_by false false (components s) (header tag k ++ x) ≡ None =
-    next_is false false (components s) tag k x low few ∙ rw long refl in
-    let stop : step_at false depth (components s) (header tag k ++ x) ≡ None = elim (cases_Bool (nat_lt depth 64)) [
-      | inl less ↦ rw (less, none) refl
-      | inr more ↦ rw more refl
-    ] in
-    rw (end, stop) refl
+cut_undrawn n tag k x y cut size small zero depth some = refl
+cut_undrawn n tag k x y cut size small (suc most) depth some =
+    let front : List ℕ = header tag k in
+    let left : ℕ = n - length front in
+    let all : length front + left ≡ n = omega (arith, cut.begins) in
+    let few : length (take left y) < k =
+    omega (arith, length-take left y, cut.ends, length-append front x, length-append front y, size) in
+    let content : IsContent k (take left y) [] = record { few = cut.few; there = inr (omega (arith, few), refl) } in
+    let none = rw append-nil at (next_is false false some tag k (take left y) [] cut.low content) in
+    rw (← all, take-append-add front y left, goes_on false some tag (length_octets k ++ take left y), none)
+    (grind (arith, nat_tests))
 
--- whether a content is hidden, unless it follows a structure to its end
+-- whether a content is hidden, or follows a structure to its end or isn't shown
 abbrev pub is_shut : Content → Bool
-is_shut (contents.Whole s) = true
-is_shut k = is_hidden k
+is_shut = inside_content (λ whole s. whole)
 
-pub cut_alike : (before : List Part) (tag n : ℕ) (x y : List ℕ) → AreParts before → is_low tag ≡ true
-    → AreShut [] tag n → DifferIn n x y → Unfollowed (take n x) → Unfollowed (take n y)
-    → Alike (passed (goes tag is_shut everything) (tags_of before)) (key_in [] before tag n x)
-    (key_in [] before tag n y)
-unfolding opened_in admits
-cut_alike before tag n x y are low shut differ one two =
-    private_alike is_shut before tag n x y are low differ (record { anything = refl; same = content })
-  where
-    h : Header
-    h = der_header tag n
+pub cut_alike : (before : List Part) (tag n inner k : ℕ) (x y : List ℕ) → AreParts before → is_low tag ≡ true
+    → AreShut [] tag n → IsCutIn n inner k x → DifferIn n (header inner k ++ x) (header inner k ++ y)
+    → Alike (passed (goes tag is_shut everything) (tags_of before)) (key_in [] before tag n (header inner k ++ x))
+    (key_in [] before tag n (header inner k ++ y))
+cut_alike before tag n inner k x y are low (shut, plain) cut differ =
+    let a : List ℕ = take n (header inner k ++ x) in
+    let b : List ℕ = take n (header inner k ++ y) in
+    let size : length a ≡ length b = simp (length-take, differ.len) in
+    let same : (whole : Bool) (s : Structure) → whole ≡ true → SameAs whole s a b = λ whole s is loose small most depth.
+    let one = cut_undrawn n inner k x x cut refl small most depth (components s) in
+    let two = cut_undrawn n inner k x y cut differ.len small most depth (components s) in
+    rw (is, one, two, size) refl in
+    private_alike is_shut before tag n (header inner k ++ x) (header inner k ++ y) are low differ
+    (content_unseen (λ whole s. whole) tag n a b size shut same (λ made. absurd (cc (sym made ∙ plain))))
 
-    content : (c : Component) → is_shut c.2 ≡ true → (loose small : Bool) (most depth : ℕ)
-        → SameContent loose small most depth h c (take n x) (take n y)
-    content (g, p, contents.Whole u, name) is loose small most depth = record {
-      admitted = refl;
-      others = unseen_same h (g, p, contents.Whole u, name) (take n x) (take n y) (whole_len false h u (take n x))
-          (whole_len false h u (take n y));
-      alike = λ head others follows s t.
-          closed_alike loose small most depth h head (g, p, contents.Whole u, name) others follows (take n x) (take n y)
-          s t (rw (one most depth u) refl) (rw (two most depth u) refl) (whole_len small h u (take n x))
-          (whole_len small h u (take n y)) (takes n x y differ.len);
-    }
-    content (g, p, k, name) is loose small most depth =
-        (hidden_unseen tag n x y shut differ.len).same (g, p, k, name) is loose small most depth
+pub octets_shut : (n : ℕ) → IsShut 0x04 n
+unfolding shown_len shown_in is_shown is_small is_number has_type
+octets_shut n small x = grind arith
+
+pub number_shut : (n : ℕ) → 8 < n → IsShut 0x02 n
+unfolding shown_len shown_in is_shown is_small is_number has_type
+number_shut n long small x = grind (arith, nat_tests)
+
+pub sequence_shut : (n : ℕ) → IsShut 0x30 n
+unfolding shown_len
+sequence_shut n small x = refl
+
+-- ---- the root
+
+-- whether the content of a root is one of which this holds
+abbrev root_holds : (List Component → Bool) → Component → Bool
+root_holds holds root = goes 0x30 (inside holds) everything (root ∷ [])
+
+abbrev forms_hold : (List Component → Bool) → List Form → Bool
+forms_hold holds [] = true
+forms_hold holds (form ∷ forms) = root_holds holds form.0 && forms_hold holds forms
+
+-- the nearest form is one of them
+best_holds : (holds : List Component → Bool) (bytes : List ℕ) (first : Form) (others : List Form)
+    → root_holds holds first.0 ≡ true → forms_hold holds others ≡ true
+    → root_holds holds (best bytes first others).0 ≡ true
+unfolding best better
+best_holds holds bytes first [] one more = one
+best_holds holds bytes first (second ∷ others) one more =
+    let parts = and_parts (root_holds holds second.0) (forms_hold holds others) more in
+    best_holds holds bytes (better bytes first second) others (grind (arith, one, parts.0)) parts.1
+
+-- Inputs with contents that are masked alike in each structure which they may follow.
+module _ (holds : List Component → Bool) (m : ℕ) (a b rest : List ℕ) (is : IsContent m a rest)
+    (alike : Alike holds a b) where
+  content : Unseen (inside holds) (der_header 0x30 m) a b
+  content = inside_unseen holds 0x30 m a b (sequence_shut m) alike
+
+  abbrev bytes : List ℕ
+  bytes = header 0x30 m ++ (a ++ rest)
+
+  abbrev other : List ℕ
+  other = header 0x30 m ++ (b ++ rest)
+
+  as_root : (c : Component) → root_holds holds c ≡ true → (loose small : Bool)
+      → mask_as loose small c bytes ≡ mask_as loose small c other
+  as_root = root_alike 0x30 m refl is content (same_alike rest)
+
+  as_forms : (forms : List Form) → forms_hold holds forms ≡ true → AreAlikeAs forms bytes other
+  as_forms [] good = tt
+  as_forms (form ∷ forms) good =
+      let tests = and_parts (root_holds holds form.0) (forms_hold holds forms) good in
+      (as_root form.0 tests.0 false false, as_forms forms tests.1)
+
+  way_alike : (plan : Plan) → root_holds holds (root_of plan.form) ≡ true
+      → mask_by_way plan.way plan bytes ≡ mask_by_way plan.way plan other
+  way_alike plan good =
+      grind (arith, as_root (root_of plan.form) good, undrawn_same 0x30 m refl is content (same_alike rest))
+
+  pub input_alike : forms_hold holds (tables.FIRST ∷ tables.OTHERS) ≡ true → AreAlike bytes other
+  unfolding plan_of known_as nearest cases
+  input_alike known =
+      let parts = and_parts (root_holds holds tables.FIRST.0) (forms_hold holds tables.OTHERS) known in
+      let near = best_holds holds bytes tables.FIRST tables.OTHERS parts.0 parts.1 in
+      record {
+        first = as_root tables.FIRST.0 parts.0 false false;
+        others = as_forms tables.OTHERS parts.1;
+        elements = as_root elements.ELEMENT refl false false;
+        drawn = way_alike (plan_of bytes) (grind (arith, near, parts.0));
+      }
+
+-- ---- private keys
+
+-- whether a private element is hidden in each form
+abbrev pub is_blind : List Level → List ℕ → ℕ → Bool
+is_blind levels tags tag = forms_hold (blind levels tags tag) (tables.FIRST ∷ tables.OTHERS)
+
+pub unseen : (levels : List Level) (before : List Part) (tag m n : ℕ) (x y rest : List ℕ) → AreShut levels tag n
+    → is_blind levels (tags_of before) tag ≡ true → AreLevels levels before tag n x
+    → AreUnseen m levels before tag n x y rest
+unfolding key_bytes
+unseen levels before tag m n x y rest shut known are differ is =
+    input_alike (blind levels (tags_of before) tag) m (key_in levels before tag n x) (key_in levels before tag n y) rest
+    is (key_alike levels before tag n x y are shut differ) known
+
+-- ---- INTEGERs before a private one, from three to eight: those of RSA and DSA keys
+
+tags_same : (numbers : List (List ℕ)) → tags_of (integers numbers) ≡ replicate (length numbers) 0x02
+tags_same [] = refl
+tags_same (number ∷ numbers) = ap (λ (tags : List ℕ). 0x02 ∷ tags) (tags_same numbers)
+
+pub three_to_eight : (holds : List ℕ → Bool) (numbers : List (List ℕ))
+    → agree_below (λ k. holds (replicate (3 + k) 0x02)) (λ k. true) 6 ≡ true → 3 ≤ length numbers
+    → length numbers ≤ 8 → holds (tags_of (integers numbers)) ≡ true
+three_to_eight holds numbers all some few =
+    let k : ℕ = length numbers - 3 in
+    let size : length numbers ≡ 3 + k = omega (arith, some) in
+    rw (tags_same numbers, size)
+    (agree_below_at (λ j. holds (replicate (3 + j) 0x02)) (λ j. true) 6 k all (omega (arith, few)))
+
+-- ---- an ECPrivateKey
+
+-- the bytes after the private key, and those inside the SEQUENCE
+abbrev pub after_key : Key → List ℕ
+after_key key = joined (forest (field 0 (option_map (λ arcs. leaf 0x06 (content_of arcs)) key.parameters)
+    ++ field 1 (option_map (λ bytes. leaf 0x03 (0 ∷ bytes)) key.public_key)))
+
+abbrev pub inside_key : Key → List ℕ
+inside_key key = element 0x02 (1 ∷ []) ++ (element 0x04 key.private_key ++ after_key key)
+
+pub keys_alike : (k l : Key) (a b : List ℕ) → IsKeyOf k a → IsKeyOf l b → k.parameters ≡ l.parameters
+    → k.public_key ≡ l.public_key → length k.private_key ≡ length l.private_key → length a ≤ max_content_len
+    → AreAlike a b
+unfolding cases components
+keys_alike k l a b p q parameters public_key same few =
+    let s : List ℕ = after_key k in
+    let inside_a : List ℕ = inside_key k in
+    let x : List ℕ = k.private_key in
+    let y : List ℕ = l.private_key in
+    let n : ℕ = length x in
+    let whole = ap length p.tree.whole ∙ length-append (header 0x30 (length inside_a)) inside_a in
+    let fits : length inside_a ≤ max_content_len = omega (arith, whole, few) in
+    let content : IsContent n x s =
+    record { few = omega (arith, simp length-append at fits); there = inl refl } in
+    let alike = hole_alike is_hidden ((0x02, 1 ∷ []) ∷ []) 0x04 n x y s (refl, omega arith, tt) refl content
+    (hidden_unseen 0x04 n x y (octets_shut n, refl) same) in
+    let all = rw (← append_assoc (header 0x04 n) x s, ← append_assoc (header 0x04 n) y s) at alike in
+    let masks = input_alike _ (length inside_a) _ _ [] (record { few = fits; there = inl refl }) all refl in
+    rw (p.tree.whole, q.tree.whole, ← parameters, ← public_key, ← same, ← all.len)
+    (rw (append-nil inside_a, append-nil) at masks)

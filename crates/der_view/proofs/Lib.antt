@@ -1,16 +1,11 @@
-pub mod ArcLemmas
-pub mod BlockLemmas
 pub mod CharacterLemmas
 pub mod DrawingLemmas
 pub mod FaultLemmas
 pub mod HeaderLemmas
 pub mod KeyFormLemmas
 pub mod KeyLemmas
-pub mod KeyMaskLemmas
 pub mod LineLemmas
 pub mod MaskLemmas
-pub mod NameLemmas
-pub mod PictureLemmas
 pub mod PictureMaskLemmas
 pub mod PrintingLemmas
 pub mod RowLenLemmas

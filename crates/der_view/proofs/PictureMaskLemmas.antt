@@ -2,29 +2,27 @@
 use Rattle.std.proofs.Common.{◌≡◌, ℕ, zero, suc, ◌+◌, ◌<◌, ◌≤◌, inl, inr, Bool, true, false, List, [], ◌∷◌, ◌++◌}
 use Rattle.std.proofs.Common.{length, take, drop, refl, sym, ap, ◌∙◌, Option, Some, None, arith, append_assoc}
 use Rattle.std.proofs.Common.{append-nil, length-append, length-drop, not, ◌-◌, ap₂}
-use Rattle.std.proofs.lemmas.List.{drop_at, length-replicate, length-take-le}
+use Rattle.std.proofs.lemmas.List.{drop_at, length-take-le, nil_from_length}
 use Rattle.std.proofs.lemmas.Bool.{cond_both}
-use Rattle.std.specs.Prelude.{nat_lt, replicate}
-use Rattle.der_view.specs.Grammar.{Component, components, Form}
-use Rattle.der_view.specs.Masks.{content_mask, masked, next_mask, step_mask, undrawn, AreAlike, AreAlikeAs, mask_as}
-use Rattle.der_view.specs.Masks.{mask_by_way, mask_with}
-use Rattle.der_view.specs.Rows.{Row, Step, after, after_inside, end_at, end_rows, front_len, inside, inside_bytes}
-use Rattle.der_view.specs.Rows.{inside_loose, is_open, next_rows, opened_of, rest_after, rest_next, rest_of, rows_of}
-use Rattle.der_view.specs.Rows.{step_at, step_by, step_rows}
+use Rattle.std.specs.Prelude.{nat_lt}
+use Rattle.der_view.specs.Grammar.{Component, Form}
+use Rattle.der_view.specs.Masks.{masked, next_mask, step_mask, undrawn, AreAlike, AreAlikeAs, mask_as, mask_by_way}
+use Rattle.der_view.specs.Masks.{mask_with}
+use Rattle.der_view.specs.Rows.{Row, Step, after, end_at, is_open, next_rows, rest_after, rest_next, rest_of, rows_of}
+use Rattle.der_view.specs.Rows.{step_at, step_by}
 use Rattle.der_view.specs.Pictures.{best, better, complete_by, cut_by, ended_by, first_place, is_complete, is_cut}
-use Rattle.der_view.specs.Pictures.{is_public, is_retagged, is_tree, known_as, left_as, nearest, parts_as, picture}
-use Rattle.der_view.specs.Pictures.{plan_as, plan_of, rest_rows, root_of, root_step, rows_as, rows_by, rows_by_way}
-use Rattle.der_view.specs.Pictures.{rows_from, strictly, whole_as, whole_by}
-use Rattle.der_view.specs.declared.grammar.Structure.{Structure}
+use Rattle.der_view.specs.Pictures.{is_last, is_public, is_retagged, is_tree, known_as, left_as, nearest, parts_as}
+use Rattle.der_view.specs.Pictures.{picture, plan_as, plan_of, rest_rows, root_of, root_step, rows_as, rows_by}
+use Rattle.der_view.specs.Pictures.{rows_by_way, rows_from, shape_in, strictly, whole_as, whole_by}
 use Rattle.der_view.specs.declared.walk.Place.{Place}
 use Rattle.der_view.specs.declared.grammar.TheConstants as elements
 use Rattle.der_view.specs.declared.grammar.forms.TheConstants as tables
 use Rattle.der_view.specs.declared.plan.Plan.{Plan}
 use Rattle.der_view.specs.declared.plan.Way.{Way}
 use Rattle.der_view.specs.declared.plan.Way.TheVariants as ways
-use Rattle.der_view.proofs.MaskLemmas.{MasksStep, opened_masks, hidden, Inner, IsEnd, end_found, again, front_within}
-use Rattle.der_view.proofs.MaskLemmas.{left, no_len, some_if, closed_left, step_again, tail_len, undrawn_at}
-use Rattle.der_view.proofs.StepLemmas.{BeginsWith, no_bytes, step_found, undrawn_len, undrawn_no_step}
+use Rattle.der_view.proofs.MaskLemmas.{MasksRest, MasksStep, opened_masks, hidden, Inner, IsEnd, end_found, again, left}
+use Rattle.der_view.proofs.MaskLemmas.{some_if, step_again, tail_len, undrawn_at}
+use Rattle.der_view.proofs.StepLemmas.{BeginsWith, step_found, undrawn_len, undrawn_no_step}
 
 -- ---- where a level ends
 
@@ -44,16 +42,17 @@ undrawn_end loose marked some bytes is = grind arith
 
 -- an element of a mask, with these bytes after its content
 abbrev pub next_step : Bool → Bool → ℕ → ℕ → Step → List ℕ → Step
-next_step loose small most depth step t = step_again (is_open step) step (step_mask loose small most depth step) t
+next_step loose small most depth step t =
+    step_again (is_open step) step (step_mask loose small most (depth + 1) step) t
 
 abbrev pub next_bytes : Bool → Bool → ℕ → ℕ → Step → List ℕ → List ℕ
-next_bytes loose small most depth step t = step.head ++ (step_mask loose small most depth step ++ t)
+next_bytes loose small most depth step t = step.head ++ (step_mask loose small most (depth + 1) step ++ t)
 
 -- bytes that begin with an element, and those of its mask
 pub record BeginsMasked (cut misfit loose small : Bool) (most depth : ℕ) (some : List Component) (bytes : List ℕ)
     (step : Step) (t : List ℕ) : Type 0 where
   pub masks : MasksStep loose small most depth step (next_step loose small most depth step t)
-      (step_mask loose small most depth step) t
+      (step_mask loose small most (depth + 1) step) t
   pub is : step_by cut misfit some (next_bytes loose small most depth step t)
       ≡ Some (next_step loose small most depth step t)
   pub len : length (next_bytes loose small most depth step t) ≡ length bytes
@@ -62,173 +61,114 @@ pub record BeginsMasked (cut misfit loose small : Bool) (most depth : ℕ) (some
 
 pub begins_masked : (cut misfit loose small : Bool) (most depth : ℕ) (some : List Component) (bytes : List ℕ)
     (step : Step) (t : List ℕ) → BeginsWith cut misfit some bytes step → Inner small most
-    → length t ≡ tail_len step (rest_after loose most depth step)
+    → length t ≡ tail_len step (rest_after loose most (depth + 1) step)
     → BeginsMasked cut misfit loose small most depth some bytes step t
 begins_masked cut misfit loose small most depth some bytes step t b inner size =
-    let m : List ℕ = step_mask loose small most depth step in
+    let m : List ℕ = step_mask loose small most (depth + 1) step in
     let next : Step = next_step loose small most depth step t in
-    let masks = opened_masks loose small most depth step b.taken t inner size in
-    let h = b.element in
-    let head = ap length b.head ∙ length-take-le step.header.len bytes h.within in
+    let masks = opened_masks loose small most depth step b.taken inner t size in
+    let head = ap length b.head ∙ length-take-le step.header.len bytes b.within in
     let parts = ap length masks.parts ∙ length-append next.content next.rest in
     record {
       masks = masks;
       is = ap (λ (x : List ℕ). step_by cut misfit some (step.head ++ x)) masks.parts
-          ∙ (b.again next.content next.rest masks.stays masks.rest_len ∙ ap (λ (x : Step). Some x) (sym masks.like));
-      len = length-append step.head (m ++ t) ∙ omega (arith, head, parts, masks.stays.len, masks.rest_len, h.len);
+          ∙ b.again next.content next.rest masks.stays masks.rest_len;
+      len = length-append step.head (m ++ t) ∙ omega (arith, head, parts, masks.stays.len, masks.rest_len, b.len);
       end = λ l marked. ap (λ (x : List ℕ). end_at l marked some (x ++ (m ++ t))) b.head
-          ∙ end_front l marked some step.header.len bytes (m ++ t) h.some h.within;
+          ∙ end_front l marked some step.header.len bytes (m ++ t) b.two b.within;
     }
-
-pub element_same : (loose small : Bool) (most : ℕ) (place : Place) (some : List Component) (step : Step) (t : List ℕ)
-    → Inner small most → (step.header.content_len ≡ None → step.rest ≡ [])
-    → length t ≡ tail_len step (rest_after loose most (place.depth + 1) step)
-    → MasksStep loose small most (place.depth + 1) step (next_step loose small most (place.depth + 1) step t)
-    (step_mask loose small most (place.depth + 1) step) t
-    → step_rows (hidden loose small) most place some (next_step loose small most (place.depth + 1) step t)
-    ≡ step_rows (hidden loose small) most place some step
-element_same loose small most place some step t inner last size masks =
-    by_opened (opened_of loose most (place.depth + 1) step) (is_open step) refl refl masks
-  where
-    mask : Bool → Option Structure → List ℕ
-    mask b o = content_mask small (λ s. masked (inside_loose step.component.2 loose) small most (place.depth + 1) b
-        (components s) (inside_bytes step)) o step
-
-    back : (s : Structure) (x : List ℕ) → opened_of loose most (place.depth + 1) step ≡ Some s
-        → drop (front_len step.component.2) (take (front_len step.component.2) step.content ++ x) ≡ x
-    back s x is = drop_at _ x _ (length-take-le (front_len step.component.2) step.content
-        (front_within loose most (place.depth + 1) step s is))
-
-    by_opened : (o : Option Structure) (b : Bool) → opened_of loose most (place.depth + 1) step ≡ o → is_open step ≡ b
-        → MasksStep loose small most (place.depth + 1) step (step_again b step (mask b o) t) (mask b o) t
-        → step_rows (hidden loose small) most place some (step_again b step (mask b o) t)
-        ≡ step_rows (hidden loose small) most place some step
-    by_opened None true is e known = rw (known.opened ∙ is, is, known.stays.len, known.shown) refl
-    by_opened None false is e known = rw (known.opened ∙ is, is, known.stays.len, known.shown) refl
-    by_opened (Some s) false is e known =
-        let none = sym (closed_left _ most (place.depth + 1) (components s) (inside_bytes step)) in
-        let within = inner (inside_loose step.component.2 loose) false (place.depth + 1) (components s) in
-        let rows = rw append-nil at ((within (inside_bytes step)).rows [] none (inside place step)) in
-        rw (known.opened ∙ is, is, known.stays.len, known.shown, e, back s _ is, rows) refl
-    by_opened (Some s) true is e known =
-        let tail = elim (rest_of (inside_loose step.component.2 loose) most (place.depth + 1) true (components s)
-        (inside_bytes step)) as (λ o. tail_len step (after_inside true step.rest o) ≡ left o)
-        [ None ↦ ap length (last (no_len step.header.content_len e)) | Some r ↦ refl ] in
-        let within = inner (inside_loose step.component.2 loose) true (place.depth + 1) (components s) in
-        let rows = (within (inside_bytes step)).rows t (size ∙ rw (is, e) tail) (inside place step) in
-        rw (known.opened ∙ is, is, known.stays.len, known.shown, e, append_assoc, back s _ is, rows) refl
 
 -- ---- levels
 
-module _ (loose small : Bool) (most : ℕ) (marked : Bool) (place : Place) (some : List Component) (bytes : List ℕ)
+module _ (loose small : Bool) (most depth : ℕ) (marked : Bool) (some : List Component) (bytes : List ℕ)
     (inner : Inner small most) where
-  -- as many other bytes, with these after the level, and these rows
-  record Has (other : List ℕ) (rest_is : Option (List ℕ)) (rows_are : List Row) : Type 0 where
-    len : length other ≡ length bytes
-    rest : rest_of loose (suc most) place.depth marked some other ≡ rest_is
-    rows : rows_of (hidden loose small) (suc most) marked place some other ≡ rows_are
-
-  abbrev rest_next_of : Step → Option (List ℕ) → Option (List ℕ)
-  rest_next_of step o = rest_next (λ rest. rest_of loose most place.depth marked step.others rest) o
-
-  abbrev rows_next_of : List ℕ → Step → Option (List ℕ) → List Row
-  rows_next_of x step o =
-      next_rows (λ rest. rows_of (hidden loose small) most marked (after place x rest) step.others rest) o
+  abbrev Has : List ℕ → Option (List ℕ) → Type 0
+  Has other left_is = MasksRest loose small (suc most) depth marked some bytes other left_is
 
   -- an end, at the same place
   ended : (n : ℕ) (r : List ℕ) → IsEnd marked bytes n → end_at loose marked some bytes ≡ Some n
-      → length r ≡ length (drop n bytes) → Has (take n bytes ++ r) (Some r) (end_rows place some n)
+      → length r ≡ length (drop n bytes) → Has (take n bytes ++ r) (Some r)
   ended n r (inl (none, empty)) is size =
-      let nothing = no_bytes r (rw (none, empty) at size) in let end = rw (none, empty) at is in
-      rw (none, empty, nothing) (record { len = refl; rest = rw end refl; rows = rw end refl })
+      let nothing = nil_from_length r (rw (none, empty) at size) in let end = rw (none, empty) at is in
+      rw (none, empty, nothing) (record { len = refl; same = rw end refl; rows = λ place. refl })
   ended n r (inr (two, few, _)) is size =
       let within : n ≤ length bytes = omega (arith, two, few) in
       let end = end_front loose marked some n bytes r (omega (arith, two)) within ∙ is in
       let front = length-take-le n bytes within in let back = length-drop n bytes in
       let len = length-append (take n bytes) r ∙ omega (arith, front, back, size, within) in
-      record { len = len; rest = rw (end, drop_at (take n bytes) r n front) refl; rows = rw end refl }
+      record { len = len; same = rw (end, drop_at (take n bytes) r n front) refl; rows = λ place. rw (end, is) refl }
+
+  -- the bytes and the rows after an element of the level
+  abbrev rest_next_of : Step → Option (List ℕ) → Option (List ℕ)
+  rest_next_of step o = rest_next (λ rest. rest_of loose most depth marked step.others rest) o
+
+  abbrev rows_next_of : Place → Step → Option (List ℕ) → List Row
+  rows_next_of place step o =
+      next_rows (λ rest. rows_of (hidden loose small) most marked (after (record place { depth = depth }) bytes rest)
+      step.others rest) o
 
   abbrev tail_of : Step → List ℕ → Option (List ℕ) → List ℕ
-  tail_of step r o = next_mask step.rest (λ rest. masked loose small most place.depth marked step.others rest) o ++ r
+  tail_of step r o = next_mask step.rest (λ rest. masked loose small most depth marked step.others rest) o ++ r
 
   -- what comes after an element of the level
   tail_has : (step : Step) (r : List ℕ) (o : Option (List ℕ)) → length r ≡ left (rest_next_of step o)
       → (length (tail_of step r o) ≡ tail_len step o)
       × (rest_next_of step (again (tail_of step r o) o) ≡ again r (rest_next_of step o))
-      × (rows_next_of bytes step (again (tail_of step r o) o) ≡ rows_next_of bytes step o)
+      × ((place : Place) → rows_next_of place step (again (tail_of step r o) o) ≡ rows_next_of place step o)
   tail_has step r None size =
       let join = length-append (undrawn step.rest) r in
-      (omega (arith, undrawn_len step.rest, size), refl, refl)
+      (omega (arith, undrawn_len step.rest, size), refl, λ place. refl)
   tail_has step r (Some rest) size =
-      let known = inner loose marked place.depth step.others rest in
-      let join = length-append (masked loose small most place.depth marked step.others rest) r in
-      let len : length (tail_of step r (Some rest)) ≡ length rest = omega (arith, known.len, size) in
-      (len, known.same r size, rw len (known.rows r size (after place bytes rest)))
+      let known = inner loose marked depth step.others rest r size in
+      (known.len, known.same, λ place. rw known.len (known.rows (after place bytes rest)))
 
   -- an element, and what comes after it
   step_has : (step : Step) (r : List ℕ) → end_at loose marked some bytes ≡ None
-      → step_at loose place.depth some bytes ≡ Some step
-      → length r ≡ left (rest_next_of step (rest_after loose most (place.depth + 1) step))
-      → Has (next_bytes loose small most (place.depth + 1) step
-      (tail_of step r (rest_after loose most (place.depth + 1) step)))
-      (again r (rest_next_of step (rest_after loose most (place.depth + 1) step)))
-      (step_rows (hidden loose small) most place some step
-      ++ rows_next_of bytes step (rest_after loose most (place.depth + 1) step))
+      → step_at loose depth some bytes ≡ Some step
+      → length r ≡ left (rest_next_of step (rest_after loose most (depth + 1) step))
+      → Has (next_bytes loose small most depth step (tail_of step r (rest_after loose most (depth + 1) step)))
+      (again r (rest_next_of step (rest_after loose most (depth + 1) step)))
   unfolding step_at
   step_has step r is at size =
-      let depth : ℕ = place.depth + 1 in
-      let t : List ℕ = tail_of step r (rest_after loose most depth step) in
-      let (len, rest, rows) = tail_has step r (rest_after loose most depth step) size in
-      let (few, found) = some_if (nat_lt place.depth 64) (step_by loose loose some bytes) step at in
+      let t : List ℕ = tail_of step r (rest_after loose most (depth + 1) step) in
+      let (len, rest, rows) = tail_has step r (rest_after loose most (depth + 1) step) size in
+      let (few, found) = some_if (nat_lt depth 64) (step_by loose loose some bytes) step at in
       let begins = step_found loose loose some bytes step found in
       let b = begins_masked loose loose loose small most depth some bytes step t begins inner len in
       let other : List ℕ = next_bytes loose small most depth step t in
       let next : Step = next_step loose small most depth step t in
       let end : end_at loose marked some other ≡ None = b.end loose marked ∙ is in
-      let next_is : step_at loose place.depth some other ≡ Some next = rw few b.is in
-      let others : next.others ≡ step.others = ap (λ (x : Step). x.others) b.masks.like in
-      let own = element_same loose small most place some step t inner begins.element.last len b.masks in
+      let next_is : step_at loose depth some other ≡ Some next = rw few b.is in
       record {
         len = b.len;
-        rest = rw (end, next_is, b.masks.after, others) rest;
-        rows = rw (end, next_is) refl
-            ∙ (ap (λ (x : List Row). x ++ rows_next_of other next (rest_after loose most depth next)) own
-            ∙ rw (b.masks.after, others, b.len)
-            (ap (λ (x : List Row). step_rows (hidden loose small) most place some step ++ x) rows));
+        same = rw (end, next_is, b.masks.after) rest;
+        rows = λ place.
+            rw (end, next_is, is, at) (ap₂ (λ (x y : List Row). x ++ y) (b.masks.rows place some)
+            (rw (b.masks.after, b.len) (rows place)));
       }
 
   level_has : (o : Option ℕ) (q : Option Step) → end_at loose marked some bytes ≡ o
-      → step_at loose place.depth some bytes ≡ q
-      → (r : List ℕ) → length r ≡ left (rest_of loose (suc most) place.depth marked some bytes)
-      → Has (masked loose small (suc most) place.depth marked some bytes ++ r)
-      (again r (rest_of loose (suc most) place.depth marked some bytes))
-      (rows_of (hidden loose small) (suc most) marked place some bytes)
+      → step_at loose depth some bytes ≡ q
+      → (r : List ℕ) → length r ≡ left (rest_of loose (suc most) depth marked some bytes)
+      → Has (masked loose small (suc most) depth marked some bytes ++ r)
+      (again r (rest_of loose (suc most) depth marked some bytes))
   level_has (Some n) q is at r size =
       rw is (ended n r (end_found loose marked some bytes n is) is (rw is at size))
   level_has None None is at r size =
       let end = undrawn_end loose marked some bytes is in
-      let stop = undrawn_at loose place.depth some bytes in
-      rw (is, at, no_bytes r (rw (is, at) at size), append-nil (undrawn bytes))
-      (record { len = undrawn_len bytes; rest = rw (end, stop) refl; rows = rw (end, stop) refl })
+      let stop = undrawn_at loose depth some bytes in
+      rw (is, at, nil_from_length r (rw (is, at) at size), append-nil (undrawn bytes))
+      (record { len = undrawn_len bytes; same = rw (end, stop) refl; rows = λ place. rw (end, stop, is, at) refl })
   level_has None (Some step) is at r size =
-      rw (is, at, append_assoc, append_assoc)
-      (step_has step r is at (rw (is, at) at size))
+      rw (is, at, append_assoc, append_assoc) (step_has step r is at (rw (is, at) at size))
 
 pub masks_rest : (small : Bool) (most : ℕ) → Inner small most
-masks_rest small zero loose marked depth some bytes =
-    record { len = omega (arith, undrawn_len bytes); same = λ r size. refl; rows = λ r size place. refl }
-masks_rest small (suc most) loose marked depth some bytes =
-    let has = λ (place : Place). level_has loose small most marked (record place { depth = depth }) some bytes
-    (masks_rest small most) (end_at loose marked some bytes) (step_at loose depth some bytes) refl refl in
-    let any : Place = record { offset = 0; depth = depth; end = 0; is_public = false } in
-    let m : List ℕ = masked loose small (suc most) depth marked some bytes in
-    let r : List ℕ = replicate (left (rest_of loose (suc most) depth marked some bytes)) 0 in
-    let count : length r ≡ left (rest_of loose (suc most) depth marked some bytes) = length-replicate _ _ in
-    record {
-      len = omega (arith, length-append m r, count, (has any r count).len);
-      same = λ x size. (has any x size).rest;
-      rows = λ x size place. (has place x size).rows;
-    }
+masks_rest small zero loose marked depth some bytes r size =
+    rw (nil_from_length r size, append-nil (undrawn bytes))
+    (record { len = undrawn_len bytes; same = refl; rows = λ place. refl })
+masks_rest small (suc most) loose marked depth some bytes r size =
+    level_has loose small most depth marked some bytes (masks_rest small most) (end_at loose marked some bytes)
+    (step_at loose depth some bytes) refl refl r size
 
 -- ---- the root
 
@@ -241,13 +181,13 @@ rest_mask_len step o = grind (arith, undrawn_len)
 
 module _ (loose small : Bool) (root : Component) (bytes : List ℕ) where
   abbrev root_like : Step → Step
-  root_like step = next_step loose small (length bytes) 1 step (rest_mask step (rest_after loose (length bytes) 1 step))
+  root_like step = next_step loose small (length bytes) 0 step (rest_mask step (rest_after loose (length bytes) 1 step))
 
-  -- what is known of a root and its mask
-  record IsRoot (step : Step) : Type 0 where
-    begins : BeginsWith true false (root ∷ []) bytes step
-    masked : BeginsMasked true false loose small (length bytes) 1 (root ∷ []) bytes step
-        (rest_mask step (rest_after loose (length bytes) 1 step))
+  -- a root and its mask
+  abbrev IsRoot : Step → Type 0
+  IsRoot step =
+      BeginsMasked true false loose small (length bytes) 0 (root ∷ []) bytes step
+      (rest_mask step (rest_after loose (length bytes) 1 step))
 
   -- what is the same of a root and its mask is the same of bytes and theirs
   of_mask : {A : Type 0} (f : ℕ → Option Step → A)
@@ -263,9 +203,9 @@ module _ (loose small : Bool) (root : Component) (bytes : List ℕ) where
       by_root None is = rw (undrawn_len bytes, undrawn_no_step true false (root ∷ []) bytes) refl
       by_root (Some step) is =
           let begins = step_found true false (root ∷ []) bytes step is in
-          let b = begins_masked true false loose small (length bytes) 1 (root ∷ []) bytes step _ begins
+          let b = begins_masked true false loose small (length bytes) 0 (root ∷ []) bytes step _ begins
           (masks_rest small (length bytes)) (rest_mask_len step (rest_after loose (length bytes) 1 step)) in
-          rw (b.len, b.is) (same step (record { begins = begins; masked = b }))
+          rw (b.len, b.is) (same step b)
 
   pub mask_as_len : length (mask_as loose small root bytes) ≡ length bytes
   mask_as_len = of_mask (λ n o. n) (λ step r. refl)
@@ -274,11 +214,8 @@ module _ (loose small : Bool) (root : Component) (bytes : List ℕ) where
       ≡ rows_as (hidden loose small) root public bytes
   unfolding rows_as
   rows_of_mask public = of_mask (λ n o. rows_from (hidden loose small) root (first_place public n) n o) (λ step r.
-      ap (λ (rows : List Row). rows ++ tail (rest_after loose (length bytes) 1 (root_like step)))
-      (element_same loose small (length bytes) place (root ∷ []) step _ (masks_rest small (length bytes))
-      r.begins.element.last (rest_mask_len step _) r.masked.masks)
-      ∙ ap (λ (rows : List Row). step_rows (hidden loose small) (length bytes) place (root ∷ []) step ++ rows)
-      (ap tail r.masked.masks.after ∙ after_same step (rest_after loose (length bytes) 1 step)))
+      ap₂ (λ (x y : List Row). x ++ y) (r.masks.rows place (root ∷ []))
+      (ap tail r.masks.after ∙ after_same step (rest_after loose (length bytes) 1 step)))
     where
       place : Place
       place = first_place public (length bytes)
@@ -291,13 +228,11 @@ module _ (loose small : Bool) (root : Component) (bytes : List ℕ) where
       after_same step o = grind (arith, undrawn_len)
 
   complete_same : (step : Step) → IsRoot step → is_complete (root_like step) ≡ is_complete step
-  complete_same step r =
-      let masks = r.masked.masks in
-      ap₂ (λ (x : Step) (n : ℕ). complete_by x.header.content_len n) masks.like masks.stays.len
+  complete_same step r = ap (λ (n : ℕ). complete_by step.header.content_len n) r.masks.stays.len
 
   pub whole_of_mask : whole_as loose root (mask_as loose small root bytes) ≡ whole_as loose root bytes
   unfolding whole_as
-  whole_of_mask = of_mask (λ n o. whole_by loose n o) (λ step r. rw r.masked.masks.after
+  whole_of_mask = of_mask (λ n o. whole_by loose n o) (λ step r. rw r.masks.after
       (ended_same step (root_like step) (rest_after loose (length bytes) 1 step) (complete_same step r)))
     where
       ended_same : (step next : Step) (o : Option (List ℕ)) → is_complete next ≡ is_complete step
@@ -332,13 +267,24 @@ same_as root a b same = (
   alike (λ x. whole_as false root x) false false root a b (whole_of_mask false false root) same,
 )
 
+counts_alike : (root : Component) (a b : List ℕ) → rows_as strictly root false a ≡ rows_as strictly root false b
+    → (left_as root a ≡ left_as root b) × (parts_as root a ≡ parts_as root b)
+unfolding left_as parts_as
+counts_alike root a b same =
+    (ap (λ (rows : List Row). (shape_in rows).left) same, ap (λ (rows : List Row). (shape_in rows).parts) same)
+
+retagged_alike : (a b : List ℕ) → rows_as strictly elements.ELEMENT false a ≡ rows_as strictly elements.ELEMENT false b
+    → is_retagged a ≡ is_retagged b
+unfolding is_retagged
+retagged_alike a b same = ap (λ (rows : List Row). is_last (shape_in rows).progress) same
+
 better_alike : (a b : List ℕ) (first second : Form) → mask_as false false first.0 a ≡ mask_as false false first.0 b
     → mask_as false false second.0 a ≡ mask_as false false second.0 b → better a first second ≡ better b first second
-unfolding better left_as
+unfolding better
 better_alike a b first second one two =
     let same = same_as first.0 a b one in
     let other = same_as second.0 a b two in
-    rw (same.0, other.0, same.1, other.1) refl
+    rw ((counts_alike first.0 a b same.0).0, (counts_alike second.0 a b other.0).0, same.1, other.1) refl
 
 -- the form that is chosen is the same, and of this the masks are
 best_alike : (a b : List ℕ) (first : Form) (others : List Form)
@@ -358,12 +304,19 @@ len_alike a b same =
 
 plan_as_alike : (form : Form) (a b : List ℕ) → AreAlike a b
     → mask_as false false form.0 a ≡ mask_as false false form.0 b → plan_as form a ≡ plan_as form b
-unfolding known_as parts_as is_tree is_retagged
+unfolding known_as is_tree
 plan_as_alike form a b same one =
     let known = same_as form.0 a b one in
     let tree = same_as elements.ELEMENT a b same.elements in
     let cut = alike (λ x. is_cut x) false false elements.ELEMENT a b cut_of_mask same.elements in
-    rw (known.0, known.1, tree.0, tree.1, cut, len_alike a b same) refl
+    rw (
+      (counts_alike form.0 a b known.0).1,
+      known.1,
+      retagged_alike a b tree.0,
+      tree.1,
+      cut,
+      len_alike a b same,
+    ) refl
 
 pub plan_alike : (a b : List ℕ) → AreAlike a b → plan_of a ≡ plan_of b
 unfolding plan_of nearest

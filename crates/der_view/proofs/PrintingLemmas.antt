@@ -1,10 +1,11 @@
 -- What is written of a row, and what lines are.
-use Rattle.std.proofs.Common.{◌≡◌, refl, List, [], ◌∷◌, Bool, ℕ, ◌+◌, ◌*◌, ◌++◌, add-one, append-nil, drop, map, take}
+use Rattle.std.proofs.Common.{◌≡◌, refl, List, [], Bool, ℕ, ◌+◌, ◌*◌, ◌++◌, add-one, append-nil, drop, get_or, take}
 use Rattle.std.proofs.lemmas.Grind.{flat_map-append}
+use Rattle.std.proofs.lemmas.List.Elements.{All-from_get_or, All-map}
+use Rattle.std.specs.List.{All}
 use Rattle.der_view.proofs.LineLemmas.{shown-line}
-use Rattle.der_view.specs.Facts.{row_of}
-use Rattle.der_view.specs.Lines.{kept, shown}
-use Rattle.der_view.specs.Printing.{AreLines, content_lines, line_text, lines_text, rows_lines, told_lines}
+use Rattle.der_view.specs.Lines.{IsLine, kept, shown}
+use Rattle.der_view.specs.Printing.{content_lines, line_text, lines_text, rows_lines, told_of}
 use Rattle.der_view.specs.RowLines.{hex_words, spaces}
 use Rattle.der_view.specs.Rows.{Row}
 use Rattle.der_view.specs.declared.plan.Plan.{Plan}
@@ -18,11 +19,10 @@ pub content_written : {W : Type 0} (appends : W → W → List ℕ → Type 0) (
 content_written appends joined a b c bytes line count is done next =
     rw (add-one count, flat_map-append, append-nil, ← is) (joined a b c _ _ done next)
 
-shown_are : (lines rest : List (List ℕ)) → AreLines rest → AreLines (map shown lines ++ rest)
-shown_are [] rest are = are
-shown_are (line ∷ lines) rest are = (shown-line line (shown line) refl, shown_are lines rest are)
-
 -- all lines of rows
-pub rows_are : (plan : Plan) (all : Bool) (rows : List Row) → AreLines (rows_lines plan all rows)
-rows_are plan all [] = tt
-rows_are plan all (row ∷ rows) = shown_are (told_lines (row_of plan all row)) _ (rows_are plan all rows)
+pub rows_are : (plan : Plan) (all : Bool) (rows : List Row) → All IsLine (rows_lines plan all rows)
+unfolding rows_lines
+rows_are plan all rows =
+    let lines : List (List ℕ) = told_of plan all rows in
+    All-map IsLine shown lines
+    (All-from_get_or (λ line. IsLine (shown line)) lines [] (λ i below. shown-line (get_or lines i []) _ refl))

@@ -1,11 +1,11 @@
 -- The rows of a level, one element at a time.
 use Rattle.std.proofs.Common.{◌≡◌, ◌<◌, ◌+◌, ℕ, zero, suc, List, [], ◌∷◌, ◌++◌, refl, arith, Bool, true, Some, Option}
-use Rattle.std.proofs.Common.{None, append-nil, drop, take, length, length-drop, ◌-◌}
+use Rattle.std.proofs.Common.{None, drop, take, length, length-drop, ◌-◌}
 use Rattle.std.proofs.lemmas.List.{take_all}
 use Rattle.der_view.specs.Grammar.{Component, components}
 use Rattle.der_view.specs.Pictures.{level_rest, level_rows, told}
 use Rattle.der_view.specs.Rows.{Element, How, Row, Step, after, end_at, end_rows, front_len, inside_loose, is_open}
-use Rattle.der_view.specs.Rows.{opened_of, rest_after, rest_of, rows_of, step_at, step_rows, view}
+use Rattle.der_view.specs.Rows.{next_rows, opened_of, rest_after, rest_next, rest_of, rows_of, step_at, step_rows, view}
 use Rattle.der_view.specs.declared.grammar.Structure.{Structure}
 use Rattle.der_view.specs.declared.walk.Level.{Level}
 use Rattle.der_view.specs.declared.walk.Place.{Place}
@@ -13,6 +13,9 @@ use Rattle.der_view.specs.declared.walk.Place.{Place}
 told-append : (trial : Bool) (first second : List Row) → told trial (first ++ second)
     ≡ told trial first ++ told trial second
 told-append trial first second = grind arith
+
+pub told-none : (trial : Bool) → told trial [] ≡ []
+told-none trial = grind arith
 
 -- of an element whose content is rows: its own, and those inside it
 pub opened_step : {D : Type 0} (T : D → D → List Row → Type 0)
@@ -58,23 +61,15 @@ pub record IsNext (how : How) (most few : ℕ) (place : Place) (level : Level) (
   pub is : step_at how.loose place.depth level.components.now level.bytes.now ≡ Some step
   pub after : rest_after how.loose few (place.depth + 1) step ≡ o
 
-module _ {how : How} {most few : ℕ} {place : Place} {level : Level} {step : Step} where
-  pub level_last : IsNext how most few place level step None
-      → (level_rows how most place level ≡ told level.is_trial (step_rows how few place level.components.now step))
-      × (level_rest how.loose most place.depth level ≡ None)
-  level_last next = (
-    rw (next.fewer, next.goes, next.is, next.after, append-nil (step_rows how few place level.components.now step))
-        refl,
-    rw (next.fewer, next.goes, next.is, next.after) refl,
-  )
-
-  -- and those after it
-  pub level_more : (rest : List ℕ) → IsNext how most few place level step (Some rest)
-      → (level_rows how most place level ≡ told level.is_trial (step_rows how few place level.components.now step)
-      ++ told level.is_trial (rows_of how few level.is_open (after place level.bytes.now rest) step.others rest))
-      × (level_rest how.loose most place.depth level ≡ rest_of how.loose few place.depth level.is_open step.others rest)
-  level_more rest next = (
-    rw (next.fewer, next.goes, next.is, next.after)
-        (told-append level.is_trial (step_rows how few place level.components.now step) _),
-    rw (next.fewer, next.goes, next.is, next.after) refl,
-  )
+pub level_next : {how : How} {most few : ℕ} {place : Place} {level : Level} {step : Step} {o : Option (List ℕ)}
+    → IsNext how most few place level step o
+    → (level_rows how most place level ≡ told level.is_trial (step_rows how few place level.components.now step)
+    ++ told level.is_trial
+    (next_rows (λ rest. rows_of how few level.is_open (after place level.bytes.now rest) step.others rest) o))
+    × (level_rest how.loose most place.depth level
+    ≡ rest_next (λ rest. rest_of how.loose few place.depth level.is_open step.others rest) o)
+level_next {how} {most} {few} {place} {level} {step} next = (
+  rw (next.fewer, next.goes, next.is, next.after)
+      (told-append level.is_trial (step_rows how few place level.components.now step) _),
+  rw (next.fewer, next.goes, next.is, next.after) refl,
+)

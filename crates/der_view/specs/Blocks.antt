@@ -1,46 +1,74 @@
 -- The blocks of PEM in a text (RFC 7468).
-use Rattle.std.specs.Prelude.{ℕ, suc, ◌+◌, ◌-◌, ◌==◌, ◌&&◌, ◌||◌, not, Bool, false, nat_le, nat_eq}
-use Rattle.std.specs.Prelude.{if◌then◌else◌, List, [], ◌∷◌, ◌++◌, length, take, drop, codes}
-use Rattle.std.specs.Prelude.{Option, Some, None, is_some, option_and_then, option_map}
+use Rattle.std.specs.Prelude.{ℕ, suc, ◌+◌, ◌-◌, ◌==◌, ◌&&◌, ◌||◌, not, Bool, true, false, nat_le}
+use Rattle.std.specs.Prelude.{nat_eq, if◌then◌else◌, List, [], ◌∷◌, length, take, drop, codes}
+use Rattle.std.specs.Prelude.{Option, Some, None, is_none, option_and_then, option_map}
 use Rattle.std.specs.Char.{is_ascii_whitespace}
-use Rattle.std.specs.List.{concat, ends_with, list_all, list_any, onto_first, starts_with}
-use Rattle.std.specs.List.{suffix_len}
+use Rattle.std.specs.List.{ends_with, list_all, list_any, prefix_len, starts_with}
 use Rattle.std.specs.Str.{bytes_eq}
 use Rattle.der_view.specs.declared.text.pem.Block.{Block}
-use Rattle.der_view.specs.declared.text.pem.CutLine.{CutLine}
-use Rattle.der_view.specs.declared.text.pem.LineKind.{LineKind}
-use Rattle.der_view.specs.declared.text.pem.LineKind.TheVariants as kinds
+use Rattle.der_view.specs.declared.text.pem.Sought.{Sought}
+use Rattle.der_view.specs.declared.text.pem.Sought.TheVariants as soughts
+
+-- ---- places in a text
+
+-- whether bytes begin so
+abbrev pub begins : List ℕ → List ℕ → Bool
+begins bytes front = starts_with nat_eq bytes front
+
+-- whether a text has a byte
+abbrev pub has : List ℕ → ℕ → Bool
+has text byte = list_any (λ other. other == byte) text
 
 -- whether a line ends with this byte, which these are after (RFC 7468 section 3)
 abbrev pub ends_line : ℕ → List ℕ → Bool
-ends_line byte after =
-    byte == 0x0A || (byte == 0x0D && not (starts_with nat_eq after (0x0A ∷ [])))
+ends_line byte after = byte == 0x0A || (byte == 0x0D && not (begins after (0x0A ∷ [])))
 
--- the lines of a text, each with the CR LF, LF or CR that ends it; the last one may have none
-abbrev pub lines_of : List ℕ → List (List ℕ)
-lines_of [] = []
-lines_of (byte ∷ text) =
-    if ends_line byte text then (byte ∷ []) ∷ lines_of text else onto_first byte (lines_of text)
+-- how many bytes of a text, with which a line begins or not, are before the first place that
+-- passes; all if none does
+abbrev pub len_before : (Bool → List ℕ → Bool) → Bool → List ℕ → ℕ
+len_before passes starts [] = 0
+len_before passes starts (byte ∷ text) =
+    if passes starts (byte ∷ text) then 0
+    else suc (len_before passes (ends_line byte text) text)
 
--- the number of bytes of the first one
-abbrev pub line_len : List ℕ → ℕ
-line_len [] = 0
-line_len (byte ∷ text) = if ends_line byte text then 1 else suc (line_len text)
+-- these bytes, the text from there on, and whether there is such a place
+abbrev pub before : (Bool → List ℕ → Bool) → Bool → List ℕ → List ℕ
+before passes starts text = take (len_before passes starts text) text
 
--- a text without the white space at its end
-abbrev pub trimmed : List ℕ → List ℕ
-trimmed text = take (length text - suffix_len is_ascii_whitespace text) text
+abbrev pub onward : (Bool → List ℕ → Bool) → Bool → List ℕ → List ℕ
+onward passes starts text = drop (len_before passes starts text) text
 
--- what is after a front of a text, and before an end of it; None if the text hasn't that
-abbrev pub after_front : List ℕ → List ℕ → Option (List ℕ)
-after_front front text =
-    if bytes_eq (take (length front) text) front then Some (drop (length front) text) else None
+abbrev pub is_in : (Bool → List ℕ → Bool) → Bool → List ℕ → Bool
+is_in passes starts text = not (length (onward passes starts text) == 0)
 
-abbrev pub before_end : List ℕ → List ℕ → Option (List ℕ)
-before_end end text =
-    if bytes_eq (drop (length text - length end) text) end
-    then Some (take (length text - length end) text)
-    else None
+-- these bytes; a line that begins with these; and one that is empty, but for white space
+abbrev pub bytes_at : List ℕ → Bool → List ℕ → Bool
+bytes_at bytes starts text = begins text bytes
+
+abbrev pub begin_at : Bool → List ℕ → Bool
+begin_at = bytes_at (codes "-----BEGIN ")
+
+abbrev pub line_at : List ℕ → Bool → List ℕ → Bool
+line_at front starts text = starts && begins text front
+
+-- a text without white space in front, and that
+abbrev pub trimmed_start : List ℕ → List ℕ
+trimmed_start text = drop (prefix_len is_ascii_whitespace text) text
+
+abbrev pub space_in : List ℕ → List ℕ
+space_in text = take (length text - length (trimmed_start text)) text
+
+-- whether the first line of a text is empty, but for white space
+abbrev pub is_blank : List ℕ → Bool
+is_blank text =
+    length (trimmed_start text) == 0 || (has (space_in text) 0x0A || has (space_in text) 0x0D)
+
+abbrev pub is_at : Sought → Bool → List ℕ → Bool
+is_at (soughts.Bytes bytes) = bytes_at bytes.now
+is_at (soughts.Line front) = line_at front.now
+is_at soughts.Blank = λ starts text. starts && is_blank text
+
+-- ---- labels
 
 -- a capital letter, a digit, a space, a number sign or a full stop
 abbrev pub is_label_byte : ℕ → Bool
@@ -53,75 +81,51 @@ abbrev pub is_label : List ℕ → Bool
 is_label text =
     nat_le 1 (length text) && (nat_le (length text) 40 && list_all is_label_byte text)
 
-abbrev pub as_label : List ℕ → Option (List ℕ)
-as_label text = if is_label text then Some text else None
+abbrev pub dashes : List ℕ
+dashes = codes "-----"
 
--- what a line has between this front and five dashes at its end, white space after them left out;
--- None if it isn't such a line (RFC 7468 section 3: preeb, posteb)
-abbrev pub between : List ℕ → List ℕ → Option (List ℕ)
-between front line =
-    option_and_then (before_end (codes "-----")) (after_front front (trimmed line))
+-- what is after a front of a text; None if the text hasn't that
+abbrev pub after_front : List ℕ → List ℕ → Option (List ℕ)
+after_front front text =
+    if bytes_eq (take (length front) text) front then Some (drop (length front) text) else None
 
--- the label in the first line of a block; None if the line is none
-abbrev pub label_of : List ℕ → Option (List ℕ)
-label_of line = option_and_then as_label (between (codes "-----BEGIN ") line)
+-- the label before the first dashes of a text, and what is after these
+abbrev pub split_label : List ℕ → Option (List ℕ × List ℕ)
+split_label text =
+    if is_label (before (bytes_at dashes) true text)
+    then option_map (λ after. (before (bytes_at dashes) true text, after))
+    (after_front dashes (onward (bytes_at dashes) true text))
+    else None
 
--- whether a line is the last one of a block with this label
+-- and of a text that begins with dashes and this word before that
+abbrev pub labelled : List ℕ → List ℕ → Option (List ℕ × List ℕ)
+labelled word text =
+    option_and_then split_label (option_and_then (after_front word) (after_front dashes text))
+
+-- the label in the line that a text begins with: dashes, this word, the label and dashes, with
+-- white space after them left out (RFC 7468 section 3: preeb, posteb)
+abbrev pub line_label : List ℕ → List ℕ → Option (List ℕ)
+line_label word text =
+    option_and_then (λ found. if is_blank found.1 then Some found.0 else None) (labelled word text)
+
+-- whether a text begins with the last line of a block with this label
 abbrev pub is_this : Option (List ℕ) → List ℕ → Bool
 is_this None label = false
 is_this (Some text) label = bytes_eq text label
 
-abbrev pub is_end : List ℕ → List ℕ → Bool
-is_end line label = is_this (between (codes "-----END ") line) label
-
--- whether a line is of a kind
-abbrev pub is_of : LineKind → List ℕ → Bool
-is_of kinds.Begin line = is_some (label_of line)
-is_of kinds.Boundary line = starts_with nat_eq line (codes "-----")
-is_of kinds.Empty line = length (trimmed line) == 0
-is_of kinds.Encryption line = starts_with nat_eq line (codes "Proc-Type: 4,ENCRYPTED")
-
--- a line, how many are before it, the text of these, and the lines after it
-pub record CutView : Type 0 where
-  pub count : ℕ
-  pub before : List ℕ
-  pub line : List ℕ
-  pub after : List (List ℕ)
-
-abbrev pub cut_view : CutLine → CutView
-cut_view cut = record {
-  count = cut.count;
-  before = cut.before.now;
-  line = cut.line.now;
-  after = lines_of cut.after.now;
-}
-
--- so many more lines before it, which are this text
-abbrev pub past : ℕ → List ℕ → CutView → CutView
-past count text cut = record {
-  count = count + cut.count;
-  before = text ++ cut.before;
-  line = cut.line;
-  after = cut.after;
-}
-
--- the first of these lines that is of a kind
-abbrev pub cut_at : LineKind → List (List ℕ) → Option CutView
-cut_at kind [] = None
-cut_at kind (line ∷ lines) =
-    if is_of kind line then Some (record { count = 0; before = []; line = line; after = lines })
-    else option_map (past 1 line) (cut_at kind lines)
+-- ---- blocks
 
 -- the headers in what is between the first line and the last one, and the body: there are headers
 -- if there is an empty line, with a colon before it (RFC 1421 section 4.4)
-abbrev pub split_by : List ℕ → Option CutView → List ℕ × List ℕ
-split_by inside None = ([], inside)
-split_by inside (Some cut) =
-    if list_any (λ byte. byte == 0x3A) cut.before then (cut.before, concat cut.after)
-    else ([], inside)
-
 abbrev pub split_headers : List ℕ → List ℕ × List ℕ
-split_headers inside = split_by inside (cut_at kinds.Empty (lines_of inside))
+split_headers inside =
+    if is_in (is_at soughts.Blank) true inside
+    && has (before (is_at soughts.Blank) true inside) 0x3A
+    then (
+      before (is_at soughts.Blank) true inside,
+      onward (line_at []) false (onward (is_at soughts.Blank) true inside),
+    )
+    else ([], inside)
 
 -- a block: the number of its first line, of which that of a text has 1; its label, and its body
 -- without headers; whether it has headers, these say that it is encrypted, and it has its last line
@@ -143,35 +147,42 @@ block_view block = record {
   has_end = block.has_end;
 }
 
--- the block with this first line and label, this between its first line and the last one, and that
--- one or not
-abbrev pub block_of : ℕ → List ℕ → List ℕ → Bool → BlockView
-block_of line label inside has_end = record {
+-- what is between the first line of a block, which this is in but for its first byte, and the next
+-- one that may be a last line
+abbrev pub inside : List ℕ → List ℕ
+inside text = onward (line_at []) false (before (line_at dashes) false text)
+
+-- the block with this label in its first line, of which this is the number, before this text
+abbrev pub block_of : ℕ → List ℕ → List ℕ → BlockView
+block_of line label text = record {
   line = line;
   label = label;
-  body = (split_headers inside).1;
-  has_headers = not (length (split_headers inside).0 == 0);
-  is_encrypted = is_some (cut_at kinds.Encryption (lines_of (split_headers inside).0));
-  has_end = has_end;
+  body = (split_headers (inside text)).1;
+  has_headers = not (length (split_headers (inside text)).0 == 0);
+  is_encrypted =
+      is_in (line_at (codes "Proc-Type: 4,ENCRYPTED")) true (split_headers (inside text)).0;
+  has_end = is_this (line_label (codes "END ") (onward (line_at dashes) false text)) label;
 }
 
--- the block with this first line and label, before these lines: up to the first one that may be a
--- last line, its body, or all of them
-abbrev pub block_by : ℕ → List ℕ → List (List ℕ) → Option CutView → BlockView
-block_by line label lines None = block_of line label (concat lines) false
-block_by line label lines (Some cut) = block_of line label cut.before (is_end cut.line label)
+-- the number of a line that begins here, or not, after so many lines; and its label if it begins a
+-- block
+abbrev pub line_number : Bool → ℕ → ℕ
+line_number starts number = number + (if starts then 1 else 0)
 
--- the blocks that begin in these lines: one more if the line before them is a first line
-abbrev pub with_block : Option (List ℕ) → ℕ → List (List ℕ) → List BlockView → List BlockView
-with_block None line lines blocks = blocks
-with_block (Some label) line lines blocks =
-    block_by line label lines (cut_at kinds.Boundary lines) ∷ blocks
+abbrev pub begin_label : Bool → List ℕ → Option (List ℕ)
+begin_label starts text = if starts then line_label (codes "BEGIN ") text else None
 
--- the blocks in the lines after so many others
-abbrev pub blocks_in : ℕ → List (List ℕ) → List BlockView
-blocks_in number [] = []
-blocks_in number (line ∷ lines) =
-    with_block (label_of line) (number + 1) lines (blocks_in (number + 1) lines)
+abbrev pub with_block : Option (List ℕ) → ℕ → List ℕ → List BlockView → List BlockView
+with_block None line text blocks = blocks
+with_block (Some label) line text blocks = block_of line label text ∷ blocks
+
+-- the blocks whose first lines begin in a text, after so many lines
+abbrev pub blocks_in : Bool → ℕ → List ℕ → List BlockView
+blocks_in starts number [] = []
+blocks_in starts number (byte ∷ text) =
+    with_block (begin_label starts (byte ∷ text)) (line_number starts number) text
+    (blocks_in (is_none (begin_label starts (byte ∷ text)) && ends_line byte text)
+    (line_number starts number) text)
 
 -- whether the label of a block ends in the words that those of private keys end in
 abbrev pub is_of_private_key : BlockView → Bool

@@ -8,8 +8,7 @@ use Rattle.std.specs.List.{flat_map, list_all}
 use Rattle.std.specs.Str.{chars, is_utf8}
 use Rattle.der_types.specs.Strings.{is_ia5, is_numeric_string, is_printable, is_visible}
 use Rattle.der_view.specs.declared.characters.Characters.{Characters}
-use Rattle.der_view.specs.declared.characters.Encoded.{Encoded}
-use Rattle.der_view.specs.declared.characters.Encoded.TheVariants as encodings
+use Rattle.der_view.specs.declared.characters.Characters.TheVariants as encodings
 
 -- X.690 section 8.23.8: units of 16 bits, in two bytes each, the most significant first
 abbrev pub units_of : List ℕ → List ℕ
@@ -41,13 +40,10 @@ abbrev pub utf16_codes : List ℕ → List ℕ
 utf16_codes bytes = before_none (utf16_chars (units_of bytes))
 
 -- X.690 section 8.23: the codes of the characters (ISO/IEC 10646) that are left
-abbrev pub codes_in : Encoded → List ℕ
-codes_in (encodings.Utf8 text) = chars text.now
-codes_in (encodings.Utf16 bytes) = utf16_codes bytes.now
-codes_in (encodings.Latin1 bytes) = bytes.now
-
 abbrev pub codes_of : Characters → List ℕ
-codes_of characters = codes_in characters.encoded
+codes_of (encodings.Utf8 text) = chars text.now
+codes_of (encodings.Utf16 bytes) = utf16_codes bytes.now
+codes_of (encodings.Latin1 bytes) = bytes.now
 
 -- the codes of the characters of the string type with this tag number; none of a type that is no
 -- string's, nor of bytes that aren't its characters

@@ -1,6 +1,10 @@
 -- What is shown of a content.
-use Rattle.std.specs.Prelude.{ℕ, ◌==◌, ◌&&◌, ◌||◌, not, nat_le, nat_lt, if◌then◌else◌, min, Bool}
-use Rattle.std.specs.Prelude.{true, false, List, [], ◌∷◌, length, Option, Some, None, is_some}
+use Rattle.std.specs.Prelude.{ℕ, ◌==◌, ◌&&◌, ◌||◌, not, nat_le, if◌then◌else◌, min, Bool}
+use Rattle.std.specs.Prelude.{true, false, List, [], ◌∷◌, length, take, drop, slice_index}
+use Rattle.std.specs.Prelude.{Option, Some, None, is_some}
+use Rattle.std.specs.Char.{is_ascii_digit}
+use Rattle.std.specs.List.{list_all}
+use Rattle.der_types.specs.Integers.{is_integer}
 use Rattle.der_view.specs.Headers.{is_type}
 use Rattle.der_view.specs.declared.grammar.Content.{Content}
 use Rattle.der_view.specs.declared.grammar.Content.TheVariants as contents
@@ -21,20 +25,9 @@ is_string tag =
     has_type tag 12 || has_type tag 18 || has_type tag 19 || has_type tag 20 || has_type tag 21
     || has_type tag 22 || has_type tag 25 || has_type tag 26 || has_type tag 27
 
--- X.690 section 8.3.2: a number has a byte, and none more than it needs
-unfoldable pub is_minimal : List ℕ → Bool
-is_minimal [] = false
-is_minimal (first ∷ []) = true
-is_minimal (first ∷ second ∷ bytes) =
-    not (first == 0x00 && nat_lt second 0x80 || first == 0xFF && nat_le 0x80 second)
-
 -- a byte that is no control character
 abbrev pub is_plain : ℕ → Bool
 is_plain byte = nat_le 0x20 byte && not (byte == 0x7F)
-
-abbrev pub is_text : List ℕ → Bool
-is_text [] = true
-is_text (byte ∷ bytes) = is_plain byte && is_text bytes
 
 -- characters of two bytes
 abbrev pub is_wide_text : List ℕ → Bool
@@ -43,31 +36,27 @@ is_wide_text (high ∷ []) = false
 is_wide_text (high ∷ low ∷ bytes) =
     not (high == 0x00 && not (is_plain low)) && is_wide_text bytes
 
-abbrev pub is_last : ℕ → List ℕ → Bool
-is_last byte [] = byte == 0x5A
-is_last byte (next ∷ bytes) = false
-
--- X.690 section 11.7: digits, and a Z after them
-abbrev pub is_time : List ℕ → Bool
-is_time [] = false
-is_time (byte ∷ bytes) =
-    if nat_le 0x30 byte && nat_le byte 0x39 then is_time bytes else is_last byte bytes
+-- X.690 section 11.7: so many digits, and a Z after them
+abbrev pub is_time : ℕ → List ℕ → Bool
+is_time count bytes =
+    list_all is_ascii_digit (take count bytes)
+    && (length (drop count bytes) == 1 && slice_index (drop count bytes) 0 == 0x5A)
 
 -- whether a content is valid for its tag
 unfoldable pub is_valid : Tag → List ℕ → Bool
 is_valid tag bytes =
     if has_type tag 28 then false
-    else (if is_number tag then is_minimal bytes
-    else (if is_string tag then is_text bytes
+    else (if is_number tag then is_integer bytes
+    else (if is_string tag then list_all is_plain bytes
     else (if has_type tag 30 then is_wide_text bytes
-    else (if has_type tag 23 then length bytes == 13 && is_time bytes
-    else (if has_type tag 24 then length bytes == 15 && is_time bytes else true)))))
+    else (if has_type tag 23 then is_time 12 bytes
+    else (if has_type tag 24 then is_time 14 bytes else true)))))
 
 -- A BOOLEAN, an INTEGER, an ENUMERATED or a NULL of at most 8 bytes, or an OBJECT IDENTIFIER of at
 -- most 12
 unfoldable pub is_small : Tag → List ℕ → Bool
 is_small tag bytes =
-    if is_number tag then nat_le (length bytes) 8 && is_minimal bytes
+    if is_number tag then nat_le (length bytes) 8 && is_integer bytes
     else (if has_type tag 1 then length bytes == 1
     else has_type tag 5 && length bytes == 0 || has_type tag 6 && nat_le (length bytes) 12)
 

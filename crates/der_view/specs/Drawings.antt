@@ -2,22 +2,23 @@
 use Rattle.std.specs.Prelude.{ℕ, ◌↔◌, ◌||◌, Bool, false, IsTrue, List, [], ◌∷◌, ◌++◌, codes}
 use Rattle.std.specs.Prelude.{length, Option, Some, None, is_none, option_map, if◌then◌else◌}
 use Rattle.std.specs.Fmt.{decimal}
+use Rattle.std.specs.List.{fold}
 use Rattle.sec1.specs.KeyFaults.{key_fault}
 use Rattle.sec1.specs.Keys.{Key, IsKeyOf}
 use Rattle.der_view.specs.Almost.{ArmourView, armour_of}
-use Rattle.der_view.specs.Known.{nothing_known, with_rows}
+use Rattle.der_view.specs.Known.{nothing_known, with_next}
 use Rattle.der_view.specs.Lines.{kept, shown}
 use Rattle.der_view.specs.Marks.{bytes_text as count_text}
 use Rattle.der_view.specs.Parts.{Content, Itself, Bytes, Said, content_of}
 use Rattle.der_view.specs.Pictures.{plan_of, rows_by}
 use Rattle.der_view.specs.Printing.{line_text, rows_text}
-use Rattle.der_view.specs.Said.{file_note, note_text, said_text}
-use Rattle.der_view.specs.Sentences.{reason_of}
+use Rattle.der_view.specs.Said.{note_text, said_text}
+use Rattle.der_view.specs.Sentences.{file_words, reason_of}
 use Rattle.der_view.specs.Sources.{SourceView, Der, Pem, Text, sources_of}
 use Rattle.der_view.specs.declared.known.Known.{Known}
 use Rattle.der_view.specs.declared.plan.Plan.{Plan}
-use Rattle.der_view.specs.declared.said.Reading.{Reading}
-use Rattle.der_view.specs.declared.said.Reading.TheVariants as readings
+use Rattle.der_view.specs.declared.sentences.Reading.{Reading}
+use Rattle.der_view.specs.declared.sentences.Reading.TheVariants as readings
 use Rattle.der_view.specs.declared.text.Encoding.{Encoding}
 use Rattle.der_view.specs.declared.text.Encoding.TheVariants as encodings
 use Rattle.der_view.specs.declared.text.Found.{Found}
@@ -36,13 +37,13 @@ IsKey bytes is_key = IsTrue is_key ↔ ((key : Key) × IsKeyOf key bytes)
 
 -- what is known of bytes by their rows
 unfoldable pub known_of : Plan → List ℕ → Known
-known_of plan bytes = with_rows (nothing_known plan) (rows_by plan false bytes)
+known_of plan bytes = fold with_next (nothing_known plan) (rows_by plan false bytes)
 
 -- the picture of bytes: their rows, and what is said of them
 unfoldable pub bytes_text : Bool → Reading → List ℕ → List ℕ
 bytes_text all reading bytes =
     rows_text (plan_of bytes) all (rows_by (plan_of bytes) all bytes)
-    ++ said_text (is_key_of bytes) reading (file_note bytes) (known_of (plan_of bytes) bytes)
+    ++ said_text (is_key_of bytes) reading (file_words bytes) (known_of (plan_of bytes) bytes)
 
 -- ---- the line above
 
@@ -74,21 +75,17 @@ pem_heading line label found has_end =
 abbrev pub armour_heading : Found → ArmourView → List ℕ
 armour_heading found armour = pem_heading armour.line armour.label found armour.has_end
 
--- of a text with no block, if bytes were decoded
-abbrev pub text_heading : List ℕ → Found → Option (List ℕ)
-text_heading text founds.Itself = None
-text_heading text (founds.Said note) = None
-text_heading text (founds.Decoded encodings.Pem flaw len) =
-    option_map (armour_heading (founds.Decoded encodings.Pem flaw len)) (armour_of text)
-text_heading text (founds.Decoded encodings.Hexadecimal flaw len) =
-    Some (codes "hexadecimal: " ++ found_text (founds.Decoded encodings.Hexadecimal flaw len))
-text_heading text (founds.Decoded encodings.Base64 flaw len) =
-    Some (codes "base64: " ++ found_text (founds.Decoded encodings.Base64 flaw len))
+-- of a text with no block, of which bytes were decoded
+abbrev pub text_heading : List ℕ → Encoding → Found → Option (List ℕ)
+text_heading text encodings.Pem found = option_map (armour_heading found) (armour_of text)
+text_heading text encodings.Hexadecimal found = Some (codes "hexadecimal: " ++ found_text found)
+text_heading text encodings.Base64 found = Some (codes "base64: " ++ found_text found)
 
 abbrev pub heading_of : SourceView → Found → Option (List ℕ)
 heading_of (Pem block is_read) found = Some (pem_heading block.line block.label found block.has_end)
-heading_of (Text text) found = text_heading text found
-heading_of _ found = None
+heading_of (Text text) (founds.Decoded encoding flaw len) =
+    text_heading text encoding (founds.Decoded encoding flaw len)
+heading_of source found = None
 
 abbrev pub heading_line : Option (List ℕ) → List ℕ
 heading_line None = []

@@ -1,9 +1,9 @@
 -- What hexadecimal and base64 encode.
-use Rattle.std.specs.Prelude.{◌≡◌, ℕ, ◌+◌, ◌≤◌, ◌==◌, ◌||◌, ◌&&◌, nat_eq, Bool, List, [], ◌∷◌}
+use Rattle.std.specs.Prelude.{◌≡◌, ℕ, ◌≤◌, ◌==◌, ◌||◌, ◌&&◌, Bool, List, [], ◌∷◌}
 use Rattle.std.specs.Prelude.{length, take, if◌then◌else◌, Option, Some, None}
 use Rattle.std.specs.Prelude.{Result, Ok, Err, true, false}
 use Rattle.std.specs.Char.{is_ascii_alphanumeric}
-use Rattle.std.specs.List.{cons_option, starts_with}
+use Rattle.std.specs.List.{cons_option}
 use Rattle.base64.specs.Engines.{standard, standard_no_pad}
 use Rattle.base64.specs.GeneralPurpose.{decode_of as base64_decode_of}
 use Rattle.hex.specs.Hex.{decode_of as hex_decode_of}
@@ -52,19 +52,8 @@ hex_digits (byte ∷ next ∷ text) =
     else byte ∷ next ∷ hex_digits text)
 
 -- the bytes that hexadecimal digits encode; None if these aren't such digits
-abbrev pub hex_bytes : List ℕ → Option (List ℕ)
+unfoldable pub hex_bytes : List ℕ → Option (List ℕ)
 hex_bytes text = found_of (hex_decode_of (hex_digits text))
-
--- the first place from this one on at which a text has another
-abbrev pub place_from : ℕ → List ℕ → List ℕ → Option ℕ
-place_from place [] other = None
-place_from place (byte ∷ bytes) other =
-    if starts_with nat_eq (byte ∷ bytes) other then Some place
-    else place_from (place + 1) bytes other
-
--- the first place at which a text has another
-unfoldable pub place_of : List ℕ → List ℕ → Option ℕ
-place_of text other = place_from 0 text other
 
 -- ---- base64 that is no such
 

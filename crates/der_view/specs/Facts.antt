@@ -1,8 +1,9 @@
 -- What is printed of a row.
 use Rattle.std.specs.Prelude.{ℕ, ◌-◌, ◌/◌, ◌%◌, ◌==◌, ◌&&◌, ◌||◌, not, nat_lt, Bool, true, false}
 use Rattle.std.specs.Prelude.{if◌then◌else◌, List, [], ◌∷◌, length, Option, Some, None, is_some}
-use Rattle.std.specs.Prelude.{option_map, slice_index_or}
+use Rattle.std.specs.Prelude.{slice_index_or}
 use Rattle.std.specs.List.{list_any}
+use Rattle.std.specs.Option.{option_map_or}
 use Rattle.der_view.specs.Grammar.{Component, Form}
 use Rattle.der_view.specs.Headers.{is_type}
 use Rattle.der_view.specs.Marks.{content_fault, length_fault, string_fault, tag_fault}
@@ -15,6 +16,7 @@ use Rattle.der_view.specs.declared.facts.Point.TheVariants as points
 use Rattle.der_view.specs.declared.facts.RowFacts.{RowFacts}
 use Rattle.der_view.specs.declared.facts.Shown.{Shown}
 use Rattle.der_view.specs.declared.facts.Shown.TheVariants as shows
+use Rattle.der_view.specs.declared.facts.TheConstants.{PRIVATE_NAMES}
 use Rattle.der_view.specs.declared.grammar.Content.{Content}
 use Rattle.der_view.specs.declared.grammar.Content.TheVariants as contents
 use Rattle.der_view.specs.declared.grammar.forms.Secrecy.TheVariants as secrecies
@@ -23,7 +25,6 @@ use Rattle.der_view.specs.declared.grammar.name.Name.TheVariants as names
 use Rattle.der_view.specs.declared.header.Class.{Class}
 use Rattle.der_view.specs.declared.header.Class.TheVariants as classes
 use Rattle.der_view.specs.declared.header.Tag.{Tag}
-use Rattle.der_view.specs.declared.marks.Fault.{Fault}
 use Rattle.der_view.specs.declared.marks.Fault.TheVariants as faults
 use Rattle.der_view.specs.declared.marks.Mark.{Mark}
 use Rattle.der_view.specs.declared.marks.Mark.TheVariants as marks
@@ -80,24 +81,13 @@ shown_name plan name =
 
 -- the components with private bytes
 abbrev pub is_private_name : Name → Bool
-is_private_name name =
-    list_any (same_name name) (names.PrivateKey ∷ names.TheKey ∷ names.PrivateExponent
-    ∷ names.Prime1 ∷ names.Prime2 ∷ names.Exponent1 ∷ names.Exponent2 ∷ names.Coefficient
-    ∷ names.OtherPrimeInfos ∷ names.X ∷ [])
+is_private_name name = list_any (same_name name) PRIVATE_NAMES
 
 -- ---- contents
 
 abbrev pub is_count : Shown → Bool
 is_count shows.Count = true
 is_count _ = false
-
-abbrev pub announces : Option ℕ → ℕ → Bool
-announces (Some announced) len = announced == len
-announces None len = false
-
-abbrev pub is_point : Content → Bool
-is_point contents.Point = true
-is_point _ = false
 
 -- SEC1 v2.0 section 2.3.3: the form of the point that begins with this byte, before so many others
 abbrev pub point_of : ℕ → ℕ → Point
@@ -124,14 +114,15 @@ point_shown tag len (first ∷ rest) =
 abbrev pub is_all : ElementView → Bool
 is_all element =
     not element.header.tag.constructed
-    && announces element.header.content_len (length element.shown)
+    && option_map_or (λ len. len == length element.shown) element.header.content_len false
+
+abbrev pub content_shown : Content → ElementView → Shown
+content_shown contents.Point element = point_shown element.header.tag element.len element.shown
+content_shown _ element = if is_all element then shows.Value else shows.Count
 
 abbrev pub shown_by : ElementView → Shown
 shown_by element =
-    if element.opened then shows.Nothing
-    else (if is_point element.component.2
-    then point_shown element.header.tag element.len element.shown
-    else (if is_all element then shows.Value else shows.Count))
+    if element.opened then shows.Nothing else content_shown element.component.2 element
 
 -- ---- marks
 
@@ -142,13 +133,13 @@ missing_mark (Some announced) len =
 
 -- what is wrong with a content of this class and type, of which all is shown or the first bytes:
 -- of a BIT STRING the number of unused bits (X.690 section 8.6.2.2)
-abbrev pub class_fault : Class → ℕ → Bool → List ℕ → Option Fault
+abbrev pub class_fault : Class → ℕ → Bool → List ℕ → Option Mark
 class_fault classes.Universal number true shown = content_fault number shown
 class_fault classes.Universal number false (unused ∷ bytes) =
-    if number == 3 && nat_lt 7 unused then Some faults.UnusedAboveSeven else None
+    if number == 3 && nat_lt 7 unused then Some (marks.Fault faults.UnusedAboveSeven) else None
 class_fault _ number all shown = None
 
-abbrev pub shown_fault : ElementView → Option Fault
+abbrev pub shown_fault : ElementView → Option Mark
 shown_fault element =
     class_fault element.header.tag.class element.header.tag.number (is_all element) element.shown
 
@@ -160,17 +151,10 @@ misfit_mark plan follows =
 abbrev pub element_marks : Plan → ElementView → List (Option Mark)
 element_marks plan element =
     missing_mark element.header.content_len element.len
-    ∷ option_map marks.Fault (tag_fault element.head element.header.tag.number)
-    ∷ option_map marks.Fault (length_fault element.header.content_len
-    (element.header.len - element.header.tag_len))
-    ∷ option_map marks.Fault (string_fault element.header.tag)
-    ∷ option_map marks.Fault (shown_fault element)
+    ∷ tag_fault element.head element.header.tag.number
+    ∷ length_fault element.header.content_len (element.header.len - element.header.tag_len)
+    ∷ string_fault element.header.tag ∷ shown_fault element
     ∷ misfit_mark plan element.follows ∷ []
-
-abbrev pub not_drawn_mark : Plan → Place → Option Mark
-not_drawn_mark plan place =
-    if place.depth == 0 && nat_lt 0 place.offset then Some marks.AfterRoot
-    else misfit_mark plan false
 
 -- ---- rows
 
@@ -217,7 +201,9 @@ end_row place = record (bare_row place kinds.EndOfContents 0) { head = 0 ∷ 0 �
 
 abbrev pub not_drawn_row : Plan → Place → List Component → ℕ → List ℕ → RowView
 not_drawn_row plan place expected len content = record (bare_row place kinds.NotDrawn len) {
-  marks = not_drawn_mark plan place ∷ None ∷ None ∷ None ∷ None ∷ None ∷ [];
+  marks =
+      (if place.depth == 0 && nat_lt 0 place.offset then Some marks.AfterRoot
+      else misfit_mark plan false) ∷ None ∷ None ∷ None ∷ None ∷ None ∷ [];
   expected = expected;
   content = content;
 }

@@ -2,8 +2,10 @@
 -- of structures is that of the code.
 use Rattle.std.specs.Prelude.{◌≡◌, ◌≤◌, ◌==◌, ◌||◌, ◌&&◌, ℕ, zero, suc, ◌+◌, ◌-◌, Bool, true, false}
 use Rattle.std.specs.Prelude.{List, [], ◌∷◌, length, Option, Some, None, IfSome, option_map, Result}
-use Rattle.std.specs.Prelude.{Ok, Err, if◌then◌else◌}
+use Rattle.std.specs.Prelude.{Ok, Err, if◌then◌else◌, slice_get}
 use Rattle.std.specs.Option.{option_and_then, option_or}
+use Rattle.std.specs.Result.{result_map_both}
+use denote.Enum.Declared.{tag_of}
 use Rattle.der_types.specs.Contents.{is_boolean}
 use Rattle.der_types.specs.Defaults.{other_fault}
 use Rattle.der_types.specs.Integers.{is_integer}
@@ -13,10 +15,11 @@ use Rattle.pkix.specs.Records.{attribute_fault, identifier_fault, key_attribute_
 use Rattle.pkix.specs.Records.{unsigned_fault}
 use Rattle.pkix.specs.Versions.{is_later_version}
 use Rattle.der_view.specs.Containers.{has_version_one}
+use Rattle.der_view.specs.contracts.faults.table.Rule.{the_type}
 use Rattle.der_view.specs.declared.faults.Position.{Position}
 use Rattle.der_view.specs.declared.faults.table.Rule.{Rule}
 use Rattle.der_view.specs.declared.faults.table.Rule.TheVariants as rules
-use Rattle.der_view.specs.declared.faults.table.TheConstants as table
+use Rattle.der_view.specs.declared.faults.table.TheConstants.{ONE_ASYMMETRIC_KEY, STRUCTURES}
 use Rattle.der_view.specs.declared.grammar.Presence.{Presence}
 use Rattle.der_view.specs.declared.grammar.Presence.TheVariants.{Needed, Optional, Many}
 use Rattle.sec1_der.specs.Contents.{bit_string_fault, byte_fault, value_unless, whole_bits_fault}
@@ -38,15 +41,10 @@ Place = ℕ → List ℕ → Option Position
 abbrev pub before : ℕ → List ℕ → ErrorKind → Position
 before end left kind = record { offset = end - length left; kind = kind }
 
--- a fault before as many bytes as are left, if there is one that says its kind
-abbrev pub placed : ℕ → List ℕ → Option (Option ErrorKind) → Option Position
-placed end left None = None
-placed end left (Some None) = None
-placed end left (Some (Some kind)) = Some (before end left kind)
-
 -- at the first byte, by a kind of the whole; for a rule that says its kinds
 abbrev pub at_first : Fault → Place
-at_first fault end bytes = placed end bytes (fault bytes)
+at_first fault end bytes =
+    option_map (before end bytes) (option_and_then (λ said. said) (fault bytes))
 
 -- at the first byte, if there is one
 abbrev pub at_end : ErrorKind → Place
@@ -60,17 +58,13 @@ fits expected tag =
     else (if expected == 0x17 then tag == 0x17 || tag == 0x18
     else is_tag expected && tag == expected)
 
--- a tag, and the content and the bytes after it, which begin after this length
-abbrev pub parts_at : ℕ → ℕ → List ℕ → Result (List ℕ × List ℕ) ErrorKind
-    → Result (ℕ × List ℕ × List ℕ) Position
-parts_at tag end bytes (Err kind) = Err (before end bytes kind)
-parts_at tag end bytes (Ok x) = Ok (tag, x.0, x.1)
-
--- X.690 section 8.1.1: the element that bytes begin with, whose tag is checked before its length
+-- X.690 section 8.1.1: the element that bytes begin with, whose tag is checked before its length:
+-- the tag, the content, and the bytes after it
 abbrev pub element_at : ℕ → ℕ → List ℕ → Result (ℕ × List ℕ × List ℕ) Position
 element_at expected end [] = Err (before end [] kinds.Truncated)
 element_at expected end (tag ∷ bytes) =
-    if fits expected tag then parts_at tag end bytes (content_at bytes)
+    if fits expected tag
+    then result_map_both (λ x. (tag, x.0, x.1)) (before end bytes) (content_at bytes)
     else Err (before end (tag ∷ bytes) kinds.Tag)
 
 -- in the element, in its content, or in the bytes after it, in this order
@@ -103,30 +97,16 @@ row_place content (suc most) ((expected, presence, rule) ∷ others) end bytes =
     (element_at expected end bytes)
     else row_place content most others end bytes
 
+-- the components of a structure
+abbrev pub structure_of : Rule → Option (List Component)
+structure_of rule = option_map (λ row. row.now) (slice_get STRUCTURES (tag_of the_type rule))
+
 -- the components that the content of an element with this tag is
 abbrev pub inside_of : Rule → ℕ → List ℕ → Option (List Component)
-inside_of rules.Tree tag content = if is_constructed tag then Some table.TREES else None
-inside_of rules.EcPrivateKey tag content = Some table.EC_PRIVATE_KEY
-inside_of rules.Curve tag content = Some table.CURVE
-inside_of rules.Point tag content = Some table.POINT
-inside_of rules.Signature tag content = Some table.NUMBERS
-inside_of rules.Algorithm tag content = Some table.ALGORITHM
-inside_of rules.PublicKeyInfo tag content = Some table.PUBLIC_KEY_INFO
+inside_of rules.Tree tag content = if is_constructed tag then structure_of rules.Tree else None
 inside_of rules.Container tag content =
-    if has_version_one content then Some table.ONE_ASYMMETRIC_KEY else Some table.PRIVATE_KEY_INFO
-inside_of rules.KeyAttributes tag content = Some table.KEY_ATTRIBUTES
-inside_of rules.KeyAttribute tag content = Some table.KEY_ATTRIBUTE
-inside_of rules.Certificate tag content = Some table.CERTIFICATE
-inside_of rules.TbsCertificate tag content = Some table.TBS_CERTIFICATE
-inside_of rules.Version tag content = Some table.VERSION
-inside_of rules.Name tag content = Some table.NAME
-inside_of rules.RelativeName tag content = Some table.RELATIVE_NAME
-inside_of rules.NameAttribute tag content = Some table.NAME_ATTRIBUTE
-inside_of rules.Validity tag content = Some table.VALIDITY
-inside_of rules.ExtensionsField tag content = Some table.EXTENSIONS_FIELD
-inside_of rules.Extensions tag content = Some table.EXTENSIONS
-inside_of rules.Extension tag content = Some table.EXTENSION
-inside_of _ tag content = None
+    if has_version_one content then Some ONE_ASYMMETRIC_KEY else structure_of rules.Container
+inside_of rule tag content = structure_of rule
 
 -- the fault of a content as a whole, which is tested after its components
 abbrev pub own_fault : Rule → ℕ → Fault

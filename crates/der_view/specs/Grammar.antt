@@ -1,9 +1,10 @@
--- The table of structures in the code, as definitions read it.
-use Rattle.std.specs.Prelude.{ℕ, List, []}
+-- The tables of structures in the code, as definitions read them.
+use Rattle.std.specs.Prelude.{ℕ, List, [], slice_index_or}
+use denote.Enum.Declared.{tag_of}
+use Rattle.der_view.specs.contracts.grammar.family.Family.{the_type as families}
 use Rattle.der_view.specs.declared.grammar.Content.{Content}
 use Rattle.der_view.specs.declared.grammar.family.Family.{Family}
-use Rattle.der_view.specs.declared.grammar.family.Family.TheVariants as families
-use Rattle.der_view.specs.declared.grammar.family.TheConstants as fronts
+use Rattle.der_view.specs.declared.grammar.family.TheConstants.{IDENTIFIERS}
 use Rattle.der_view.specs.declared.grammar.forms.Secrecy.{Secrecy}
 use Rattle.der_view.specs.declared.grammar.name.Name.{Name}
 use Rattle.der_view.specs.declared.grammar.name.Name.TheVariants as names
@@ -23,23 +24,7 @@ Form = Component × Secrecy
 
 -- what the contents of identifiers of a family begin with
 unfoldable pub identifiers : Family → List ℕ
-identifiers families.EcPublicKey = fronts.EC_PUBLIC_KEY
-identifiers families.Rsa = fronts.RSA
-identifiers families.Dsa = fronts.DSA
-identifiers families.DiffieHellman = fronts.DIFFIE_HELLMAN
-identifiers families.DhPublicNumber = fronts.DH_PUBLIC_NUMBER
-identifiers families.Edwards = fronts.EDWARDS
-identifiers families.Cms = fronts.CMS
-identifiers families.Pbes = fronts.PBES
-identifiers families.Pkcs12Pbe = fronts.PKCS12_PBE
-identifiers families.Bag = fronts.BAG
-identifiers families.Field = fronts.FIELD
-identifiers families.Sha = fronts.SHA
-identifiers families.Sha1 = fronts.SHA1
-identifiers families.Md = fronts.MD
-identifiers families.Ocsp = fronts.OCSP
-identifiers families.SubjectKey = fronts.SUBJECT_KEY
-identifiers families.AuthorityKey = fronts.AUTHORITY_KEY
+identifiers family = (slice_index_or IDENTIFIERS (tag_of families family) record { now = [] }).now
 
 -- the components of a structure
 unfoldable pub components : Structure → List Component

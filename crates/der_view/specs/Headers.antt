@@ -2,6 +2,7 @@
 use Rattle.std.specs.Prelude.{◌==◌, ℕ, zero, suc, ◌+◌, ◌-◌, ◌*◌, ◌/◌, ◌%◌, nat_lt, ◌||◌}
 use Rattle.std.specs.Prelude.{if◌then◌else◌, List, [], ◌∷◌, length, take, drop, Option, Some, None}
 use Rattle.std.specs.Prelude.{is_none, Result, Ok, Err, ◌&&◌, not, Bool, false}
+use Rattle.std.specs.Result.{result_map_both}
 use Rattle.sec1_der.specs.Elements.{number_of}
 use Rattle.der_view.specs.declared.header.Class.{Class}
 use Rattle.der_view.specs.declared.header.Class.TheVariants as classes
@@ -21,10 +22,6 @@ tag_of first number = record {
   number = number;
 }
 
-abbrev pub one_byte_more : Result (ℕ × ℕ) ElementFault → Result (ℕ × ℕ) ElementFault
-one_byte_more (Err fault) = Err fault
-one_byte_more (Ok (number, len)) = Ok (number, len + 1)
-
 -- X.690 section 8.1.2.4.2: the number in the bytes after the first one, 7 bits in each, up to the
 -- one whose bit 8 is zero, and how many these are; `high` is the number in those before. At most so
 -- many are read.
@@ -33,11 +30,8 @@ number_after zero high bytes = Err faults.TagTooLarge
 number_after (suc most) high [] = Err faults.TagCut
 number_after (suc most) high (byte ∷ bytes) =
     if nat_lt byte 0x80 then Ok (high * 0x80 + byte, 1)
-    else one_byte_more (number_after most (high * 0x80 + byte % 0x80) bytes)
-
-abbrev pub high_tag : ℕ → Result (ℕ × ℕ) ElementFault → Result (Tag × ℕ) ElementFault
-high_tag first (Err fault) = Err fault
-high_tag first (Ok (number, len)) = Ok (tag_of first number, len + 1)
+    else result_map_both (λ found. (found.0, found.1 + 1)) (λ fault. fault)
+    (number_after most (high * 0x80 + byte % 0x80) bytes)
 
 -- X.690 section 8.1.2: the tag that bytes begin with, and how many bytes it is of. Its number is
 -- in bits 5 to 1 of the first byte; if these are all one, it is in up to four more. 00 and 20 are
@@ -47,7 +41,8 @@ tag_at [] = Err faults.TagCut
 tag_at (first ∷ bytes) =
     if first == 0x00 || first == 0x20 then Err (faults.ReservedTag first)
     else (if nat_lt (first % 0x20) 0x1F then Ok (tag_of first (first % 0x20), 1)
-    else high_tag first (number_after 4 0 bytes))
+    else result_map_both (λ found. (tag_of first found.0, found.1 + 1)) (λ fault. fault)
+    (number_after 4 0 bytes))
 
 -- the greatest length of a content in bytes: 2^24 - 1
 abbrev pub max_content_len : ℕ

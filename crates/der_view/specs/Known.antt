@@ -1,10 +1,8 @@
 -- What is known of bytes by their rows.
-use Rattle.std.specs.Prelude.{ℕ, ◌+◌, ◌^◌, ◌-◌, ◌==◌, ◌&&◌, ◌||◌, not, max, min, nat_lt, Bool, true}
+use Rattle.std.specs.Prelude.{ℕ, ◌+◌, ◌^◌, ◌-◌, ◌==◌, ◌&&◌, ◌||◌, not, min, nat_lt, Bool, true}
 use Rattle.std.specs.Prelude.{false, if◌then◌else◌, List, [], ◌∷◌, length, slice_index_or}
-use Rattle.std.specs.Prelude.{Option, Some, None, is_none}
-use Rattle.std.specs.List.{fold}
-use Rattle.std.proofs.Common.{◌≡◌, ◌++◌, sym, ap, ◌∙◌}
-use Rattle.std.proofs.lemmas.Grind.{fold-append}
+use Rattle.std.specs.Prelude.{Option, Some, None, is_some}
+use Rattle.std.specs.List.{list_any}
 use Rattle.der_view.specs.Facts.{RowView, is_told, row_of}
 use Rattle.der_view.specs.Grammar.{Component, Form}
 use Rattle.der_view.specs.Headers.{is_type}
@@ -20,11 +18,13 @@ use Rattle.der_view.specs.declared.marks.Fault.TheVariants as faults
 use Rattle.der_view.specs.declared.marks.Mark.{Mark}
 use Rattle.der_view.specs.declared.marks.Mark.TheVariants as marks
 use Rattle.der_view.specs.declared.plan.Plan.{Plan}
+use Rattle.der_view.specs.declared.walk.Place.{Place}
 
 -- before the first row
 abbrev pub nothing_known : Plan → Known
 nothing_known plan = record {
   plan = plan;
+  first_mark = None;
   marked = None;
   is_damaged = false;
   is_explicit = false;
@@ -49,19 +49,15 @@ abbrev pub is_after : Option Mark → Bool
 is_after (Some marks.AfterRoot) = true
 is_after _ = false
 
--- the weight of a mark: 1 of one that says what a command repairs, a length, a constructed string
--- or bytes after the root, and 2 of another
-abbrev pub weight : Option Mark → ℕ
-weight None = 0
-weight (Some marks.AfterRoot) = 1
-weight (Some (marks.Fault faults.Length)) = 1
-weight (Some (marks.Fault faults.Indefinite)) = 1
-weight (Some (marks.Fault faults.ConstructedString)) = 1
-weight (Some _) = 2
-
-abbrev pub worst : List (Option Mark) → ℕ
-worst [] = 0
-worst (mark ∷ others) = max (weight mark) (worst others)
+-- a mark that doesn't say what a command repairs: a length, a constructed string or bytes after the
+-- root
+abbrev pub is_harm : Option Mark → Bool
+is_harm None = false
+is_harm (Some marks.AfterRoot) = false
+is_harm (Some (marks.Fault faults.Length)) = false
+is_harm (Some (marks.Fault faults.Indefinite)) = false
+is_harm (Some (marks.Fault faults.ConstructedString)) = false
+is_harm (Some _) = true
 
 abbrev pub is_sequence : Kind → Bool
 is_sequence (kinds.Element tag) = is_type tag 16 && tag.constructed
@@ -80,14 +76,19 @@ abbrev pub root_len_by : List ℕ → Option ℕ → Option ℕ → Option ℕ
 root_len_by head None old = old
 root_len_by head (Some len) old = Some (min (length head + len) (2 ^ 64 - 1))
 
+-- the offset of the first row that was meant, or else of this one, if it is
+abbrev pub first_place : Option ℕ → Bool → Place → Option ℕ
+first_place (Some offset) is_meant place = Some offset
+first_place None is_meant place = if is_meant then Some place.offset else None
+
 -- what a row tells by its marks, and the root by its length
 abbrev pub with_marks : Known → RowView → Known
 with_marks known row = record known {
-  marked = if is_none known.marked && (is_left row.kind || nat_lt 0 (worst row.marks))
-      then Some row.place.offset else known.marked;
+  first_mark = first_place known.first_mark (list_any is_some row.marks) row.place;
+  marked = first_place known.marked (is_left row.kind || list_any is_some row.marks) row.place;
   is_damaged = known.is_damaged
       || ((is_left row.kind && not (is_after (slice_index_or row.marks 0 None)))
-      || (not (gives_curve row) && nat_lt 1 (worst row.marks)));
+      || (not (gives_curve row) && list_any is_harm row.marks));
   is_explicit = known.is_explicit || gives_curve row;
   root_len = if row.place.offset == 0 then root_len_by row.head row.announced known.root_len
       else known.root_len;
@@ -149,13 +150,3 @@ unfoldable pub with_next : Known → Row → Known
 with_next known row =
     if is_told (row_of known.plan false row)
     then with_row known (name_of_row row) (row_of known.plan false row) else known
-
--- what is known of rows after this
-abbrev pub with_rows : Known → List Row → Known
-with_rows known rows = fold with_next known rows
-
-pub with_rows-join : (a b c : Known) (first second : List Row) → b ≡ with_rows a first
-    → c ≡ with_rows b second → c ≡ with_rows a (first ++ second)
-with_rows-join a b c first second one two =
-    two ∙ (ap (λ (known : Known). with_rows known second) one ∙ sym
-    (fold-append with_next a first second))

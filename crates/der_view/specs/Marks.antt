@@ -1,9 +1,11 @@
 -- What is marked below a row.
-use Rattle.std.specs.Prelude.{◌==◌, ◌&&◌, ◌||◌, ◌-◌, ◌%◌, ◌^◌, ℕ, nat_le, nat_lt, Bool, true, false}
-use Rattle.std.specs.Prelude.{if◌then◌else◌, List, [], ◌∷◌, ◌++◌, length, codes, slice_index, not}
-use Rattle.std.specs.Prelude.{Option, Some, None}
+use Rattle.std.specs.Prelude.{◌==◌, ◌&&◌, ◌||◌, ◌-◌, ◌%◌, ◌^◌, ℕ, nat_le, nat_lt, Bool, false, true}
+use Rattle.std.specs.Prelude.{if◌then◌else◌, List, [], ◌∷◌, ◌++◌, length, codes, not, slice_index}
+use Rattle.std.specs.Prelude.{slice_index_or, Option, Some, None}
+use Rattle.std.specs.Bool.{then_some}
 use Rattle.std.specs.Fmt.{decimal}
 use Rattle.std.specs.List.{concat}
+use denote.Enum.Declared.{tag_of as variant_of}
 use Rattle.hex.specs.Hex.{encode_upper}
 use Rattle.der_types.specs.ObjectIdentifiers.{is_object_identifier}
 use Rattle.der_types.specs.Times.{is_generalized_time, is_utc_time}
@@ -12,8 +14,9 @@ use Rattle.der_view.specs.Grammar.{Component}
 use Rattle.der_view.specs.Headers.{tag_of}
 use Rattle.der_view.specs.Types.{type_name, type_word}
 use Rattle.der_view.specs.Words.{name_text}
+use Rattle.der_view.specs.contracts.marks.Fault.{the_type}
 use Rattle.der_view.specs.declared.grammar.Presence.{Presence}
-use Rattle.der_view.specs.declared.grammar.Presence.TheVariants as presences
+use Rattle.der_view.specs.declared.grammar.Presence.TheVariants.{Needed}
 use Rattle.der_view.specs.declared.header.Class.{Class}
 use Rattle.der_view.specs.declared.header.Class.TheVariants as classes
 use Rattle.der_view.specs.declared.header.Tag.{Tag}
@@ -21,21 +24,22 @@ use Rattle.der_view.specs.declared.marks.Fault.{Fault}
 use Rattle.der_view.specs.declared.marks.Fault.TheVariants as faults
 use Rattle.der_view.specs.declared.marks.Mark.{Mark}
 use Rattle.der_view.specs.declared.marks.Mark.TheVariants as marks
+use Rattle.der_view.specs.declared.marks.TheConstants.{FAULTS}
 
 -- ---- which rules aren't kept
 
 -- X.690 sections 8.1.2.2 and 8.1.2.4.2: a number below 31 is in the first byte, and the first byte
 -- after that isn't 80
-abbrev pub tag_fault : List ℕ → ℕ → Option Fault
+abbrev pub tag_fault : List ℕ → ℕ → Option Mark
 tag_fault head number =
     if slice_index head 0 % 0x20 == 0x1F
-    then (if slice_index head 1 == 0x80 then Some faults.PaddedTag
-    else (if nat_lt number 31 then Some faults.LowTag else None))
+    then (if slice_index head 1 == 0x80 then Some (marks.Fault faults.PaddedTag)
+    else (if nat_lt number 31 then Some (marks.Fault faults.LowTag) else None))
     else None
 
 -- a fault of what isn't as it has to be
-abbrev pub fault_unless : Bool → Fault → Option Fault
-fault_unless passes fault = if passes then None else Some fault
+abbrev pub fault_unless : Bool → Fault → Option Mark
+fault_unless passes fault = then_some (not passes) (marks.Fault fault)
 
 -- X.690 sections 8.1.3.4 and 8.1.3.5: the number of bytes of the shortest form of a length
 abbrev pub length_len : ℕ → ℕ
@@ -44,8 +48,8 @@ length_len len =
     else (if nat_lt len 0x100 then 2 else (if nat_lt len 0x10000 then 3 else 4))
 
 -- X.690 section 10.1: the length is definite and in its shortest form
-abbrev pub length_fault : Option ℕ → ℕ → Option Fault
-length_fault None len = Some faults.Indefinite
+abbrev pub length_fault : Option ℕ → ℕ → Option Mark
+length_fault None len = Some (marks.Fault faults.Indefinite)
 length_fault (Some content_len) len =
     fault_unless (nat_le len (length_len content_len)) faults.Length
 
@@ -58,27 +62,27 @@ is_string classes.Universal number =
 is_string _ number = false
 
 -- X.690 section 10.2: no string is constructed
-abbrev pub string_fault : Tag → Option Fault
+abbrev pub string_fault : Tag → Option Mark
 string_fault tag =
     fault_unless (not (tag.constructed && is_string tag.class tag.number)) faults.ConstructedString
 
 -- X.690 sections 8.2.1 and 11.1: one byte, 00 or FF
-abbrev pub boolean_fault : List ℕ → Option Fault
+abbrev pub boolean_fault : List ℕ → Option Mark
 boolean_fault (byte ∷ []) = fault_unless (byte == 0x00 || byte == 0xFF) faults.TrueIsFf
-boolean_fault _ = Some faults.BooleanLength
+boolean_fault _ = Some (marks.Fault faults.BooleanLength)
 
 -- X.690 sections 8.6.2.2, 8.6.2.3 and 11.2.1: the number of unused bits, and the bytes: at most 7
 -- unused bits, none of no byte, and all 0
-abbrev pub bits_fault : List ℕ → Option Fault
-bits_fault [] = Some faults.EmptyBitString
+abbrev pub bits_fault : List ℕ → Option Mark
+bits_fault [] = Some (marks.Fault faults.EmptyBitString)
 bits_fault (unused ∷ bytes) =
-    if nat_lt 7 unused then Some faults.UnusedAboveSeven
+    if nat_lt 7 unused then Some (marks.Fault faults.UnusedAboveSeven)
     else (if length bytes == 0 then fault_unless (unused == 0) faults.UnusedInEmpty
     else fault_unless (slice_index bytes (length bytes - 1) % 2 ^ unused == 0) faults.UnusedNotZero)
 
 -- what is wrong with the content of the type of X.680 with this tag number: X.690 sections 8.2,
 -- 8.3.1, 8.6, 8.8.2, 8.19.2, 11.8, 11.7, and for the strings of characters 8.23
-abbrev pub content_fault : ℕ → List ℕ → Option Fault
+abbrev pub content_fault : ℕ → List ℕ → Option Mark
 content_fault number content =
     if number == 1 then boolean_fault content
     else (if number == 2 || number == 10
@@ -89,7 +93,7 @@ content_fault number content =
     else (if number == 23 then fault_unless (is_utc_time content) faults.UtcTime
     else (if number == 24
     then fault_unless (is_generalized_time content) faults.GeneralizedTime
-    else fault_unless (are_characters number content) (faults.Characters number)))))))
+    else then_some (not (are_characters number content)) (marks.Characters number)))))))
 
 -- ---- their words
 
@@ -100,33 +104,6 @@ byte_word count = if count == 1 then codes " byte" else codes " bytes"
 abbrev pub bytes_text : ℕ → List ℕ
 bytes_text count = concat (decimal count ∷ byte_word count ∷ [])
 
-abbrev pub fault_words : Fault → List ℕ
-fault_words faults.LowTag = codes "tag number below 31 in the high form (X.690 8.1.2.2)"
-fault_words faults.PaddedTag = codes "tag number with a needless byte 80 (X.690 8.1.2.4.2)"
-fault_words faults.Length = codes "length in more bytes than needed (X.690 10.1)"
-fault_words faults.Indefinite =
-    codes "indefinite length (X.690 8.1.3.6); DER has definite ones (10.1)"
-fault_words faults.ConstructedString =
-    codes "constructed string; DER has primitive ones (X.690 10.2)"
-fault_words faults.TrueIsFf = codes "TRUE is FF (X.690 11.1)"
-fault_words faults.BooleanLength = codes "BOOLEAN has 1 byte (X.690 8.2.1)"
-fault_words faults.EmptyInteger = codes "INTEGER has a byte or more (X.690 8.3.1)"
-fault_words faults.NullContent = codes "NULL has no content (X.690 8.8.2)"
-fault_words faults.NoIdentifier = codes "no identifier (X.690 8.19.2)"
-fault_words faults.EmptyBitString = codes "BIT STRING has a byte or more (X.690 8.6.2.2)"
-fault_words faults.UnusedAboveSeven = codes "more than 7 unused bits (X.690 8.6.2.2)"
-fault_words faults.UnusedInEmpty =
-    codes "unused bits in an empty BIT STRING (X.690 8.6.2.3)"
-fault_words faults.UnusedNotZero = codes "unused bits that aren't 0 (X.690 11.2.1)"
-fault_words faults.UtcTime = codes "not YYMMDDhhmmssZ (X.690 11.8)"
-fault_words faults.GeneralizedTime = codes "not YYYYMMDDhhmmss[.f]Z (X.690 11.7)"
-fault_words (faults.Characters number) =
-    concat (codes "not the characters of " ∷ type_word number ∷ [])
-
--- a name and a comma, if there is a name
-abbrev pub name_front : List ℕ → List ℕ
-name_front name = if length name == 0 then [] else concat (name ∷ codes ", " ∷ [])
-
 -- the type with this byte of a tag in the low form (X.690 section 8.1.2), and the byte
 abbrev pub tag_words : ℕ → List ℕ
 tag_words byte =
@@ -135,11 +112,14 @@ tag_words byte =
     else type_name (tag_of byte (byte % 0x20))
     ++ (codes " (" ++ (encode_upper (byte ∷ []) ++ codes ")")))
 
+-- a name and a comma, if there is a name, and the tag
 abbrev pub component_text : Component → List ℕ
-component_text component = name_front (name_text component.3) ++ tag_words component.0
+component_text component =
+    let name = name_text component.3 in
+    name ++ ((if length name == 0 then [] else codes ", ") ++ tag_words component.0)
 
 abbrev pub is_needed : Presence → Bool
-is_needed presences.Needed = true
+is_needed Needed = true
 is_needed _ = false
 
 -- the components that could come, up to the first that has to, or else the end
@@ -154,6 +134,10 @@ abbrev pub mark_words : Mark → List Component → List ℕ
 mark_words (marks.Missing missing announced) expected =
     concat (decimal missing ∷ codes " of " ∷ decimal announced ∷ byte_word announced
     ∷ codes " missing" ∷ [])
-mark_words (marks.Fault fault) expected = fault_words fault
+mark_words (marks.Fault fault) expected =
+    (slice_index_or FAULTS (variant_of the_type fault)
+    (record { now = [] }, record { now = [] })).1.now
+mark_words (marks.Characters number) expected =
+    concat (codes "not the characters of " ∷ type_word number ∷ [])
 mark_words marks.Expected expected = codes "expected " ++ expected_text expected
 mark_words marks.AfterRoot expected = codes "after the end of the root"

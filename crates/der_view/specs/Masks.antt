@@ -1,6 +1,7 @@
 -- Bytes in which each that isn't shown is 0, and each that isn't drawn FF.
 use Rattle.std.specs.Prelude.{◌≡◌, ◌+◌, ℕ, zero, suc, Bool, false, true, List, [], ◌∷◌, ◌++◌}
 use Rattle.std.specs.Prelude.{length, take, drop, replicate, Option, Some, None}
+use Rattle.std.specs.Option.{option_map_or}
 use Rattle.der_view.specs.Contents.{shown_len}
 use Rattle.der_view.specs.Grammar.{Component, Form, components}
 use Rattle.der_view.specs.Pictures.{plan_of, root_of, root_step}
@@ -25,41 +26,36 @@ undrawn bytes = replicate (length bytes) 0xFF
 abbrev pub masked_content : ℕ → List ℕ → List ℕ
 masked_content shown bytes = take shown bytes ++ zeros (drop shown bytes)
 
-abbrev pub content_mask : Bool → (Structure → List ℕ) → Option Structure → Step → List ℕ
-content_mask small inside None step =
+-- the content of an element that is drawn as a structure or as none, by the masks of levels
+abbrev pub content_mask : Bool → Bool → (Bool → Bool → List Component → List ℕ → List ℕ)
+    → Option Structure → Step → List ℕ
+content_mask loose small inside None step =
     masked_content (shown_len small step.header step.component.2 step.content) step.content
-content_mask small inside (Some structure) step =
-    take (front_len step.component.2) step.content ++ inside structure
+content_mask loose small inside (Some structure) step =
+    take (front_len step.component.2) step.content
+    ++ inside (inside_loose step.component.2 loose) (is_open step) (components structure)
+    (inside_bytes step)
 
 abbrev pub next_mask : List ℕ → (List ℕ → List ℕ) → Option (List ℕ) → List ℕ
 next_mask bytes next None = undrawn bytes
 next_mask bytes next (Some rest) = next rest
 
-abbrev pub masked_by : List ℕ → (Step → List ℕ) → (Step → Option (List ℕ))
-    → (List Component → List ℕ → List ℕ) → Option ℕ → Option Step → List ℕ
-masked_by bytes content rest next (Some n) step = take n bytes
-masked_by bytes content rest next None None = undrawn bytes
-masked_by bytes content rest next None (Some step) =
-    step.head ++ (content step ++ next_mask step.rest (λ after. next step.others after) (rest step))
-
 -- a level: its headers, and what is shown of contents; without the bytes after it
 abbrev pub masked : Bool → Bool → ℕ → ℕ → Bool → List Component → List ℕ → List ℕ
 masked loose small zero depth marked some bytes = undrawn bytes
 masked loose small (suc most) depth marked some bytes =
-    masked_by bytes (λ step. content_mask small
-    (λ structure. masked (inside_loose step.component.2 loose) small most (depth + 1)
-    (is_open step) (components structure) (inside_bytes step))
-    (opened_of loose most (depth + 1) step) step)
-    (λ step. rest_after loose most (depth + 1) step)
-    (λ others rest. masked loose small most depth marked others rest)
-    (end_at loose marked some bytes) (step_at loose depth some bytes)
+    option_map_or (λ n. take n bytes) (end_at loose marked some bytes)
+    (option_map_or (λ step. step.head
+    ++ (content_mask loose small (λ l m cs x. masked l small most (depth + 1) m cs x)
+    (opened_of loose most (depth + 1) step) step
+    ++ next_mask step.rest (λ rest. masked loose small most depth marked step.others rest)
+    (rest_after loose most (depth + 1) step)))
+    (step_at loose depth some bytes) (undrawn bytes))
 
 -- the content of an element, in which elements are at this depth
 abbrev pub step_mask : Bool → Bool → ℕ → ℕ → Step → List ℕ
 step_mask loose small most depth step =
-    content_mask small
-    (λ structure. masked (inside_loose step.component.2 loose) small most depth
-    (is_open step) (components structure) (inside_bytes step))
+    content_mask loose small (λ l m cs x. masked l small most depth m cs x)
     (opened_of loose most depth step) step
 
 abbrev pub mask_with : Bool → Bool → List ℕ → Option Step → List ℕ
@@ -72,14 +68,11 @@ mask_with loose small bytes (Some step) =
 unfoldable pub mask_as : Bool → Bool → Component → List ℕ → List ℕ
 mask_as loose small root bytes = mask_with loose small bytes (root_step root bytes)
 
+-- the mask of a picture
 abbrev pub mask_by_way : Way → Plan → List ℕ → List ℕ
 mask_by_way ways.Nothing plan bytes = undrawn bytes
 mask_by_way ways.Strict plan bytes = mask_as false false (root_of plan.form) bytes
 mask_by_way ways.Loose plan bytes = mask_as true plan.is_tree (root_of plan.form) bytes
-
--- the mask of a picture
-abbrev pub picture_mask : Plan → List ℕ → List ℕ
-picture_mask plan bytes = mask_by_way plan.way plan bytes
 
 abbrev pub AreAlikeAs : List Form → List ℕ → List ℕ → Type 0
 AreAlikeAs [] a b = Unit {0}
@@ -91,4 +84,4 @@ pub record AreAlike (a b : List ℕ) : Type 0 where
   pub first : mask_as false false tables.FIRST.0 a ≡ mask_as false false tables.FIRST.0 b
   pub others : AreAlikeAs tables.OTHERS a b
   pub elements : mask_as false false elements.ELEMENT a ≡ mask_as false false elements.ELEMENT b
-  pub drawn : picture_mask (plan_of a) a ≡ picture_mask (plan_of a) b
+  pub drawn : mask_by_way (plan_of a).way (plan_of a) a ≡ mask_by_way (plan_of a).way (plan_of a) b

@@ -1,14 +1,12 @@
 -- What is in a source of an input.
-use Rattle.std.specs.Prelude.{◌≡◌, ℕ, ◌≤◌, ◌==◌, ◌||◌, ◌&&◌, Bool, false, if◌then◌else◌}
-use Rattle.std.specs.Prelude.{List, [], ◌∷◌, length, take, drop, codes, Option, Some, None}
-use Rattle.std.specs.Prelude.{is_some}
-use Rattle.std.specs.Char.{is_ascii_whitespace}
-use Rattle.std.specs.List.{prefix_len}
+use Rattle.std.specs.Prelude.{◌≡◌, ℕ, ◌≤◌, ◌==◌, ◌||◌, ◌&&◌, Bool, true, false, if◌then◌else◌}
+use Rattle.std.specs.Prelude.{List, [], ◌∷◌, length, take, codes, Option, Some, None}
 use Rattle.std.specs.Str.{bytes_eq}
-use Rattle.der_view.specs.Almost.{ArmourView, armour_flaw, armour_of, body_flaw, has}
-use Rattle.der_view.specs.Blocks.{BlockView, line_len}
-use Rattle.der_view.specs.Encoded.{base64_bytes, hex_bytes, mended_bytes, place_of}
-use Rattle.der_view.specs.Sources.{SourceView, Der, Pem, Text, Wide, begins}
+use Rattle.der_view.specs.Almost.{ArmourView, armour_flaw, armour_of, body_flaw}
+use Rattle.der_view.specs.Blocks.{BlockView, before, begins, bytes_at, has, is_in, line_at}
+use Rattle.der_view.specs.Blocks.{trimmed_start}
+use Rattle.der_view.specs.Encoded.{base64_bytes, hex_bytes, mended_bytes}
+use Rattle.der_view.specs.Sources.{SourceView, Der, Pem, Text, Wide}
 use Rattle.der_view.specs.declared.sentences.Sentence.{Sentence}
 use Rattle.der_view.specs.declared.sentences.Sentence.TheVariants as sentences
 use Rattle.der_view.specs.declared.text.Encoding.{Encoding}
@@ -42,7 +40,7 @@ IsIn memory found content =
 
 -- whether a text has another
 abbrev pub finds : List ℕ → List ℕ → Bool
-finds text other = is_some (place_of text other)
+finds text other = is_in (bytes_at other) true text
 
 -- ---- what is almost PEM or base64
 
@@ -103,10 +101,6 @@ putty_note line =
     if finds line (codes "ssh-ed25519") || finds line (codes "ssh-ed448")
     then sentences.PuttyEdwards else sentences.Putty
 
--- a text without white space in front
-abbrev pub trimmed_start : List ℕ → List ℕ
-trimmed_start text = drop (prefix_len is_ascii_whitespace text) text
-
 abbrev pub is_object : List ℕ → Bool
 is_object [] = false
 is_object (byte ∷ text) = byte == 0x7B && begins (trimmed_start text) (0x22 ∷ [])
@@ -119,27 +113,27 @@ is_json text = is_object (trimmed_start text)
 unfoldable pub note_of : List ℕ → Sentence
 note_of text =
     if begins text (codes "PuTTY-User-Key-File-") then
-    putty_note (take (line_len text) text)
+    putty_note (before (line_at []) false text)
     else (if begins text (codes "ssh-")
     || (begins text (codes "ecdsa-sha2-") || begins text (codes "sk-"))
     then sentences.Ssh
     else (if is_json text then sentences.Json else sentences.Text))
 
-abbrev pub base64_by : List ℕ → Option (List ℕ) → Content
-base64_by text (Some (byte ∷ bytes)) = Bytes encodings.Base64 flaws.Nothing (byte ∷ bytes)
-base64_by text found = almost_content text (note_of text)
+-- what was decoded, if it is some bytes, or else this
+abbrev pub some_or : Encoding → Option (List ℕ) → Content → Content
+some_or encoding (Some (byte ∷ bytes)) other = Bytes encoding flaws.Nothing (byte ∷ bytes)
+some_or encoding found other = other
 
--- what is in a text that is no hexadecimal
 unfoldable pub base64_content : List ℕ → Content
-base64_content text = base64_by text (base64_bytes text)
+base64_content text =
+    some_or encodings.Base64 (base64_bytes text) (almost_content text (note_of text))
 
-abbrev pub hex_by : List ℕ → Option (List ℕ) → Content
-hex_by text (Some (byte ∷ bytes)) = Bytes encodings.Hexadecimal flaws.Nothing (byte ∷ bytes)
-hex_by text found = base64_content text
+unfoldable pub hex_content : List ℕ → Content
+hex_content text = some_or encodings.Hexadecimal (hex_bytes text) (base64_content text)
 
 abbrev pub text_by : List ℕ → Option Sentence → Content
 text_by text (Some note) = Said note
-text_by text None = hex_by text (hex_bytes text)
+text_by text None = hex_content text
 
 unfoldable pub text_content : List ℕ → Content
 text_content text = text_by text (dump_note text)

@@ -1,18 +1,20 @@
 -- What bytes are, and their picture.
 use Rattle.std.specs.Prelude.{ℕ, ◌+◌, ◌-◌, ◌^◌, ◌==◌, ◌&&◌, ◌||◌, not, nat_lt, nat_le, min}
 use Rattle.std.specs.Prelude.{if◌then◌else◌, Bool, true, false, List, [], ◌∷◌, ◌++◌, length, Option}
-use Rattle.std.specs.Prelude.{Some, None}
+use Rattle.std.specs.Prelude.{Some, None, slice_index}
+use Rattle.std.specs.List.{fold}
 use Rattle.der_view.specs.Grammar.{Component, Form}
-use Rattle.der_view.specs.Retagged.{is_last, with_rows}
 use Rattle.der_view.specs.Rows.{Element, EndOfContents, How, NotDrawn, Row, Step, given_part}
 use Rattle.der_view.specs.Rows.{next_rows, rest_after, rest_of, rows_of, step_by, step_rows}
 use Rattle.der_view.specs.declared.grammar.TheConstants as elements
 use Rattle.der_view.specs.declared.grammar.forms.Secrecy.TheVariants as secrecies
 use Rattle.der_view.specs.declared.grammar.forms.TheConstants as tables
 use Rattle.der_view.specs.declared.plan.Plan.{Plan}
+use Rattle.der_view.specs.declared.plan.Progress.{Progress}
+use Rattle.der_view.specs.declared.plan.Progress.TheVariants as steps
+use Rattle.der_view.specs.declared.plan.Shape.{Shape}
 use Rattle.der_view.specs.declared.plan.Way.{Way}
 use Rattle.der_view.specs.declared.plan.Way.TheVariants as ways
-use Rattle.der_view.specs.declared.retagged.Progress.TheVariants as steps
 use Rattle.der_view.specs.declared.walk.Level.{Level}
 use Rattle.der_view.specs.declared.walk.Place.{Place}
 
@@ -97,30 +99,55 @@ is_cut bytes = cut_by (root_step elements.ELEMENT bytes)
 abbrev pub strictly : How
 strictly = record { loose = false; small = false; given = [] }
 
--- the number of bytes that aren't drawn
-abbrev pub left_in : List Row → ℕ
-left_in [] = 0
-left_in (Element place element ∷ rows) = left_in rows
-left_in (EndOfContents place ∷ rows) = left_in rows
-left_in (NotDrawn place expected len content ∷ rows) = len + left_in rows
+-- ---- keys whose private key has another tag
 
--- the number of elements that are in the root alone
-abbrev pub parts_in : List Row → ℕ
-parts_in [] = 0
-parts_in (Element place element ∷ rows) =
-    if place.depth == 1 then 1 + parts_in rows else parts_in rows
-parts_in (EndOfContents place ∷ rows) = parts_in rows
-parts_in (NotDrawn place expected len content ∷ rows) = parts_in rows
+-- RFC 5915 section 3: after the root or an element of it, with this tag and length
+unfoldable pub with_tag : Progress → ℕ → ℕ → Progress
+with_tag steps.Nothing tag len = if tag == 0x30 then steps.Root else steps.Others
+with_tag steps.Root tag len =
+    if tag == 0x02 && len == 1 then steps.Version else steps.Others
+with_tag steps.Version tag len =
+    if nat_lt tag 0x20 && not (tag == 0x04) then steps.Replaced len else steps.Others
+with_tag (steps.Replaced n) tag len =
+    if tag == 0xA0 then steps.Parameters
+    else (if tag == 0xA1 then steps.PublicKey else steps.Others)
+with_tag steps.Parameters tag len = if tag == 0xA1 then steps.PublicKey else steps.Others
+with_tag _ tag len = steps.Others
 
--- a number, as a usize has it
-abbrev pub capped : ℕ → ℕ
-capped n = min n (2 ^ 64 - 1)
+-- whether no element has to follow, and one tells a key from other bytes, or it has as many as a
+-- private key on P-224, P-256, P-384 or P-521
+abbrev pub is_last : Progress → Bool
+is_last (steps.Replaced len) = len == 28 || (len == 32 || (len == 48 || len == 66))
+is_last steps.Parameters = true
+is_last steps.PublicKey = true
+is_last _ = false
+
+-- ---- the nearest form
+
+-- how far rows are of a form: the bytes that aren't drawn, and the elements in the root alone, as a
+-- usize has them; and how far they are of a key whose private key has another tag
+abbrev pub with_row : Shape → Row → Shape
+with_row shape (Element place element) = record shape {
+  parts = if place.depth == 1 then min (shape.parts + 1) (2 ^ 64 - 1) else shape.parts;
+  progress = if nat_lt place.depth 2
+      then with_tag shape.progress (slice_index element.head 0) element.len else shape.progress;
+}
+with_row shape (EndOfContents place) = shape
+with_row shape (NotDrawn place expected len content) =
+    record shape { left = min (shape.left + len) (2 ^ 64 - 1) }
+
+-- before the first row
+abbrev pub no_shape : Shape
+no_shape = record { left = 0; parts = 0; progress = steps.Nothing; is_whole = false }
+
+abbrev pub shape_in : List Row → Shape
+shape_in rows = fold with_row no_shape rows
 
 unfoldable pub left_as : Component → List ℕ → ℕ
-left_as root bytes = capped (left_in (rows_as strictly root false bytes))
+left_as root bytes = (shape_in (rows_as strictly root false bytes)).left
 
 unfoldable pub parts_as : Component → List ℕ → ℕ
-parts_as root bytes = capped (parts_in (rows_as strictly root false bytes))
+parts_as root bytes = (shape_in (rows_as strictly root false bytes)).parts
 
 -- whether fewer bytes are left by a form than by another; or as many, and it alone is followed to
 -- its end
@@ -163,8 +190,7 @@ way_of (Some (root, secrecies.Public)) whole rooted = ways.Loose
 
 -- whether bytes are an ECPrivateKey but for the tag of its privateKey
 unfoldable pub is_retagged : List ℕ → Bool
-is_retagged bytes =
-    is_last (with_rows steps.Nothing (rows_as strictly elements.ELEMENT false bytes))
+is_retagged bytes = is_last (shape_in (rows_as strictly elements.ELEMENT false bytes)).progress
 
 -- the form of bytes, known or that of such a key
 abbrev pub form_by : Option Form → Bool → Option Form

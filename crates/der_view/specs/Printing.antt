@@ -4,7 +4,7 @@ use Rattle.std.specs.Prelude.{◌++◌, length, take, drop, map, codes, Option, 
 use Rattle.std.specs.List.{flat_map}
 use Rattle.der_view.specs.Facts.{RowView, is_told, row_of}
 use Rattle.der_view.specs.Grammar.{Component}
-use Rattle.der_view.specs.Lines.{IsLine, kept, shown}
+use Rattle.der_view.specs.Lines.{kept, shown}
 use Rattle.der_view.specs.Marks.{mark_words}
 use Rattle.der_view.specs.RowLines.{hex_words, is_said, row_line, spaces}
 use Rattle.der_view.specs.Rows.{Row}
@@ -43,21 +43,20 @@ told_lines row =
     else content_lines row.content ((length row.content + 15) / 16))
     ++ mark_lines row.marks row.expected) else []
 
--- the lines of rows by a plan, with all contents or without, as they are shown
-abbrev pub rows_lines : Plan → Bool → List Row → List (List ℕ)
-rows_lines plan all rows = flat_map (λ row. map shown (told_lines (row_of plan all row))) rows
+-- the lines of rows by a plan, with all contents or without
+abbrev pub told_of : Plan → Bool → List Row → List (List ℕ)
+told_of plan all rows = flat_map (λ row. told_lines (row_of plan all row)) rows
+
+-- as they are shown
+unfoldable pub rows_lines : Plan → Bool → List Row → List (List ℕ)
+rows_lines plan all rows = map shown (told_of plan all rows)
 
 -- their text
 abbrev pub rows_text : Plan → Bool → List Row → List ℕ
-rows_text plan all rows = flat_map (λ row. lines_text (told_lines (row_of plan all row))) rows
+rows_text plan all rows = lines_text (told_of plan all rows)
 
 -- where no write has failed, this text was written, and none failed before
 abbrev pub HasWritten : {W E : Type 0} → (W → W → List ℕ → Type 0) → Option E → W → Option E → W
     → List ℕ → Type 0
 HasWritten appends before old after new text =
     after ≡ None → (before ≡ None) × appends old new text
-
--- each is printable ASCII of at most 100 characters
-abbrev pub AreLines : List (List ℕ) → Type 0
-AreLines [] = Unit {0}
-AreLines (line ∷ lines) = IsLine line × AreLines lines

@@ -7,7 +7,7 @@ use Rattle.der_view.specs.declared.printer.Style.{Style}
 
 -- all rows are written as lines
 pub record IsPlain (style : Style) : Type 0 where
-  pub lines : style.is_json ≡ false
+  pub lines : style.json ≡ false
   pub levels : style.levels ≡ 0
 
 pub has_written_both : {W E : Type 0} (appends : W → W → List ℕ → Type 0)
@@ -20,4 +20,4 @@ pub has_written_both : {W E : Type 0} (appends : W → W → List ℕ → Type 0
 has_written_both appends joined style other first second d e f a b c same plain one two none =
     let late = rw same at (two (rw same plain) none) in
     let early = one late.0 in
-    (early.0, rw flat_map-append (joined _ _ _ _ _ early.1 late.1))
+    (early.0, rw (flat_map-append, flat_map-append) (joined _ _ _ _ _ early.1 late.1))

@@ -1,5 +1,8 @@
 -- The bytes that rows are of.
-use Rattle.std.specs.Prelude.{◌≡◌, ℕ, ◌+◌, List, [], ◌∷◌, true}
+use Rattle.std.specs.Prelude.{◌≡◌, ℕ, ◌+◌, List, [], ◌∷◌, ◌++◌, true}
+use Rattle.std.specs.List.{fold}
+use Rattle.std.proofs.Common.{ap, sym, ◌∙◌}
+use Rattle.std.proofs.lemmas.Grind.{fold-append}
 use Rattle.der_view.specs.Rows.{Element, EndOfContents, NotDrawn, Row, own_len}
 
 -- the number of bytes that a row is of: a header, and what has no other row of a content
@@ -28,3 +31,9 @@ AllFollow [] = Unit {0}
 AllFollow (Element place element ∷ rows) = (element.follows ≡ true) × AllFollow rows
 AllFollow (EndOfContents place ∷ rows) = AllFollow rows
 AllFollow (NotDrawn place expected len content ∷ rows) = ⊥
+
+-- a fold over rows goes on where that over the rows before them ended
+pub fold-join : {A : Type 0} (next : A → Row → A) (a b c : A) (first second : List Row)
+    → b ≡ fold next a first → c ≡ fold next b second → c ≡ fold next a (first ++ second)
+fold-join {A} next a b c first second one two =
+    two ∙ (ap (λ (x : A). fold next x second) one ∙ sym (fold-append next a first second))

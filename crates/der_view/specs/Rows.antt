@@ -3,6 +3,8 @@
 use Rattle.std.specs.Prelude.{ℕ, zero, suc, ◌+◌, ◌-◌, ◌==◌, ◌&&◌, ◌||◌, nat_le, nat_lt, not}
 use Rattle.std.specs.Prelude.{if◌then◌else◌, Bool, true, false, List, [], ◌∷◌, ◌++◌, length, take}
 use Rattle.std.specs.Prelude.{drop, Option, Some, None, Result, Ok, Err, is_none, is_some}
+use Rattle.std.specs.List.{list_all}
+use Rattle.std.specs.Option.{option_and_then, option_map_or}
 use Rattle.std.specs.Str.{bytes_eq}
 use Rattle.der_view.specs.Contents.{is_primitive, is_whole, shown_len}
 use Rattle.der_view.specs.Grammar.{Case, Component, cases, components, identifiers}
@@ -91,8 +93,7 @@ element_at cut bytes = element_by cut bytes (header_of bytes)
 
 abbrev pub may_be_absent : Presence → Bool
 may_be_absent presences.Needed = false
-may_be_absent presences.Optional = true
-may_be_absent presences.Many = true
+may_be_absent _ = true
 
 abbrev pub comes_again : Presence → Bool
 comes_again presences.Many = true
@@ -114,8 +115,7 @@ fitting tag (component ∷ others) =
 
 -- whether none of these has to come
 abbrev pub may_end : List Component → Bool
-may_end [] = true
-may_end (component ∷ others) = may_be_absent component.1 && may_end others
+may_end some = list_all (λ component. may_be_absent component.1) some
 
 -- where a level ends: at an end-of-contents (X.690 section 8.1.5), or with the bytes
 unfoldable pub end_at : Bool → Bool → List Component → List ℕ → Option ℕ
@@ -173,39 +173,31 @@ pub record Step : Type 0 where
   pub content : List ℕ
   pub rest : List ℕ
 
+-- the one with these
+abbrev pub step_as : Header → List ℕ → Component → List Component → Bool → List ℕ → List ℕ → Step
+step_as header head component others follows content rest = record {
+  header = header;
+  head = head;
+  component = component;
+  others = others;
+  follows = follows;
+  content = content;
+  rest = rest;
+}
+
 -- the same in the code
 abbrev pub step_of : CodeStep → Step
-step_of step = record {
-  header = step.header;
-  head = step.head.now;
-  component = step.component;
-  others = step.others.now;
-  follows = step.follows;
-  content = step.content.now;
-  rest = step.rest.now;
-}
+step_of step =
+    step_as step.header step.head.now step.component step.others.now step.follows step.content.now
+    step.rest.now
 
 abbrev pub step_made : Bool → List ℕ → Header × List ℕ × List ℕ
     → Option (Component × List Component) → Option Step
-step_made misfit bytes element (Some found) = Some (record {
-  header = element.0;
-  head = take element.0.len bytes;
-  component = found.0;
-  others = found.1;
-  follows = true;
-  content = element.1;
-  rest = element.2;
-})
-step_made misfit bytes element None =
-    if misfit then Some (record {
-      header = element.0;
-      head = take element.0.len bytes;
-      component = tables.ELEMENT;
-      others = components structures.Any;
-      follows = false;
-      content = element.1;
-      rest = element.2;
-    }) else None
+step_made misfit bytes (header, content, rest) (Some found) =
+    Some (step_as header (take header.len bytes) found.0 found.1 true content rest)
+step_made misfit bytes (header, content, rest) None =
+    if misfit then Some (step_as header (take header.len bytes) tables.ELEMENT
+    (components structures.Any) false content rest) else None
 
 abbrev pub step_with : Bool → ℕ → List Component → List ℕ → Option (Header × List ℕ × List ℕ)
     → Option Step
@@ -288,27 +280,20 @@ abbrev pub rest_next : (List ℕ → Option (List ℕ)) → Option (List ℕ) �
 rest_next next None = None
 rest_next next (Some rest) = next rest
 
-abbrev pub rest_by : List ℕ → (Step → Option (List ℕ))
-    → (List Component → List ℕ → Option (List ℕ)) → Option ℕ → Option Step → Option (List ℕ)
-rest_by bytes after next (Some n) step = Some (drop n bytes)
-rest_by bytes after next None None = None
-rest_by bytes after next None (Some step) =
-    rest_next (λ rest. next step.others rest) (after step)
-
 -- The bytes after a level at a depth, which an end-of-contents ends or not, unless its rows end in
 -- it; at most so many elements, one after or inside the other.
 abbrev pub rest_of : Bool → ℕ → ℕ → Bool → List Component → List ℕ → Option (List ℕ)
 rest_of loose zero depth marked some bytes = None
 rest_of loose (suc most) depth marked some bytes =
-    rest_by bytes
-    (λ step. rest_with
+    option_map_or (λ n. Some (drop n bytes)) (end_at loose marked some bytes)
+    (option_and_then
+    (λ step. rest_next (λ rest. rest_of loose most depth marked step.others rest)
+    (rest_with
     (λ structure. rest_of (inside_loose step.component.2 loose) most (depth + 1) (is_open step)
     (components structure) (inside_bytes step))
     (opened_by (λ structure content. is_some
-    (rest_of false most (depth + 1) false (components structure) content)) loose step)
-    step)
-    (λ others rest. rest_of loose most depth marked others rest)
-    (end_at loose marked some bytes) (step_at loose depth some bytes)
+    (rest_of false most (depth + 1) false (components structure) content)) loose step) step))
+    (step_at loose depth some bytes))
 
 -- whether a content follows a structure to its end
 abbrev pub is_followed : ℕ → ℕ → Structure → List ℕ → Bool
@@ -334,14 +319,11 @@ rest_after loose most depth step =
 abbrev pub given_part : List ℕ → ℕ → ℕ → List ℕ
 given_part given start len = take len (drop start given)
 
-abbrev pub around : Place → Place
-around place = record place { depth = place.depth - 1 }
-
 -- where a level ends: what is missing, and an end-of-contents
 abbrev pub end_rows : Place → List Component → ℕ → List Row
 end_rows place some len =
     (if may_end some then [] else NotDrawn place some 0 [] ∷ [])
-    ++ (if nat_lt 0 len then EndOfContents (around place) ∷ [] else [])
+    ++ (if nat_lt 0 len then EndOfContents (record place { depth = place.depth - 1 }) ∷ [] else [])
 
 abbrev pub inside_rules : How → Content → How
 inside_rules how content = record how { loose = inside_loose content how.loose }
@@ -376,43 +358,34 @@ view how place some opened step = record {
 abbrev pub own_len : ElementView → ℕ
 own_len element = if element.opened then front_len element.component.2 else element.len
 
-abbrev pub inside_rows : (Structure → List Row) → Option Structure → List Row
-inside_rows rows None = []
-inside_rows rows (Some structure) = rows structure
-
 abbrev pub element_rows : How → Place → List Component → (Structure → List Row)
     → Option Structure → Step → List Row
 element_rows how place some rows opened step =
-    Element place (view how place some (is_some opened) step) ∷ inside_rows rows opened
+    Element place (view how place some (is_some opened) step) ∷ option_map_or rows opened []
 
 abbrev pub next_rows : (List ℕ → List Row) → Option (List ℕ) → List Row
 next_rows next None = []
 next_rows next (Some rest) = next rest
 
-abbrev pub rows_with : How → Place → List Component → (Step → List Row)
-    → (Step → Option (List ℕ)) → (List Component → List ℕ → List Row) → Option ℕ → Option Step
-    → List Row
-rows_with how place some element rest next (Some n) step = end_rows place some n
-rows_with how place some element rest next None None =
-    NotDrawn place some (place.end - place.offset)
-    (given_part how.given place.offset (place.end - place.offset)) ∷ []
-rows_with how place some element rest next None (Some step) =
-    element step ++ next_rows (λ after. next step.others after) (rest step)
+-- the bytes that aren't drawn: all up to the end
+abbrev pub left_rows : How → Place → List Component → List Row
+left_rows how place some =
+    let len = place.end - place.offset in
+    NotDrawn place some len (given_part how.given place.offset len) ∷ []
 
 -- the rows of a level at a place
 abbrev pub rows_of : How → ℕ → Bool → Place → List Component → List ℕ → List Row
-rows_of how zero marked place some bytes =
-    NotDrawn place some (place.end - place.offset)
-    (given_part how.given place.offset (place.end - place.offset)) ∷ []
+rows_of how zero marked place some bytes = left_rows how place some
 rows_of how (suc most) marked place some bytes =
-    rows_with how place some
+    option_map_or (λ n. end_rows place some n) (end_at how.loose marked some bytes)
+    (option_map_or
     (λ step. element_rows how place some
     (λ structure. rows_of (inside_rules how step.component.2) most (is_open step)
     (inside place step) (components structure) (inside_bytes step))
-    (opened_of how.loose most (place.depth + 1) step) step)
-    (λ step. rest_after how.loose most (place.depth + 1) step)
-    (λ others rest. rows_of how most marked (after place bytes rest) others rest)
-    (end_at how.loose marked some bytes) (step_at how.loose place.depth some bytes)
+    (opened_of how.loose most (place.depth + 1) step) step
+    ++ next_rows (λ rest. rows_of how most marked (after place bytes rest) step.others rest)
+    (rest_after how.loose most (place.depth + 1) step))
+    (step_at how.loose place.depth some bytes) (left_rows how place some))
 
 -- the rows of an element at a place
 abbrev pub step_rows : How → ℕ → Place → List Component → Step → List Row

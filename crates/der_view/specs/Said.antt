@@ -1,159 +1,47 @@
 -- What is said of bytes, by what is known of them.
-use Rattle.std.specs.Prelude.{ℕ, ◌+◌, ◌-◌, ◌*◌, ◌==◌, ◌&&◌, ◌||◌, not, nat_le, nat_lt, Bool, true}
-use Rattle.std.specs.Prelude.{false, if◌then◌else◌, List, [], ◌∷◌, ◌++◌, length, codes, find}
+use Rattle.std.specs.Prelude.{ℕ, ◌-◌, ◌*◌, ◌==◌, ◌&&◌, ◌||◌, not, nat_lt, Bool, true, false}
+use Rattle.std.specs.Prelude.{if◌then◌else◌, List, [], ◌∷◌, ◌++◌, length, codes, find, flat_map}
 use Rattle.std.specs.Prelude.{Option, Some, None, is_none, is_some, unwrap_or, slice_index}
+use Rattle.std.specs.Prelude.{slice_index_or}
 use Rattle.std.specs.Fmt.{decimal}
-use Rattle.std.specs.List.{concat}
 use Rattle.std.specs.Str.{bytes_eq}
 use Rattle.curves.specs.Curves.{curve_content, field_len}
 use Rattle.curves.specs.declared.curve.Curve.{Curve}
 use Rattle.curves.specs.declared.curve.Curve.TheVariants as curves
 use Rattle.curves.specs.declared.curve.TheConstants.Curve.{ALL}
 use Rattle.sec1_der.specs.Identifiers.{dotted}
-use Rattle.der_view.specs.Grammar.{Form}
 use Rattle.der_view.specs.Known.{form_name}
 use Rattle.der_view.specs.Lines.{kept, shown}
-use Rattle.der_view.specs.Marks.{byte_word}
+use Rattle.der_view.specs.Marks.{bytes_text}
 use Rattle.der_view.specs.Names.{name_by}
 use Rattle.der_view.specs.Printing.{line_text}
-use Rattle.der_view.specs.Sentences.{advice_command, advice_words, command_of, form_word, words_of}
+use Rattle.der_view.specs.Sentences.{advice_command, advice_words, command_of, form_words, words_of}
 use Rattle.der_view.specs.Sources.{begins, is_raw_len}
-use Rattle.der_view.specs.Values.{arcs_by}
-use Rattle.der_view.specs.Words.{same_name}
+use Rattle.der_view.specs.Arcs.{arcs_by}
+use Rattle.der_view.specs.Words.{first_true, same_name}
 use Rattle.der_view.specs.declared.grammar.name.Name.{Name}
 use Rattle.der_view.specs.declared.grammar.name.Name.TheVariants as names
 use Rattle.der_view.specs.declared.known.Known.{Known}
 use Rattle.der_view.specs.declared.plan.Plan.{Plan}
-use Rattle.der_view.specs.declared.said.Reading.{Reading}
-use Rattle.der_view.specs.declared.said.Reading.TheVariants as readings
+use Rattle.der_view.specs.declared.sentences.Reading.{Reading}
+use Rattle.der_view.specs.declared.sentences.Reading.TheVariants as readings
 use Rattle.der_view.specs.declared.said.SaidLines.{SaidLines}
+use Rattle.der_view.specs.declared.said.TheConstants.{EC_PUBLIC_KEY, SHA1}
 use Rattle.der_view.specs.declared.sentences.Advice.{Advice}
 use Rattle.der_view.specs.declared.sentences.Advice.TheVariants as advices
 use Rattle.der_view.specs.declared.sentences.Sentence.{Sentence}
-use Rattle.der_view.specs.declared.sentences.Sentence.TheVariants as sentences
 
--- ---- what bytes that aren't DER begin as
+-- the form of bytes is that with this name
+abbrev pub is_form : Known → Name → Bool
+is_form known name = same_name (form_name known.plan.form) name
 
--- RFC 9580 sections 4.2.2 and 5.5.2: a key of OpenPGP of version 4 has a length of two bytes
-unfoldable pub file_note : List ℕ → Option Sentence
-file_note bytes =
-    if begins bytes (0xFE ∷ 0xED ∷ 0xFE ∷ 0xED ∷ []) || begins bytes
-    (0xCE ∷ 0xCE ∷ 0xCE ∷ 0xCE ∷ [])
-    then Some sentences.Java
-    else (if begins bytes (0x1F ∷ 0x8B ∷ 0x08 ∷ []) then Some sentences.Gzip
-    else (if begins bytes (0x1E ∷ 0xF1 ∷ 0xB5 ∷ 0xB0 ∷ []) then Some sentences.Pvk
-    else (if begins bytes (0x03 ∷ 0xD9 ∷ 0xA2 ∷ 0x9A ∷ []) then Some sentences.Keepass
-    else (if (slice_index bytes 0 == 0x95 || slice_index bytes 0 == 0x99)
-    && slice_index bytes 3 == 0x04
-    && nat_le (slice_index bytes 1 * 256 + slice_index bytes 2) (length bytes - 3)
-    then Some sentences.PgpKey else None))))
-
--- ---- what they are
-
--- the name of an identifier, its dotted text, or neither, after a text each, between two others
-abbrev pub identified : List ℕ → List ℕ → List ℕ → List ℕ → List ℕ → Option (List ℕ)
-    → Option (List ℕ) → List ℕ
-identified front named numbered other back (Some name) arcs =
-    concat (front ∷ named ∷ []) ++ (name ++ back)
-identified front named numbered other back None (Some arcs) =
-    concat (front ∷ numbered ∷ []) ++ (dotted arcs ++ back)
-identified front named numbered other back None None = concat (front ∷ other ∷ back ∷ [])
-
--- a key, by its curve
-abbrev pub key_text : Known → List ℕ
-key_text known =
-    if known.has_curve
-    then identified (codes "This is an EC private key (RFC 5915)") (codes " on ")
-    (codes " on the curve ") (codes " on another curve") (codes ".") (name_by known.curve)
-    (arcs_by known.curve)
-    else codes "This is an EC private key (RFC 5915), with no curve named."
+-- RFC 5480 section 2.1.1
+abbrev pub is_ec : Known → Bool
+is_ec known = bytes_eq known.algorithm EC_PUBLIC_KEY
 
 -- the curve with this content
 unfoldable pub curve_by : List ℕ → Option Curve
 curve_by content = find (λ curve. bytes_eq (curve_content curve) content) ALL
-
--- RFC 5480 section 2.1.1: ecPublicKey
-abbrev pub is_ec : List ℕ → Bool
-is_ec content = bytes_eq content (0x2A ∷ 0x86 ∷ 0x48 ∷ 0xCE ∷ 0x3D ∷ 0x02 ∷ 0x01 ∷ [])
-
--- one text of a curve with a name, one of another identifier with a name, and one of the others
-abbrev pub by_name : Option (List ℕ) → Option Curve → List ℕ → List ℕ → List ℕ → List ℕ
-by_name (Some name) (Some curve) of_curve of_named other = of_curve
-by_name (Some name) None of_curve of_named other = of_named
-by_name None curve of_curve of_named other = other
-
--- bytes that are all of the form with this name
-abbrev pub whole_text : Name → Known → List ℕ
-whole_text name known =
-    let text = concat (form_word 0 name ∷ form_word 1 name ∷ form_word 2 name ∷ []) in
-    let named = λ (front : List ℕ). identified [] front [] [] (codes ": it has no private key.")
-    (name_by known.curve) (arcs_by known.curve) in
-    if same_name name names.NamedCurve
-    then by_name (name_by known.curve) (curve_by known.curve)
-    (named (codes "This names the curve ")) (named (codes "This names ")) text
-    else (if same_name name names.PrivateKeyInfo && not (is_ec known.algorithm)
-    then identified (codes "This is PKCS #8 (RFC 5958) with another key") (codes ": ")
-    (codes ": ") [] (codes ". It has no EC key.") (name_by known.algorithm)
-    (arcs_by known.algorithm)
-    else text)
-
--- two texts, and why bytes aren't all of their form: for a version, or so many of so many bytes are
--- there, or the first row with a mark
-abbrev pub begun_text : List ℕ → List ℕ → Option ℕ → Bool → ℕ → Option ℕ → Option ℕ → List ℕ
-begun_text front form (Some version) is_cut len root_len marked =
-    concat (front ∷ form ∷ codes ": its version is " ∷ decimal version ∷ codes "." ∷ [])
-begun_text front form None true len (Some whole) marked =
-    concat (front ∷ form ∷ codes ": " ∷ decimal len ∷ codes " of " ∷ decimal whole
-    ∷ codes " bytes are there." ∷ [])
-begun_text front form None false len root_len (Some offset) =
-    concat (front ∷ form ∷ codes ": see offset " ∷ decimal offset ∷ codes "." ∷ [])
-begun_text front form version is_cut len root_len marked =
-    concat (front ∷ form ∷ codes "." ∷ [])
-
--- a version that isn't 1, of bytes that are all of their form
-abbrev pub wrong_version : Bool → Option ℕ → Option ℕ
-wrong_version true (Some version) = if version == 1 then None else Some version
-wrong_version _ version = None
-
--- bytes of a form with this name
-abbrev pub form_text : Name → Known → List ℕ
-form_text name known =
-    let begun = λ (front form : List ℕ) (version : Option ℕ). begun_text front form version
-    known.plan.is_cut known.plan.len known.root_len known.marked in
-    if same_name name names.EcPrivateKey
-    then begun (codes "This is no ") (codes "EC private key (RFC 5915)")
-    (wrong_version known.plan.is_whole known.version)
-    else (if known.plan.is_whole then whole_text name known
-    else begun (codes "This begins as ") (form_word 1 name) None)
-
-abbrev pub empty_note : Reading → Sentence
-empty_note readings.Der = sentences.Empty
-empty_note _ = sentences.EmptyBlock
-
-abbrev pub file_text : ℕ → Option Sentence → List ℕ
-file_text len (Some file) = words_of file
-file_text len None =
-    if len == 1 then codes "This is 1 byte: no DER."
-    else concat (codes "These are " ∷ decimal len ∷ codes " bytes: no DER." ∷ [])
-
--- bytes of no form
-unfoldable pub none_text : Reading → Option Sentence → Plan → List ℕ
-none_text reading file plan =
-    if plan.len == 0 then words_of (empty_note reading)
-    else (if plan.is_tree then words_of sentences.NoKey
-    else (if is_raw_len plan.len
-    then concat (codes "These are " ∷ decimal plan.len
-    ∷ codes " bytes, as of a raw private key: no DER." ∷ [])
-    else file_text plan.len file))
-
-abbrev pub form_or_none : Reading → Option Sentence → Known → Option Form → List ℕ
-form_or_none reading file known (Some form) = form_text form.0.3 known
-form_or_none reading file known None = none_text reading file known.plan
-
--- what bytes are, which are a key's or not
-unfoldable pub first_text : Bool → Reading → Option Sentence → Known → List ℕ
-first_text is_key reading file known =
-    if is_key then key_text known else form_or_none reading file known known.plan.form
 
 -- ---- what doesn't fit the curve
 
@@ -166,17 +54,6 @@ order_len curves.Secp160r2 = 21
 order_len curves.Secp224k1 = 29
 order_len curve = field_len curve
 
--- so many bytes, where the curve has others
-abbrev pub unless_equal : ℕ → ℕ → Option (ℕ × ℕ)
-unless_equal has needs = if has == needs then None else Some (has, needs)
-
-abbrev pub key_by : Option Curve → Option ℕ → Option (ℕ × ℕ)
-key_by (Some curve) (Some len) = unless_equal len (order_len curve)
-key_by _ _ = None
-
-unfoldable pub key_misfit : Known → Option (ℕ × ℕ)
-key_misfit known = key_by (curve_by known.curve) known.key_len
-
 abbrev pub is_plain_form : ℕ → Bool
 is_plain_form form = form == 0x02 || form == 0x03 || form == 0x04 || form == 0x06 || form == 0x07
 
@@ -185,46 +62,129 @@ abbrev pub point_len : Curve → ℕ → ℕ
 point_len curve form =
     if form == 0x02 || form == 0x03 then field_len curve else 2 * field_len curve
 
-abbrev pub point_by : Option Curve → Option (ℕ × ℕ × ℕ) → Option (ℕ × ℕ)
-point_by (Some curve) (Some point) =
-    if is_plain_form point.2 then unless_equal (point.0 - 2) (point_len curve point.2) else None
-point_by _ _ = None
+abbrev pub key_lens_by : Option Curve → Option ℕ → ℕ × ℕ
+key_lens_by (Some curve) (Some len) = (len, order_len curve)
+key_lens_by _ _ = (0, 0)
 
-unfoldable pub point_misfit : Known → Option (ℕ × ℕ)
-point_misfit known = point_by (curve_by known.curve) known.point
+abbrev pub point_lens_by : Option Curve → Option (ℕ × ℕ × ℕ) → ℕ × ℕ
+point_lens_by (Some curve) (Some point) =
+    if is_plain_form point.2 then (point.0 - 2, point_len curve point.2) else (0, 0)
+point_lens_by _ _ = (0, 0)
 
--- the line on one of them
-abbrev pub misfit_words : List ℕ → List ℕ → ℕ × ℕ → List ℕ
-misfit_words front name misfit =
-    front
-    ++ (concat (decimal misfit.0 ∷ byte_word misfit.0 ∷ codes ", where " ∷ [])
-    ++ (name ++ concat (codes " has " ∷ decimal misfit.1 ∷ codes "." ∷ [])))
+-- the length of a private key and of the coordinates of a point, and the length that the curve has
+unfoldable pub key_lens : Known → ℕ × ℕ
+key_lens known = key_lens_by (curve_by known.curve) known.key_len
 
-abbrev pub misfit_text : List ℕ → List ℕ → Option (ℕ × ℕ) → List ℕ
-misfit_text front content None = []
-misfit_text front content (Some misfit) =
-    line_text (shown (kept (misfit_words front (unwrap_or (name_by content) []) misfit)))
+unfoldable pub point_lens : Known → ℕ × ℕ
+point_lens known = point_lens_by (curve_by known.curve) known.point
+
+-- ---- what they are
+
+abbrev pub empty_words : Reading → List ℕ
+empty_words readings.Der = codes "The input is empty."
+empty_words _ = codes "The block is empty."
+
+-- what bytes of no form are
+unfoldable pub none_words : Reading → List ℕ → Plan → List ℕ
+none_words reading file plan =
+    first_true []
+    ((plan.len == 0, empty_words reading)
+    ∷ (plan.is_tree, codes "This is no EC private key (RFC 5915).")
+    ∷ (is_raw_len plan.len, codes "These are %l bytes, as of a raw private key: no DER.")
+    ∷ (not (length file == 0), file)
+    ∷ (plan.len == 1, codes "This is 1 byte: no DER.")
+    ∷ (true, codes "These are %l bytes: no DER.") ∷ [])
+
+-- what bytes are that are all of a form
+unfoldable pub whole_words : Known → List ℕ
+whole_words known =
+    let is_identifier = is_form known names.NamedCurve && is_some (name_by known.curve) in
+    first_true []
+    ((
+      is_identifier && is_some (curve_by known.curve),
+      codes "This names the curve %n: it has no private key.",
+    )
+    ∷ (is_identifier, codes "This names %n: it has no private key.")
+    ∷ (
+      is_form known names.PrivateKeyInfo && not (is_ec known),
+      codes "This is PKCS #8 (RFC 5958) with another key%a. It has no EC key.",
+    )
+    ∷ (true, (form_words (form_name known.plan.form)).1) ∷ [])
+
+-- what bytes are that aren't all of their form
+unfoldable pub begun_words : Known → List ℕ
+begun_words known =
+    let plan = known.plan in
+    first_true []
+    ((plan.is_whole && not (unwrap_or known.version 1 == 1), codes "%b%f: its version is %v.")
+    ∷ (plan.is_cut && is_some known.root_len, codes "%b%f: %l of %r bytes are there.")
+    ∷ (not plan.is_cut && is_some known.marked, codes "%b%f: see offset %m.")
+    ∷ (true, codes "%b%f.") ∷ [])
+
+-- what bytes are, which are a key's or not
+unfoldable pub first_words : Bool → Reading → List ℕ → Known → List ℕ
+first_words is_key reading file known =
+    first_true []
+    ((is_key && known.has_curve, codes "This is an EC private key (RFC 5915)%c.")
+    ∷ (is_key, codes "This is an EC private key (RFC 5915), with no curve named.")
+    ∷ (is_none known.plan.form, none_words reading file known.plan)
+    ∷ (known.plan.is_whole && not (is_form known names.EcPrivateKey), whole_words known)
+    ∷ (true, begun_words known) ∷ [])
+
+-- the name of an identifier, its dotted text, or neither, each after a text of its own
+abbrev pub identifier_text : List ℕ → List ℕ → List ℕ → Option (List ℕ) → Option (List ℕ) → List ℕ
+identifier_text named numbered other (Some name) arcs = named ++ name
+identifier_text named numbered other None (Some arcs) = numbered ++ dotted arcs
+identifier_text named numbered other None None = other
+
+-- what a letter stands for, a, b, c, n, f, k, p, l, m, o, q, r or v; or a character but `%` itself
+abbrev pub piece_text : Known → Bool → ℕ → List ℕ
+piece_text known is_letter byte =
+    let identifier = λ (named numbered other content : List ℕ).
+    identifier_text named numbered other (name_by content) (arcs_by content) in
+    first_true (decimal (unwrap_or known.version 0))
+    ((not is_letter && byte == 0x25, [])
+    ∷ (not is_letter, byte ∷ [])
+    ∷ (byte == 0x61, identifier (codes ": ") (codes ": ") [] known.algorithm)
+    ∷ (byte == 0x62 && is_form known names.EcPrivateKey, codes "This is no ")
+    ∷ (byte == 0x62, codes "This begins as ")
+    ∷ (
+      byte == 0x63,
+      identifier (codes " on ") (codes " on the curve ")
+          (codes " on another curve") known.curve,
+    )
+    ∷ (byte == 0x6E, identifier [] [] [] known.curve)
+    ∷ (byte == 0x66, (form_words (form_name known.plan.form)).0)
+    ∷ (byte == 0x6B, bytes_text (key_lens known).0)
+    ∷ (byte == 0x70, bytes_text (point_lens known).0)
+    ∷ (byte == 0x6C, decimal known.plan.len)
+    ∷ (byte == 0x6D, decimal (unwrap_or known.marked 0))
+    ∷ (byte == 0x6F, decimal (key_lens known).1)
+    ∷ (byte == 0x71, decimal (point_lens known).1)
+    ∷ (byte == 0x72, decimal (unwrap_or known.root_len 0)) ∷ [])
+
+-- the rest of a sentence, in which `%` and a letter stand for what is known: it begins with such a
+-- letter or not
+abbrev pub sentence_text : Known → Bool → List ℕ → List ℕ
+sentence_text known is_letter [] = []
+sentence_text known is_letter (byte ∷ rest) =
+    piece_text known is_letter byte
+    ++ sentence_text known (not is_letter && byte == 0x25) rest
 
 -- ---- the command
-
-abbrev pub is_plain_by : Option (ℕ × ℕ × ℕ) → Bool
-is_plain_by None = true
-is_plain_by (Some point) = point.1 == 0 && is_plain_form point.2
 
 -- whether the lengths and the point fit the curve, as far as that is known
 abbrev pub is_fit : Known → Bool
 is_fit known =
-    is_none (key_misfit known) && is_none (point_misfit known) && is_plain_by known.point
+    let point = unwrap_or known.point (0, 0, 0x04) in
+    (key_lens known).0 == (key_lens known).1 && (point_lens known).0 == (point_lens known).1
+    && point.1 == 0 && is_plain_form point.2
 
-abbrev pub is_version_1 : Option ℕ → Bool
-is_version_1 (Some version) = version == 1
-is_version_1 None = false
-
--- whether OpenSSL makes a key of bytes of the form with this name
-abbrev pub is_repaired : Name → Known → Bool
-is_repaired name known =
-    (same_name name names.EcPrivateKey && is_version_1 known.version)
-    || (same_name name names.PrivateKeyInfo && is_ec known.algorithm && not known.has_public
+-- whether OpenSSL makes a key of bytes of their form
+abbrev pub is_repaired : Known → Bool
+is_repaired known =
+    (is_form known names.EcPrivateKey && unwrap_or known.version 0 == 1)
+    || (is_form known names.PrivateKeyInfo && is_ec known && not known.has_public
     && (known.has_inner || known.is_explicit))
 
 -- 1.2.840.113549.1.5.1 to 12 and 1.2.840.113549.1.12.1.1, 2, 5 and 6: encryption as before 2000
@@ -235,60 +195,58 @@ is_legacy content =
     || (begins content (0x2A ∷ 0x86 ∷ 0x48 ∷ 0x86 ∷ 0xF7 ∷ 0x0D ∷ 0x01 ∷ 0x0C ∷ 0x01 ∷ [])
     && not (slice_index content 9 == 3 || slice_index content 9 == 4))
 
--- the commands that help with bytes that OpenSSL reads as DER, and as PEM; 1.3.14.3.2.26 is SHA-1
-abbrev pub advices_of : Bool → Known → Advice × Advice
-advices_of is_key known =
-    let name = form_name known.plan.form in
-    let is_named = is_some (name_by known.curve) in
-    if is_key then (advices.Nothing, (if is_named then advices.Pem else advices.Nothing))
-    else (if same_name name names.EncryptedPrivateKeyInfo
-    then (if is_legacy known.algorithm then (advices.LegacyDer, advices.LegacyPem)
-    else (advices.EncryptedDer, advices.EncryptedPem))
-    else (if same_name name names.Pfx
-    then (if bytes_eq known.algorithm (0x2B ∷ 0x0E ∷ 0x03 ∷ 0x02 ∷ 0x1A ∷ [])
-    then (advices.LegacyPkcs12, advices.Nothing) else (advices.Pkcs12, advices.Nothing))
-    else (if is_repaired name known && known.is_explicit then (advices.NamedDer, advices.NamedPem)
-    else (if is_repaired name known && is_named then (advices.Der, advices.Pem)
-    else (advices.Nothing, advices.Nothing)))))
-
-abbrev pub by_reading : Reading → Advice × Advice → Advice
-by_reading readings.Der commands = commands.0
-by_reading readings.Pem commands = commands.1
-by_reading readings.Nothing commands = advices.Nothing
-
 -- the command that helps with bytes, which are a key's or not
-unfoldable pub advice_of : Bool → Reading → Known → Advice
-advice_of is_key reading known =
-    if known.is_damaged || not (is_fit known) then advices.Nothing
-    else by_reading reading (advices_of is_key known)
+unfoldable pub advice_of : Bool → Known → Advice
+advice_of is_key known =
+    let is_named = is_some (name_by known.curve) in
+    first_true advices.Nothing
+    ((known.is_damaged || not (is_fit known), advices.Nothing)
+    ∷ (is_key && is_named, advices.Pem)
+    ∷ (is_key, advices.Nothing)
+    ∷ (is_form known names.EncryptedPrivateKeyInfo && is_legacy known.algorithm, advices.Legacy)
+    ∷ (is_form known names.EncryptedPrivateKeyInfo, advices.Encrypted)
+    ∷ (is_form known names.Pfx && bytes_eq known.algorithm SHA1, advices.LegacyPkcs12)
+    ∷ (is_form known names.Pfx, advices.Pkcs12)
+    ∷ (is_repaired known && known.is_explicit, advices.Named)
+    ∷ (is_repaired known && is_named, advices.Der) ∷ [])
 
 -- ---- all of it
+
+abbrev pub misfit_words : ℕ × ℕ → List ℕ → List ℕ
+misfit_words lens sentence = if lens.0 == lens.1 then [] else sentence
+
+-- what is said of bytes, which are a key's or not, a sentence a line: what they are, that a private
+-- key or a point doesn't fit, what a command does, and the command
+unfoldable pub said_of : Bool → Reading → List ℕ → Known → List (List ℕ)
+said_of is_key reading file known =
+    first_words is_key reading file known
+    ∷ misfit_words (key_lens known) (codes "Its private key has %k, where %n has %o.")
+    ∷ misfit_words (point_lens known) (codes "Its point has %p, where %n has %q.")
+    ∷ advice_words (advice_of is_key known) reading
+    ∷ advice_command (advice_of is_key known) reading ∷ []
+
+-- the line of a sentence, if it isn't empty
+abbrev pub said_line : Known → List ℕ → List ℕ
+said_line known sentence =
+    if length sentence == 0 then []
+    else line_text (shown (kept (sentence_text known false sentence)))
+
+-- their lines
+unfoldable pub said_text : Bool → Reading → List ℕ → Known → List ℕ
+said_text is_key reading file known =
+    flat_map (said_line known) (said_of is_key reading file known)
+
+-- which lines are there below the first one
+unfoldable pub said_lines : Bool → Reading → Known → SaidLines
+said_lines is_key reading known =
+    let is_said = λ (place : ℕ).
+    not (length (slice_index_or (said_of is_key reading [] known) place []) == 0) in
+    record { key = is_said 1; point = is_said 2; words = is_said 3; command = is_said 4 }
 
 -- a line, or none
 abbrev pub line_if : List ℕ → List ℕ → List ℕ
 line_if front text =
     if length text == 0 then [] else line_text (shown (kept (front ++ text)))
-
-abbrev pub advice_text : Advice → List ℕ
-advice_text advice =
-    line_if [] (advice_words advice) ++ line_if (codes "  ") (advice_command advice)
-
--- what is said of bytes, which are a key's or not
-unfoldable pub said_text : Bool → Reading → Option Sentence → Known → List ℕ
-said_text is_key reading file known =
-    line_text (shown (kept (first_text is_key reading file known)))
-    ++ (misfit_text (codes "Its private key has ") known.curve (key_misfit known)
-    ++ (misfit_text (codes "Its point has ") known.curve (point_misfit known)
-    ++ advice_text (advice_of is_key reading known)))
-
--- which lines are there below the first one
-unfoldable pub said_lines : Bool → Reading → Known → SaidLines
-said_lines is_key reading known = record {
-  key = is_some (key_misfit known);
-  point = is_some (point_misfit known);
-  words = not (length (advice_words (advice_of is_key reading known)) == 0);
-  command = not (length (advice_command (advice_of is_key reading known)) == 0);
-}
 
 -- what is said of a source with no bytes
 abbrev pub note_text : Sentence → List ℕ

@@ -1,6 +1,6 @@
 -- What of an input is drawn.
 use Rattle.std.specs.Prelude.{Bool, not, ◌&&◌, ◌==◌}
-use Rattle.der_view.specs.declared.showing.Options.{Options}
+use Rattle.der_view.specs.declared.printer.Options.{Options}
 
 -- all of it, in rows
 abbrev pub are_plain : Options → Bool

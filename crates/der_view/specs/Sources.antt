@@ -1,12 +1,12 @@
 -- What an input is: DER, or a text that encodes some.
 use Rattle.std.specs.Prelude.{ℕ, ◌+◌, ◌==◌, ◌&&◌, ◌||◌, not, nat_le, Bool, true, false}
 use Rattle.std.specs.Prelude.{if◌then◌else◌, List, [], ◌∷◌, length, take, drop, Option, Some, None}
-use Rattle.std.specs.Prelude.{option_map, is_some, codes, nat_eq}
-use Rattle.std.specs.List.{list_all, list_any, starts_with}
+use Rattle.std.specs.Prelude.{option_map}
+use Rattle.std.specs.List.{list_all}
 use Rattle.std.specs.Str.{bytes_eq, is_utf8}
-use Rattle.der_view.specs.Blocks.{BlockView, block_view, blocks_in, is_key_of_openssl}
-use Rattle.der_view.specs.Blocks.{is_of_private_key, lines_of}
-use Rattle.der_view.specs.Encoded.{place_of}
+pub use Rattle.der_view.specs.Blocks.{begins}
+use Rattle.der_view.specs.Blocks.{BlockView, begin_at, block_view, blocks_in, has, is_in}
+use Rattle.der_view.specs.Blocks.{is_key_of_openssl, is_of_private_key}
 use Rattle.der_view.specs.Pictures.{plan_of}
 use Rattle.der_view.specs.declared.sentences.Sentence.{Sentence}
 use Rattle.der_view.specs.declared.sentences.Sentence.TheVariants as sentences
@@ -27,10 +27,6 @@ source_view (sources.Pem block is_read) = Pem (block_view block) is_read
 source_view (sources.Text text) = Text text.now
 source_view (sources.Wide note) = Wide note
 
--- whether bytes begin so
-abbrev pub begins : List ℕ → List ℕ → Bool
-begins bytes front = starts_with nat_eq bytes front
-
 -- no control character but the tab, the line feed and the carriage return
 abbrev pub is_text_byte : ℕ → Bool
 is_text_byte byte = nat_le 0x20 byte || (byte == 0x09 || (byte == 0x0A || byte == 0x0D))
@@ -41,7 +37,7 @@ is_text input = not (length input == 0) && (list_all is_text_byte input && is_ut
 
 -- whether `-----BEGIN ` is in a text
 unfoldable pub has_begin : List ℕ → Bool
-has_begin text = is_some (place_of text (codes "-----BEGIN "))
+has_begin text = is_in begin_at true text
 
 -- the length of an input that is a text, or that `-----BEGIN ` is in; 0 of any other
 abbrev pub text_len : List ℕ → ℕ
@@ -85,7 +81,7 @@ or_source (Some other) (source ∷ sources) = source ∷ sources
 abbrev pub blocks_or : SourceView → List ℕ → List SourceView
 blocks_or other input =
     or_source (Some other)
-    (pem_sources (list_any (λ byte. byte == 0x0A) input) (blocks_in 0 (lines_of input)))
+    (pem_sources (has input 0x0A) (blocks_in true 0 input))
 
 -- a text without the byte order mark of UTF-8 (RFC 3629 section 6)
 abbrev pub without_mark : List ℕ → List ℕ
@@ -116,7 +112,7 @@ abbrev pub total_len : List SourceView → ℕ
 total_len [] = 0
 total_len (source ∷ sources) = source_len source + 2 + total_len sources
 
--- the blocks in these lines, or else a source that isn't read yet
-abbrev pub sources_left : Option Source → Bool → ℕ → List ℕ → List SourceView
-sources_left other reads number text =
-    or_source (option_map source_view other) (pem_sources reads (blocks_in number (lines_of text)))
+-- the blocks in a text after so many lines, or else a source that isn't read yet
+abbrev pub sources_left : Option Source → Bool → Bool → ℕ → List ℕ → List SourceView
+sources_left other reads starts number text =
+    or_source (option_map source_view other) (pem_sources reads (blocks_in starts number text))

@@ -1,16 +1,14 @@
 -- What is shown of the content of a primitive element.
 use Rattle.std.specs.Prelude.{◌==◌, ℕ, zero, suc, ◌+◌, ◌-◌, ◌*◌, ◌/◌, ◌%◌, ◌^◌, nat_lt}
-use Rattle.std.specs.Prelude.{if◌then◌else◌, List, [], ◌∷◌, ◌++◌, length, Bool, ◌&&◌, ◌||◌}
-use Rattle.std.specs.Prelude.{codes, slice_index, take, drop, take_while, Option, Some, None}
+use Rattle.std.specs.Prelude.{if◌then◌else◌, List, [], ◌∷◌, ◌++◌, length, ◌&&◌, ◌||◌}
+use Rattle.std.specs.Prelude.{codes, slice_index, take, drop, Option, Some, None}
 use Rattle.std.specs.Prelude.{option_map, unwrap_or}
 use Rattle.std.specs.Fmt.{decimal, signed_decimal}
-use Rattle.std.specs.List.{list_all}
-use Rattle.sec1_der.specs.Identifiers.{arcs_of, numbers_after}
 use Rattle.sec1_der.specs.Identifiers.{dotted}
 use Rattle.der_types.specs.Integers.{signed_number}
-use Rattle.der_types.specs.ObjectIdentifiers.{is_object_identifier}
 use Rattle.der_types.specs.Strings.{is_visible}
 use Rattle.der_types.specs.Times.{is_generalized_time, is_utc_time}
+use Rattle.der_view.specs.Arcs.{arcs_by, arcs_left}
 use Rattle.der_view.specs.Characters.{codes_of, escaped_all, string_codes}
 use Rattle.der_view.specs.Names.{name_by}
 use Rattle.der_view.specs.declared.header.Class.{Class}
@@ -40,25 +38,8 @@ abbrev pub bits_text : List ℕ → ℕ → List ℕ
 bits_text bytes zero = []
 bits_text bytes (suc count) = bits_text bytes count ++ bit_digit bytes count ∷ []
 
--- an arc as `Arcs` has it: below 2^128
-abbrev pub is_u128 : ℕ → Bool
-is_u128 arc = nat_lt arc (2 ^ 128)
-
--- X.690 section 8.19.2: the subidentifiers in these bytes before one that isn't below 2^128; `high`
--- is the number in the digits of the first one that were read before
-abbrev pub numbers_below : ℕ → List ℕ → List ℕ
-numbers_below high bytes = take_while is_u128 (numbers_after high bytes)
-
--- X.690 section 8.19.4: the arcs of an identifier
 abbrev pub arcs_view : Arcs → List ℕ
-arcs_view arcs = arcs.first ∷ arcs.second ∷ numbers_below 0 arcs.further.now
-
--- X.690 section 8.19: the arcs of the identifier with this content, if each of its subidentifiers
--- is below 2^128
-abbrev pub arcs_by : List ℕ → Option (List ℕ)
-arcs_by content =
-    if is_object_identifier content && list_all is_u128 (numbers_after 0 content)
-    then Some (arcs_of content) else None
+arcs_view arcs = arcs_left arcs.begun arcs.left.now
 
 -- what is shown of a content
 pub data ValueView : Type 0 where

@@ -1,27 +1,21 @@
 //! The characters of a string.
-ghost use Rattle.std.specs.Prelude.{◌≡◌, ◌==◌, ◌<◌, ◌+◌, ◌*◌, ◌%◌, [], ◌∷◌, ◌&&◌, MatchOption};
-ghost use Rattle.std.specs.Prelude.{Some, chars, length, nat_le, nat_lt, option_map};
-ghost use Rattle.std.specs.Char.Utf16.{is_high_surrogate, is_low_surrogate, utf16_chars};
+ghost use Rattle.std.specs.Prelude.{◌≡◌, ◌<◌, ◌%◌, ◌+◌, [], ◌∷◌, MatchOption, length, option_map};
+ghost use Rattle.std.specs.Char.Utf16.{utf16_chars};
+ghost use Rattle.std.specs.Iterator.{YieldsFirst, item_count};
 ghost use Rattle.der_view.specs.Characters.{are_characters, codes_of, is_utf16, string_codes};
-ghost use Rattle.der_view.specs.Characters.{units_of, utf16_codes};
+ghost use Rattle.der_view.specs.Characters.{units_of};
 
 use der_types::kind::{Ia5String, Kind, NumericString, PrintableString, Utf8String, VisibleString};
 
-/// Bytes that stand for characters.
+/// The characters of a string, from the next one on.
 #[derive(Clone, Copy)]
-enum Encoded<'a> {
+pub enum Characters<'a> {
     /// In UTF-8 (X.690 section 8.23.10).
     Utf8(&'a str),
-    /// In UTF-16, the most significant byte first (X.690 section 8.23.8).
+    /// In UTF-16, the most significant byte first (X.690 section 8.23.8), up to what is none.
     Utf16(&'a [u8]),
     /// In a byte each, as ISO 8859-1 has them.
     Latin1(&'a [u8]),
-}
-
-/// The characters of a string, from the next one on.
-#[derive(Clone, Copy)]
-pub struct Characters<'a> {
-    encoded: Encoded<'a>,
 }
 
 impl<'a> Characters<'a> {
@@ -29,9 +23,7 @@ impl<'a> Characters<'a> {
     pub fn latin1(bytes: &'a [u8]) -> Characters<'a>
         ensures { codes_of result ≡ bytes.now }
     {
-        Characters {
-            encoded: Encoded::Latin1(bytes),
-        }
+        Characters::Latin1(bytes)
     }
 
     /// Returns the characters of the content of a string type of X.680, given by its tag number;
@@ -44,39 +36,40 @@ impl<'a> Characters<'a> {
             return None;
         }
         match number {
-            12 => match str::from_utf8(bytes) {
-                Ok(text) => Some(Characters {
-                    encoded: Encoded::Utf8(text),
-                }),
-                Err(_) => None,
-            },
-            18..=22 | 25..=27 => Some(Characters::latin1(bytes)),
-            30 => Some(Characters {
-                encoded: Encoded::Utf16(bytes),
-            }),
+            12 => Some(Characters::Utf8(str::from_utf8(bytes).ok()?)),
+            18..=22 | 25..=27 => Some(Characters::Latin1(bytes)),
+            30 => Some(Characters::Utf16(bytes)),
             _ => None,
         }
     }
+}
 
-    /// Returns the code of the next character (ISO/IEC 10646); `None` after the last one.
-    pub fn next_character(&mut self) -> Option<u32>
-        ensures { MatchOption result ((codes_of self.old ≡ []) × (self.new ≡ self.old))
-            (λ code. codes_of self.old ≡ code ∷ codes_of self.new) }
-    {
-        match self.encoded {
-            Encoded::Utf8(text) => {
-                let (code, rest) = split_utf8(text)?;
-                self.encoded = Encoded::Utf8(rest);
+/// Returns the codes of the characters (ISO/IEC 10646).
+impl Iterator for Characters<'_> {
+    type Item = u32;
+
+    ghost next_gives = { YieldsFirst codes_of };
+
+    ghost remaining = { item_count codes_of };
+
+    #[tactic(auto, using(crate::proofs::CharacterLemmas::first))]
+    fn next(&mut self) -> Option<u32> {
+        match *self {
+            Characters::Utf8(text) => {
+                let mut characters = text.chars();
+                let first = characters.next()?;
+                *self = Characters::Utf8(characters.as_str());
+                Some(u32::from(first))
+            }
+            Characters::Utf16(bytes) => {
+                let (character, rest) = split_utf16(bytes)?;
+                let code = character?;
+                *self = Characters::Utf16(rest);
                 Some(code)
             }
-            Encoded::Utf16(bytes) => {
-                let (code, rest) = split_utf16(bytes)?;
-                self.encoded = Encoded::Utf16(rest);
-                Some(code)
-            }
-            Encoded::Latin1(bytes) => {
+            Characters::Latin1(bytes) => {
                 let (code, rest) = bytes.split_first()?;
-                self.encoded = Encoded::Latin1(rest);
+                *self = Characters::Latin1(rest);
                 Some(u32::from(*code))
             }
         }
@@ -101,26 +94,43 @@ pub(crate) fn are_characters(number: u32, bytes: &[u8]) -> bool
 }
 
 /// Returns `true` if the bytes are characters in UTF-16.
-#[tactic(auto, using(crate::proofs::CharacterLemmas::utf16_valid))]
+#[tactic(auto, using(crate::proofs::CharacterLemmas::utf16))]
 fn are_utf16(bytes: &[u8]) -> bool
     ensures { result ≡ is_utf16 bytes.now }
 {
     let mut rest = bytes;
-    while let Some((_, after)) = split_utf16(rest) {
+    while let Some((character, after)) = split_utf16(rest) {
+        if character.is_none() {
+            return false;
+        }
         rest = after;
     }
     rest.is_empty()
 }
 
-/// Returns the first character of a text and the text after it.
-#[tactic(auto, using(std::proofs::StrCases::chars_of_empty, std::proofs::lemmas::Str::chars_past_char))]
-fn split_utf8(text: &str) -> Option<(u32, &str)>
-    ensures { MatchOption result (chars text.now ≡ [])
-        (λ split. chars text.now ≡ split.0 ∷ chars split.1.now) }
+/// Returns the first character in UTF-16 (ISO/IEC 10646 section 9.4), which is none at a surrogate
+/// that has no partner, and the bytes after it; `None` if there aren't two bytes.
+#[tactic(auto, using(crate::proofs::CharacterLemmas::utf16))]
+fn split_utf16(bytes: &[u8]) -> Option<(Option<u32>, &[u8])>
+    ensures characters { MatchOption result (units_of bytes.now ≡ [])
+        (λ split. utf16_chars (units_of bytes.now) ≡ split.0 ∷ utf16_chars (units_of split.1.now)) }
+    ensures parity { MatchOption result (length bytes.now < 2)
+        (λ split. length bytes.now % 2 ≡ length split.1.now % 2) }
+    ensures shorter { MatchOption result (length bytes.now < 2)
+        (λ split. length split.1.now < length bytes.now) }
 {
-    let mut characters = text.chars();
-    let first = characters.next()?;
-    Some((u32::from(first), characters.as_str()))
+    let (first, after) = split_unit(bytes)?;
+    if let Some((second, rest)) = split_unit(after)
+        && (first >= 0xD800 && first < 0xDC00)
+        && (second >= 0xDC00 && second < 0xE000)
+    {
+        let code = 0x1_0000 + (first - 0xD800) * 0x400 + (second - 0xDC00);
+        return Some((Some(code), rest));
+    }
+    if first >= 0xD800 && first < 0xE000 {
+        return Some((None, after));
+    }
+    Some((Some(first), after))
 }
 
 /// Returns the first unit of 16 bits, the most significant byte first, and the bytes after it;
@@ -135,41 +145,4 @@ fn split_unit(bytes: &[u8]) -> Option<(u32, &[u8])>
         [high, low, rest @ ..] => Some((0x100 * u32::from(*high) + u32::from(*low), rest)),
         _ => None,
     }
-}
-
-/// Returns the first character in UTF-16 (ISO/IEC 10646 section 9.4) and the bytes after it; `None`
-/// if the bytes don't begin with one.
-#[tactic(auto, using(crate::proofs::CharacterLemmas::utf16_unit, crate::proofs::CharacterLemmas::utf16_few))]
-fn split_utf16(bytes: &[u8]) -> Option<(u32, &[u8])>
-    ensures { MatchOption result
-        ((utf16_codes bytes.now ≡ []) × (is_utf16 bytes.now ≡ (length bytes.now == 0)))
-        (λ split. (utf16_chars (units_of bytes.now)
-        ≡ Some split.0 ∷ utf16_chars (units_of split.1.now))
-        × (length bytes.now % 2 ≡ length split.1.now % 2)
-        × (length split.1.now < length bytes.now)) }
-{
-    let (high, after) = split_unit(bytes)?;
-    if !is_surrogate(high) {
-        return Some((high, after));
-    }
-    let (low, rest) = split_unit(after)?;
-    if are_pair(high, low) {
-        Some((0x1_0000 + (high - 0xD800) * 0x400 + (low - 0xDC00), rest))
-    } else {
-        None
-    }
-}
-
-/// Returns `true` if a unit is one of the two of a character.
-fn is_surrogate(unit: u32) -> bool
-    ensures { result ≡ (nat_le 0xD800 unit && nat_lt unit 0xE000) }
-{
-    unit >= 0xD800 && unit < 0xE000
-}
-
-/// Returns `true` if the two units are those of one character.
-fn are_pair(high: u32, low: u32) -> bool
-    ensures { result ≡ (is_high_surrogate high && is_low_surrogate low) }
-{
-    (high >= 0xD800 && high < 0xDC00) && (low >= 0xDC00 && low < 0xE000)
 }

@@ -1,10 +1,14 @@
 //! What is shown of a content.
 ghost use Rattle.std.specs.Prelude.{◌≡◌, ◌≤◌, length};
-ghost use Rattle.der_view.specs.Contents.{is_minimal, is_plain, is_primitive, is_small, is_text};
-ghost use Rattle.der_view.specs.Contents.{is_time, is_valid, is_whole, is_wide_text, shown_len};
+ghost use Rattle.std.specs.Char.{is_ascii_digit};
+ghost use Rattle.std.specs.List.{list_all};
+ghost use Rattle.der_view.specs.Contents.{is_plain, is_primitive, is_small, is_time, is_valid};
+ghost use Rattle.der_view.specs.Contents.{is_whole, is_wide_text, shown_len};
 
 use crate::grammar::Content;
 use crate::header::{Class, Header, Tag};
+use crate::names::split;
+use der_types::kind::{Integer, Kind};
 
 /// Returns how many of the first bytes of a content are shown: all, or none; of a point its form,
 /// and before it the number of unused bits unless it is in an OCTET STRING. Of one that is cut, or
@@ -43,10 +47,7 @@ pub(crate) fn is_primitive(header: &Header) -> bool
 pub(crate) fn is_whole(header: &Header, bytes: &[u8]) -> bool
     ensures { result ≡ is_whole header.now bytes.now }
 {
-    match header.content_len {
-        Some(len) => !header.tag.constructed && len == bytes.len(),
-        None => false,
-    }
+    is_primitive(header) && header.content_len == Some(bytes.len())
 }
 
 /// Returns `true` if a content is valid for its tag (X.680 section 8.4, table 1): a number in its
@@ -60,26 +61,12 @@ fn is_valid(tag: Tag, bytes: &[u8]) -> bool
         return true;
     };
     match tag.number {
-        2 | 10 => is_minimal(bytes),
+        2 | 10 => Integer::test(bytes),
         12 | 18 | 19 | 20 | 21 | 22 | 25 | 26 | 27 => is_text(bytes),
-        23 => bytes.len() == 13 && is_time(bytes),
-        24 => bytes.len() == 15 && is_time(bytes),
+        23 => is_time(12, bytes),
+        24 => is_time(14, bytes),
         28 => false,
         30 => is_wide_text(bytes),
-        _ => true,
-    }
-}
-
-/// Returns `true` if a content is that of a number, and has no byte more than it needs (X.690
-/// section 8.3.2).
-#[tactic(auto, unfolding(crate::specs::Contents::is_minimal))]
-fn is_minimal(bytes: &[u8]) -> bool
-    ensures { result ≡ is_minimal bytes.now }
-{
-    match bytes {
-        [] => false,
-        [0x00, second, ..] => *second >= 0x80,
-        [0xFF, second, ..] => *second < 0x80,
         _ => true,
     }
 }
@@ -93,16 +80,9 @@ fn is_plain(byte: u8) -> bool
 
 /// Returns `true` if no byte is a control character.
 fn is_text(bytes: &[u8]) -> bool
-    ensures { result ≡ is_text bytes.now }
+    ensures { result ≡ list_all is_plain bytes.now }
 {
-    let mut bytes = bytes;
-    while let [byte, rest @ ..] = bytes {
-        if !is_plain(*byte) {
-            return false;
-        }
-        bytes = rest;
-    }
-    true
+    bytes.iter().all(|byte| is_plain(*byte))
 }
 
 /// Returns `true` if these are characters of two bytes, none of them a control character.
@@ -119,18 +99,19 @@ fn is_wide_text(bytes: &[u8]) -> bool
     bytes.is_empty()
 }
 
-/// Returns `true` if these are digits, and a `Z` after them.
-fn is_time(bytes: &[u8]) -> bool
-    ensures { result ≡ is_time bytes.now }
+/// Returns `true` if these are so many digits, and a `Z` after them.
+fn is_time(count: usize, bytes: &[u8]) -> bool
+    ensures { result ≡ is_time count bytes.now }
 {
-    let mut bytes = bytes;
-    while let [digit, rest @ ..] = bytes {
-        if *digit < b'0' || *digit > b'9' {
-            return *digit == b'Z' && rest.is_empty();
-        }
-        bytes = rest;
-    }
-    false
+    let (digits, end) = split(bytes, count);
+    are_digits(digits) && end.len() == 1 && end[0] == b'Z'
+}
+
+/// Returns `true` if these are digits.
+fn are_digits(bytes: &[u8]) -> bool
+    ensures { result ≡ list_all is_ascii_digit bytes.now }
+{
+    bytes.iter().all(|byte| byte.is_ascii_digit())
 }
 
 /// Returns `true` if a content is shown of an element that has no component: a BOOLEAN, an INTEGER,
@@ -144,7 +125,7 @@ fn is_small(tag: Tag, bytes: &[u8]) -> bool
     };
     match tag.number {
         1 => bytes.len() == 1,
-        2 | 10 => bytes.len() <= 8 && is_minimal(bytes),
+        2 | 10 => bytes.len() <= 8 && Integer::test(bytes),
         5 => bytes.is_empty(),
         6 => bytes.len() <= 12,
         _ => false,

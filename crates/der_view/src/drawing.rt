@@ -1,12 +1,12 @@
 //! The picture of an input: what is printed of it.
-ghost use Rattle.std.specs.Prelude.{◌≡◌, ◌++◌, length, OnOk, option_map};
+ghost use Rattle.std.specs.Prelude.{◌≡◌, ◌++◌, flat_map, map, OnOk, option_map};
 ghost use Rattle.der_view.specs.Drawings.{IsKey, end_text, flaw_words, found_text};
 ghost use Rattle.der_view.specs.Drawings.{heading_of, is_key_of, known_of, pem_heading};
 ghost use Rattle.der_view.specs.Drawings.{reading_of, reading_with};
 ghost use Rattle.der_view.specs.Drawings.{text_heading};
 ghost use Rattle.der_view.specs.Lines.{kept};
 ghost use Rattle.der_view.specs.Pictures.{plan_of};
-ghost use Rattle.der_view.specs.Said.{line_if, misfit_text, said_lines, said_text};
+ghost use Rattle.der_view.specs.Said.{line_if, said_line, said_lines, said_text};
 ghost use Rattle.der_view.specs.Sources.{source_view};
 
 use crate::faults::key_fault;
@@ -16,11 +16,8 @@ use crate::line::Line;
 use crate::output::Output;
 use crate::plan::{Plan, plan_of};
 use crate::printer::write_line;
-use crate::said::{
-    Reading, SaidLines, advice_of, file_note, first_line, key_misfit, line_of, misfit_line,
-    point_misfit,
-};
-use crate::sentences::Sentence;
+use crate::said::{SaidLines, said_of};
+use crate::sentences::Reading;
 use crate::text::{Encoding, Flaw, Found, Source, armour_of};
 use sec1::BorrowedKey;
 
@@ -65,19 +62,41 @@ pub(crate) fn write_said<W: Output>(
     writer: &mut W,
     is_key: bool,
     reading: Reading,
-    file: Option<Sentence>,
+    file: &'static str,
     known: &Known,
 ) -> Result<(), W::Error>
     ensures { OnOk result (W.appends writer.old writer.new
-        (said_text is_key reading file known.now)) }
+        (said_text is_key reading file.now known.now)) }
 {
-    write_line(writer, &first_line(is_key, reading, file, known))?;
-    let curve = known.curve.as_bytes();
-    write_misfit(writer, "Its private key has ", curve, key_misfit(known))?;
-    write_misfit(writer, "Its point has ", curve, point_misfit(known))?;
-    let advice = advice_of(is_key, reading, known);
-    write_text(writer, "", advice.words())?;
-    write_text(writer, "  ", advice.command())
+    write_sentences(writer, &said_of(is_key, reading, file, known), known)
+}
+
+/// Writes a line for each of these sentences that isn't empty.
+fn write_sentences<W: Output>(
+    writer: &mut W,
+    sentences: &[&'static str],
+    known: &Known,
+) -> Result<(), W::Error>
+    ensures { OnOk result (W.appends writer.old writer.new
+        (flat_map (said_line known.now) (map (λ sentence. sentence.now) sentences.now))) }
+{
+    let Some((sentence, others)) = sentences.split_first() else {
+        return Ok(());
+    };
+    write_sentence(writer, sentence, known)?;
+    write_sentences(writer, others, known)
+}
+
+/// Writes the line of a sentence, if it isn't empty.
+fn write_sentence<W: Output>(writer: &mut W, sentence: &str, known: &Known) -> Result<(), W::Error>
+    ensures { OnOk result (W.appends writer.old writer.new (said_line known.now sentence.now)) }
+{
+    if sentence.is_empty() {
+        return Ok(());
+    }
+    let mut line = Line::new();
+    line.push_sentence(false, sentence.as_bytes(), known);
+    write_line(writer, &line)
 }
 
 /// Returns which lines [`draw`] writes last of bytes from a text with this flaw, below the first
@@ -88,28 +107,13 @@ pub fn said_lines(bytes: &[u8], reading: Reading, flaw: Flaw) -> SaidLines
         (known_of (plan_of bytes.now) bytes.now) }
 {
     let known = known_of(plan_of(bytes), bytes);
-    let advice = advice_of(is_read_as_key(bytes), reading_with(reading, flaw), &known);
+    let is_key = is_read_as_key(bytes);
+    let said = said_of(is_key, reading_with(reading, flaw), "", &known);
     SaidLines {
-        key: key_misfit(&known).is_some(),
-        point: point_misfit(&known).is_some(),
-        words: !advice.words().is_empty(),
-        command: !advice.command().is_empty(),
-    }
-}
-
-/// Writes the line on a length that isn't that of a curve, if there is one.
-fn write_misfit<W: Output>(
-    writer: &mut W,
-    front: &str,
-    curve: &[u8],
-    misfit: Option<(usize, usize)>,
-) -> Result<(), W::Error>
-    ensures { OnOk result (W.appends writer.old writer.new
-        (misfit_text front.now curve.now misfit)) }
-{
-    match misfit {
-        Some(misfit) => write_line(writer, &misfit_line(front, curve, misfit)),
-        None => Ok(()),
+        key: !said[1].is_empty(),
+        point: !said[2].is_empty(),
+        words: !said[3].is_empty(),
+        command: !said[4].is_empty(),
     }
 }
 
@@ -121,7 +125,8 @@ pub(crate) fn write_text<W: Output>(writer: &mut W, front: &str, text: &str) -> 
     if text.is_empty() {
         return Ok(());
     }
-    let mut line = line_of(front);
+    let mut line = Line::new();
+    line.push_str(front);
     line.push_str(text);
     write_line(writer, &line)
 }
@@ -143,13 +148,7 @@ impl<'a> Source<'a> {
     {
         match self {
             Source::Der(_) => Reading::Der,
-            Source::Pem { is_read, .. } => {
-                if *is_read {
-                    Reading::Pem
-                } else {
-                    Reading::Nothing
-                }
-            }
+            Source::Pem { is_read: true, .. } => Reading::Pem,
             _ => Reading::Nothing,
         }
     }
@@ -158,14 +157,13 @@ impl<'a> Source<'a> {
     pub fn heading(&self, found: &Found) -> Option<Line>
         ensures { result ≡ option_map kept (heading_of (source_view self.now) found.now) }
     {
-        match self {
-            Source::Pem { block, .. } => Some(pem_line(
-                block.line,
-                block.label,
-                found,
-                block.has_end,
-            )),
-            Source::Text(text) => text_line(*text, found),
+        match (self, found) {
+            (Source::Pem { block, .. }, _) => {
+                Some(pem_line(block.line, block.label, found, block.has_end))
+            }
+            (Source::Text(text), Found::Decoded(encoding, _, _)) => {
+                text_line(*text, *encoding, found)
+            }
             _ => None,
         }
     }
@@ -193,18 +191,17 @@ fn end_text(has_end: bool) -> &'static str
     if has_end { "" } else { ", with no line END" }
 }
 
-/// Returns the line above the picture of a text with no block, if bytes were decoded.
-fn text_line(text: &[u8], found: &Found) -> Option<Line>
-    ensures { result ≡ option_map kept (text_heading text.now found.now) }
+/// Returns the line above the picture of a text with no block, of which bytes were decoded.
+fn text_line(text: &[u8], encoding: Encoding, found: &Found) -> Option<Line>
+    ensures { result ≡ option_map kept (text_heading text.now encoding found.now) }
 {
-    match found {
-        Found::Decoded(Encoding::Pem, _, _) => {
+    match encoding {
+        Encoding::Pem => {
             let armour = armour_of(text)?;
             Some(pem_line(armour.line, armour.label, found, armour.has_end))
         }
-        Found::Decoded(Encoding::Hexadecimal, _, _) => Some(plain_line("hexadecimal: ", found)),
-        Found::Decoded(Encoding::Base64, _, _) => Some(plain_line("base64: ", found)),
-        _ => None,
+        Encoding::Hexadecimal => Some(plain_line("hexadecimal: ", found)),
+        Encoding::Base64 => Some(plain_line("base64: ", found)),
     }
 }
 
@@ -213,7 +210,8 @@ fn text_line(text: &[u8], found: &Found) -> Option<Line>
 fn plain_line(encoding: &str, found: &Found) -> Line
     ensures { result ≡ kept (encoding.now ++ found_text found.now) }
 {
-    let mut line = line_of(encoding);
+    let mut line = Line::new();
+    line.push_str(encoding);
     line.push_found(found);
     line
 }

@@ -2,8 +2,8 @@
 ghost use Rattle.std.specs.Prelude.{◌≡◌};
 ghost use Rattle.der_view.specs.Facts.{bare_row, element_marks, element_row, end_row};
 ghost use Rattle.der_view.specs.Facts.{is_all, is_private, is_private_name, is_told, misfit_mark};
-ghost use Rattle.der_view.specs.Facts.{missing_mark, not_drawn_mark, not_drawn_row, point_of};
-ghost use Rattle.der_view.specs.Facts.{point_shown, row_view, shown_by, shown_fault};
+ghost use Rattle.der_view.specs.Facts.{missing_mark, not_drawn_row, point_of, point_shown};
+ghost use Rattle.der_view.specs.Facts.{row_view, shown_by, shown_fault};
 ghost use Rattle.der_view.specs.Rows.{view_of};
 
 use crate::grammar::{Component, Content, Form, Name, Secrecy};
@@ -139,8 +139,13 @@ impl<'a> RowFacts<'a> {
         ensures { row_view result
             ≡ not_drawn_row plan place expected.now len content.now }
     {
+        let mark = if place.depth == 0 && place.offset > 0 {
+            Some(Mark::AfterRoot)
+        } else {
+            misfit_mark(plan, false)
+        };
         RowFacts {
-            marks: [not_drawn_mark(plan, place), None, None, None, None, None],
+            marks: [mark, None, None, None, None, None],
             expected,
             content,
             ..RowFacts::bare(place, Kind::NotDrawn, len)
@@ -174,10 +179,7 @@ impl<'a> RowFacts<'a> {
         ensures { result ≡ is_told (row_view self.now) }
     {
         let first = self.marks[0];
-        match self.kind {
-            Kind::NotDrawn => self.len > 0 || first.is_some(),
-            _ => true,
-        }
+        !matches!(self.kind, Kind::NotDrawn) || self.len > 0 || first.is_some()
     }
 }
 
@@ -188,23 +190,18 @@ fn is_private(form: Option<Form>) -> bool
     matches!(form, Some((_, Secrecy::Private)))
 }
 
-/// Returns `true` if a component with this name is private.
+/// The names of the components with private bytes.
+#[rattlefmt::skip]
+const PRIVATE_NAMES: [Name; 10] = [
+    Name::PrivateKey, Name::TheKey, Name::PrivateExponent, Name::Prime1, Name::Prime2,
+    Name::Exponent1, Name::Exponent2, Name::Coefficient, Name::OtherPrimeInfos, Name::X,
+];
+
+/// Returns `true` if it is one of them.
 fn is_private_name(name: Name) -> bool
     ensures { result ≡ is_private_name name }
 {
-    matches!(
-        name,
-        Name::PrivateKey
-            | Name::TheKey
-            | Name::PrivateExponent
-            | Name::Prime1
-            | Name::Prime2
-            | Name::Exponent1
-            | Name::Exponent2
-            | Name::Coefficient
-            | Name::OtherPrimeInfos
-            | Name::X
-    )
+    PRIVATE_NAMES.iter().any(|private| name.is(*private))
 }
 
 /// Returns what is shown of an element's content.
@@ -267,10 +264,10 @@ fn element_marks(plan: Plan, element: &Element) -> [Option<Mark>; 6]
     let length_len = header.len.saturating_sub(header.tag_len);
     [
         missing_mark(header.content_len, element.len),
-        tag_fault(element.head, tag.number).map(Mark::Fault),
-        length_fault(header.content_len, length_len).map(Mark::Fault),
-        string_fault(tag).map(Mark::Fault),
-        shown_fault(element).map(Mark::Fault),
+        tag_fault(element.head, tag.number),
+        length_fault(header.content_len, length_len),
+        string_fault(tag),
+        shown_fault(element),
         misfit_mark(plan, element.follows),
     ]
 }
@@ -279,25 +276,23 @@ fn element_marks(plan: Plan, element: &Element) -> [Option<Mark>; 6]
 fn missing_mark(announced: Option<usize>, len: usize) -> Option<Mark>
     ensures { result ≡ missing_mark announced len }
 {
-    match announced {
-        Some(announced) if announced > len => Some(Mark::Missing {
-            missing: announced - len,
-            announced,
-        }),
-        _ => None,
-    }
+    let announced = announced?;
+    (announced > len).then_some(Mark::Missing {
+        missing: announced.saturating_sub(len),
+        announced,
+    })
 }
 
 /// Returns what is wrong with what is shown of an element's content: all, or of a BIT STRING the
 /// number of unused bits.
-fn shown_fault(element: &Element) -> Option<Fault>
+fn shown_fault(element: &Element) -> Option<Mark>
     ensures { result ≡ shown_fault (view_of element.now) }
 {
     let tag = element.header.tag;
     match (tag.class, element.shown) {
         (Class::Universal, shown) if is_all(element) => content_fault(tag.number, shown),
         (Class::Universal, [unused, ..]) if tag.number == 3 && *unused > 7 => {
-            Some(Fault::UnusedAboveSeven)
+            Some(Mark::Fault(Fault::UnusedAboveSeven))
         }
         _ => None,
     }
@@ -307,20 +302,5 @@ fn shown_fault(element: &Element) -> Option<Fault>
 fn misfit_mark(plan: Plan, follows: bool) -> Option<Mark>
     ensures { result ≡ misfit_mark plan follows }
 {
-    if is_private(plan.form) && !plan.is_cut && !follows {
-        Some(Mark::Expected)
-    } else {
-        None
-    }
-}
-
-/// Returns the mark of bytes at this place that aren't drawn.
-fn not_drawn_mark(plan: Plan, place: Place) -> Option<Mark>
-    ensures { result ≡ not_drawn_mark plan place }
-{
-    if place.depth == 0 && place.offset > 0 {
-        Some(Mark::AfterRoot)
-    } else {
-        misfit_mark(plan, false)
-    }
+    (is_private(plan.form) && !plan.is_cut && !follows).then_some(Mark::Expected)
 }

@@ -3,19 +3,17 @@
 
 use crate::characters::Characters;
 use crate::facts::{Kind, RowFacts, Shown};
-use crate::form::draw_rows;
-use crate::grammar::Component;
-use crate::header::Class;
 use crate::known::Known;
 use crate::line::{DIGITS, Line};
 use crate::marks::Mark;
 use crate::output::Output;
-use crate::plan::Plan;
-use crate::said::{Reading, advice_of, first_line, key_misfit, line_of, misfit_line, point_misfit};
-use crate::sentences::Sentence;
+use crate::said::said_of;
+use crate::sentences::Reading;
 use crate::values::{Arcs, Value};
-use crate::walk::{Element, Place, Rows};
 use itoa::Buffer;
+
+/// The names of the classes of tags (X.690 section 8.1.2.2).
+static CLASSES: [&[u8]; 4] = [b"universal", b"application", b"context", b"private"];
 
 /// An object that is being written.
 #[derive(Drop)]
@@ -75,11 +73,7 @@ impl<'w, W: Output> Object<'w, W> {
             return Ok(());
         }
         self.write_member(name, b"\"")?;
-        for byte in content {
-            let high = DIGITS[usize::from(byte / 16)];
-            let low = DIGITS[usize::from(byte % 16)];
-            self.writer.push(&[high, low])?;
-        }
+        write_hex(self.writer, DIGITS, content)?;
         self.writer.push(b"\"")
     }
 
@@ -87,49 +81,6 @@ impl<'w, W: Output> Object<'w, W> {
     pub(crate) fn end(self) -> Result<(), W::Error> {
         self.writer.push(b"}\n")
     }
-}
-
-/// Returns the offset of the first row that has a mark.
-pub(crate) fn mark_of(plan: Plan, bytes: &[u8]) -> Option<usize> {
-    let mut first = FirstMark { plan, offset: None };
-    draw_rows(&mut first, plan, bytes, false);
-    first.offset
-}
-
-/// Looks for the first row that has a mark.
-#[derive(Drop)]
-struct FirstMark {
-    /// How the bytes are drawn.
-    plan: Plan,
-    /// Its offset.
-    offset: Option<usize>,
-}
-
-impl FirstMark {
-    /// Looks at a row.
-    fn see(&mut self, row: &RowFacts) {
-        if self.offset.is_none() && row.marks.iter().any(|mark| mark.is_some()) {
-            self.offset = Some(row.place.offset);
-        }
-    }
-}
-
-impl Rows for FirstMark {
-    ghost tells = { λ _ _ _. Unit {0} };
-
-    fn element(&mut self, place: Place, element: &Element) {
-        self.see(&RowFacts::of_element(self.plan, false, place, element));
-    }
-
-    fn end_of_contents(&mut self, _place: Place) {}
-
-    fn not_drawn(&mut self, place: Place, expected: &[Component], len: usize, content: &[u8]) {
-        self.see(&RowFacts::of_not_drawn(self.plan, place, expected, len, content));
-    }
-
-    ghost nothing = { λ _. tt };
-
-    ghost joined = { λ _ _ _ _ _ _ _. tt };
 }
 
 /// Writes the last object of a picture that says this, with this command.
@@ -146,35 +97,26 @@ pub(crate) fn write_last<W: Output>(
 }
 
 /// Writes the last object of the picture of bytes, which are a key's or not, of which so much is
-/// known, and of which the first row with a mark is there.
+/// known.
 pub(crate) fn write_said_object<W: Output>(
     writer: &mut W,
     is_key: bool,
     reading: Reading,
-    file: Option<Sentence>,
+    file: &'static str,
     known: &Known,
-    mark: Option<usize>,
 ) -> Result<(), W::Error> {
-    let advice = advice_of(is_key, reading, known);
+    let said = said_of(is_key, reading, file, known);
     let mut object = Object::new(writer);
-    object.write_text_if("advice", advice.command().as_bytes())?;
+    object.write_text_if("advice", said[4].as_bytes().trim_ascii_start())?;
     object.write_flag("key", is_key)?;
-    if let Some(offset) = mark {
+    if let Some(offset) = known.first_mark {
         object.write_number("mark", offset)?;
     }
     object.write_member("words", b"\"")?;
-    object.write_line("", &first_line(is_key, reading, file, known))?;
-    let curve = known.curve.as_bytes();
-    if let Some(misfit) = key_misfit(known) {
-        object.write_line(" ", &misfit_line("Its private key has ", curve, misfit))?;
-    }
-    if let Some(misfit) = point_misfit(known) {
-        object.write_line(" ", &misfit_line("Its point has ", curve, misfit))?;
-    }
-    let lead = advice.words();
-    if !lead.is_empty() {
-        object.write_line(" ", &line_of(lead))?;
-    }
+    object.write_sentence("", said[0], known)?;
+    object.write_sentence(" ", said[1], known)?;
+    object.write_sentence(" ", said[2], known)?;
+    object.write_sentence(" ", said[3], known)?;
     object.writer.push(b"\"")?;
     object.end()
 }
@@ -185,20 +127,20 @@ pub(crate) fn write_object<W: Output>(writer: &mut W, row: &RowFacts) -> Result<
         return Ok(());
     }
     let mut object = Object::new(writer);
+    if let Some(announced) = row.announced
+        && announced != row.len
+    {
+        object.write_number("announced", announced)?;
+    }
     if let Kind::Element(tag) = row.kind {
-        if let Some(announced) = row.announced
-            && announced != row.len
-        {
-            object.write_number("announced", announced)?;
-        }
-        object.write_text_if("class", class_text(tag.class).as_bytes())?;
+        object.write_text_if("class", CLASSES[tag.class as usize])?;
         object.write_flag("constructed", tag.constructed)?;
     }
     object.write_content("content", row.content)?;
     object.write_number("depth", row.place.depth)?;
     object.write_faults(row)?;
     object.write_number("header_len", row.head.len())?;
-    if !matches!((row.kind, row.announced), (Kind::Element(_), None)) {
+    if row.announced.is_some() {
         object.write_number("len", row.len)?;
     }
     object.write_text_if("name", row.name.text().as_bytes())?;
@@ -210,22 +152,23 @@ pub(crate) fn write_object<W: Output>(writer: &mut W, row: &RowFacts) -> Result<
 impl<'w, W: Output> Object<'w, W> {
     /// Writes the objects of a row's marks, if it has some.
     fn write_faults(&mut self, row: &RowFacts) -> Result<(), W::Error> {
-        let mut is_first = true;
+        let mut has_mark = false;
         for mark in row.marks {
-            if let Some(mark) = mark {
-                if is_first {
-                    self.write_member("faults", b"[")?;
-                    is_first = false;
-                } else {
-                    self.writer.push(b",")?;
-                }
-                write_fault(self.writer, mark, row)?;
+            let Some(mark) = mark else {
+                continue;
+            };
+            if has_mark {
+                self.writer.push(b",")?;
+            } else {
+                self.write_member("faults", b"[")?;
             }
+            has_mark = true;
+            write_fault(self.writer, mark, row)?;
         }
-        if is_first {
-            Ok(())
-        } else {
+        if has_mark {
             self.writer.push(b"]")
+        } else {
+            Ok(())
         }
     }
 
@@ -252,7 +195,7 @@ impl<'w, W: Output> Object<'w, W> {
         if let Kind::Element(tag) = row.kind {
             self.write_number("tag", tag.number as usize)?;
         }
-        self.write_text("type", Characters::latin1(name.as_bytes()))?;
+        self.write_text_if("type", name.as_bytes())?;
         self.write_value(row)
     }
 
@@ -261,7 +204,7 @@ impl<'w, W: Output> Object<'w, W> {
         if let Shown::Point(point) = row.shown {
             let mut line = Line::new();
             line.push_point(point);
-            return self.write_text("value", Characters::latin1(line.as_bytes()));
+            return self.write_text_if("value", line.as_bytes());
         }
         match &row.value() {
             Some(Value::Text(text)) => self.write_text_if("value", text.as_str().as_bytes()),
@@ -277,8 +220,18 @@ impl<'w, W: Output> Object<'w, W> {
         }
     }
 
-    /// Writes a line of what is said, after this text.
-    fn write_line(&mut self, before: &str, line: &Line) -> Result<(), W::Error> {
+    /// Writes the line of a sentence after this text, if it isn't empty.
+    fn write_sentence(
+        &mut self,
+        before: &str,
+        sentence: &str,
+        known: &Known,
+    ) -> Result<(), W::Error> {
+        if sentence.is_empty() {
+            return Ok(());
+        }
+        let mut line = Line::new();
+        line.push_sentence(false, sentence.as_bytes(), known);
         let line = line.finish();
         self.writer.push(before.as_bytes())?;
         write_characters(self.writer, Characters::latin1(line.as_bytes()))
@@ -287,15 +240,11 @@ impl<'w, W: Output> Object<'w, W> {
     /// Writes a member that is arcs, joined by full stops.
     fn write_arcs(&mut self, name: &str, arcs: Arcs) -> Result<(), W::Error> {
         self.write_member(name, b"\"")?;
-        self.writer
-            .push(Buffer::new().format(arcs.first).as_bytes())?;
-        self.writer.push(b".")?;
-        self.writer
-            .push(Buffer::new().format(arcs.second).as_bytes())?;
-        let mut left = arcs;
-        while let Some(arc) = left.next_further() {
-            self.writer.push(b".")?;
+        let mut before = b"".as_slice();
+        for arc in arcs {
+            self.writer.push(before)?;
             self.writer.push(Buffer::new().format(arc).as_bytes())?;
+            before = b".".as_slice();
         }
         self.writer.push(b"\"")
     }
@@ -307,24 +256,13 @@ fn write_fault<W: Output>(writer: &mut W, mark: Mark, row: &RowFacts) -> Result<
     words.push_mark(mark, row.expected);
     let mut object = Object::new(writer);
     object.write_text_if("kind", mark.kind().as_bytes())?;
-    object.write_text("words", Characters::latin1(words.as_bytes()))?;
+    object.write_text_if("words", words.as_bytes())?;
     object.writer.push(b"}")
-}
-
-/// Returns the name of a class (X.690 section 8.1.2.2).
-fn class_text(class: Class) -> &'static str {
-    match class {
-        Class::Universal => "universal",
-        Class::Application => "application",
-        Class::Context => "context",
-        Class::Private => "private",
-    }
 }
 
 /// Writes characters of a text.
 fn write_characters<W: Output>(writer: &mut W, characters: Characters) -> Result<(), W::Error> {
-    let mut left = characters;
-    while let Some(code) = left.next_character() {
+    for code in characters {
         write_character(writer, code)?;
     }
     Ok(())
@@ -338,27 +276,28 @@ fn write_character<W: Output>(writer: &mut W, code: u32) -> Result<(), W::Error>
     } else if code >= 0x20 && code <= 0x7E {
         writer.push(&[code as u8])
     } else if code < 0x1_0000 {
-        writer.push(&escape(code))
+        write_unit(writer, code)
     } else {
         let above = code - 0x1_0000;
-        writer.push(&escape(0xD800 + above / 0x400 % 0x400))?;
-        writer.push(&escape(0xDC00 + above % 0x400))
+        write_unit(writer, 0xD800 + above / 0x400 % 0x400)?;
+        write_unit(writer, 0xDC00 + above % 0x400)
     }
 }
 
-/// Returns the escape of a unit of UTF-16: `\u` and four digits.
-fn escape(unit: u32) -> [u8; 6] {
-    [
-        b'\\',
-        b'u',
-        digit(unit / 0x1000),
-        digit(unit / 0x100),
-        digit(unit / 0x10),
-        digit(unit),
-    ]
+/// Writes the escape of a unit of UTF-16: `\u` and four digits.
+fn write_unit<W: Output>(writer: &mut W, unit: u32) -> Result<(), W::Error> {
+    writer.push(b"\\u")?;
+    let bytes = [(unit / 0x100 % 0x100) as u8, (unit % 0x100) as u8];
+    write_hex(writer, b"0123456789abcdef", &bytes)
 }
 
-/// Returns the last hexadecimal digit of a number.
-fn digit(number: u32) -> u8 {
-    b"0123456789abcdef"[(number % 16) as usize]
+/// Writes bytes by these hexadecimal digits.
+fn write_hex<W: Output>(writer: &mut W, digits: &[u8; 16], bytes: &[u8]) -> Result<(), W::Error> {
+    for byte in bytes {
+        writer.push(&[
+            digits[usize::from(byte / 16)],
+            digits[usize::from(byte % 16)],
+        ])?;
+    }
+    Ok(())
 }

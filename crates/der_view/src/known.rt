@@ -1,8 +1,9 @@
 //! What is known of bytes by their rows.
-ghost use Rattle.std.specs.Prelude.{◌≡◌};
+ghost use Rattle.std.specs.Prelude.{◌≡◌, fold, is_some};
+ghost use Rattle.std.specs.List.{list_any};
 ghost use Rattle.der_view.specs.Facts.{row_view};
-ghost use Rattle.der_view.specs.Known.{form_name, gives_curve, is_sequence, nothing_known, weight};
-ghost use Rattle.der_view.specs.Known.{with_marks, with_row, worst};
+ghost use Rattle.der_view.specs.Known.{first_place, form_name, gives_curve, is_harm};
+ghost use Rattle.der_view.specs.Known.{is_sequence, nothing_known, with_marks, with_row};
 
 use crate::facts::{Kind, RowFacts};
 use crate::grammar::{Component, Form, Name};
@@ -16,6 +17,8 @@ use crate::walk::{Element, Place, Rows};
 pub(crate) struct Known {
     /// How they are drawn.
     pub(crate) plan: Plan,
+    /// The offset of the first row with a mark.
+    pub(crate) first_mark: Option<usize>,
     /// The offset of the first row with a mark, or that isn't drawn.
     pub(crate) marked: Option<usize>,
     /// Whether a mark is there that isn't of a length, of a constructed string, of bytes after the
@@ -50,6 +53,7 @@ impl Known {
     {
         Known {
             plan,
+            first_mark: None,
             marked: None,
             is_damaged: false,
             is_explicit: false,
@@ -71,13 +75,13 @@ impl Known {
     {
         let is_left = matches!(row.kind, Kind::NotDrawn);
         let first = row.marks[0];
-        let worst = worst(&row.marks);
+        let is_marked = is_marked(&row.marks);
+        let is_harmed = is_harmed(&row.marks);
         let gives_curve = gives_curve(row);
-        if self.marked.is_none() && (is_left || worst > 0) {
-            self.marked = Some(row.place.offset);
-        }
+        self.first_mark = first_place(self.first_mark, is_marked, row.place);
+        self.marked = first_place(self.marked, is_left | is_marked, row.place);
         self.is_damaged |= (is_left && !matches!(first, Some(Mark::AfterRoot)))
-            || (!gives_curve && worst > 1);
+            || (!gives_curve && is_harmed);
         self.is_explicit |= gives_curve;
         if row.place.offset == 0 {
             if let Some(len) = row.announced {
@@ -125,10 +129,10 @@ impl Known {
 
 impl Rows for Known {
     ghost use Rattle.std.proofs.Common.{refl};
-    ghost use Rattle.der_view.specs.Known.{with_rows};
-    ghost use Rattle.der_view.specs.Known.{with_rows-join};
+    ghost use Rattle.der_view.specs.Known.{with_next};
+    ghost use Rattle.der_view.specs.RowLaws.{fold-join};
 
-    ghost tells = { λ a b rows. b ≡ with_rows a rows };
+    ghost tells = { λ a b rows. b ≡ fold with_next a rows };
 
     #[tactic(auto, unfolding(crate::specs::Known::with_next, crate::specs::Facts::row_of))]
     fn element(&mut self, place: Place, element: &Element) {
@@ -151,29 +155,42 @@ impl Rows for Known {
 
     ghost nothing = { λ a. refl };
 
-    ghost joined = { λ a b c first second one two. with_rows-join a b c first second one two };
+    ghost joined = { fold-join with_next };
 }
 
-/// Returns the greatest weight of these marks.
-fn worst(marks: &[Option<Mark>]) -> usize
-    ensures { result ≡ worst marks.now }
+/// Returns the offset of the first row that was meant, or else of this one, if it is.
+fn first_place(offset: Option<usize>, is_meant: bool, place: Place) -> Option<usize>
+    ensures { result ≡ first_place offset is_meant place }
 {
-    match marks {
-        [] => 0,
-        [mark, others @ ..] => weight(*mark).max(worst(others)),
+    match offset {
+        None if is_meant => Some(place.offset),
+        _ => offset,
     }
 }
 
-/// Returns the weight of a mark: 1 of one that says what a command repairs, a length, a constructed
-/// string or bytes after the root, and 2 of another; 0 of none.
-fn weight(mark: Option<Mark>) -> usize
-    ensures { result ≡ weight mark }
+/// Returns `true` if there is a mark.
+fn is_marked(marks: &[Option<Mark>]) -> bool
+    ensures { result ≡ list_any is_some marks.now }
+{
+    marks.iter().any(|mark| mark.is_some())
+}
+
+/// Returns `true` if there is a mark that a command doesn't repair.
+fn is_harmed(marks: &[Option<Mark>]) -> bool
+    ensures { result ≡ list_any is_harm marks.now }
+{
+    marks.iter().any(|mark| is_harm(*mark))
+}
+
+/// Returns `true` if this is a mark that doesn't say what a command repairs: a length, a
+/// constructed string or bytes after the root.
+fn is_harm(mark: Option<Mark>) -> bool
+    ensures { result ≡ is_harm mark }
 {
     match mark {
-        None => 0,
-        Some(Mark::AfterRoot) => 1,
-        Some(Mark::Fault(Fault::Length | Fault::Indefinite | Fault::ConstructedString)) => 1,
-        Some(_) => 2,
+        None | Some(Mark::AfterRoot) => false,
+        Some(Mark::Fault(Fault::Length | Fault::Indefinite | Fault::ConstructedString)) => false,
+        Some(_) => true,
     }
 }
 

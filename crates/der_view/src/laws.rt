@@ -88,6 +88,7 @@ pub fn keys_are_alike()
 
 /// The bytes of a key are known to be an ECPrivateKey, to the last one, and drawn strictly: each
 /// element follows.
+#[tactic(auto, using(crate::proofs::KeyFormLemmas::key_known))]
 pub fn keys_are_known()
     ensures form { (key : Key) (a : List ℕ) → IsKeyOf key a → length a ≤ max_content_len
         → IsSomeAnd (plan_of a).form
@@ -122,6 +123,7 @@ pub fn keys_are_drawn_alike(a: &[u8], b: &[u8])
 
 /// Bytes that are all of their form are the one source of an input. Of one that is no text, and has
 /// no block of PEM in it, the picture says that it is a key exactly if it is one.
+#[tactic(auto, using(crate::proofs::DrawingLemmas::one_source))]
 pub fn keys_are_found(a: &[u8])
     ensures source { (plan_of a.now).is_whole ≡ true → sources_of a.now ≡ Der a.now ∷ [] }
     ensures key { is_text a.now ≡ false → has_begin a.now ≡ false

@@ -22,7 +22,6 @@ mod output;
 mod part;
 mod plan;
 mod printer;
-mod retagged;
 mod root;
 mod row_line;
 mod said;
@@ -46,10 +45,10 @@ pub use marks::{Fault, Mark};
 pub use names::name_of;
 pub use output::Output;
 pub use plan::{Plan, Way, plan_of};
-pub use printer::{Printer, lines_are_short, write_line, write_rows};
-pub use said::{Reading, SaidLines};
-pub use sentences::{Advice, Sentence};
-pub use showing::{Options, draw, show};
+pub use printer::{Options, Printer, lines_are_short, write_line, write_rows};
+pub use said::SaidLines;
+pub use sentences::{Advice, Reading, Sentence};
+pub use showing::{draw, show};
 pub use text::{
     Armour, Block, Encoding, Flaw, Found, Source, Sources, armour_of, room_len, text_len,
 };

@@ -1,13 +1,12 @@
 //! What bytes are, and how they are drawn.
-ghost use Rattle.std.specs.Prelude.{◌≡◌, ◌+◌, ◌<◌, ◌^◌, ◌&&◌, ◌||◌, false, nat_le, None, Some};
+ghost use Rattle.std.specs.Prelude.{◌≡◌, ◌&&◌, ◌||◌, false, fold, nat_le, None, Some};
 ghost use Rattle.std.specs.Prelude.{if◌then◌else◌};
-ghost use Rattle.der_view.specs.CountLaws.{capped_left, capped_none, capped_parts};
-ghost use Rattle.der_view.specs.Pictures.{best, capped, form_by, is_retagged, left_as, left_in};
-ghost use Rattle.der_view.specs.Pictures.{parts_as, parts_in, plan_of, way_of, whole_as};
+ghost use Rattle.der_view.specs.Pictures.{best, form_by, is_last, left_as, parts_as, plan_of};
+ghost use Rattle.der_view.specs.Pictures.{rows_as, shape_in, strictly, way_of, whole_as, with_tag};
 
 use crate::grammar::{Component, ELEMENT, FIRST, Form, OTHERS, Secrecy};
-use crate::retagged::is_retagged;
 use crate::root::{draw_as, is_cut};
+use crate::sentences::byte_at;
 use crate::walk::{Element, Place, Rows, Rules};
 
 /// How bytes are drawn.
@@ -42,18 +41,17 @@ pub struct Plan {
 }
 
 /// Returns what bytes are, and how they are drawn.
-#[tactic(auto, unfolding(crate::specs::Pictures::plan_of, crate::specs::Pictures::nearest, crate::specs::Pictures::known_as, crate::specs::Pictures::is_tree))]
 pub fn plan_of(bytes: &[u8]) -> Plan
     ensures { result ≡ plan_of bytes.now }
 {
     let (nearest, shape) = best(bytes, FIRST, shape_as(FIRST.0, bytes), &OTHERS);
-    let is_tree = shape_as(ELEMENT, bytes).is_whole;
-    let form = form_of(nearest, shape, is_tree, bytes);
+    let tree = shape_as(ELEMENT, bytes);
+    let form = form_of(nearest, shape, tree);
     Plan {
         form,
-        way: way_of(form, shape.is_whole, is_tree),
+        way: way_of(form, shape.is_whole, tree.is_whole),
         is_whole: shape.is_whole,
-        is_tree,
+        is_tree: tree.is_whole,
         is_cut: is_cut(bytes),
         len: bytes.len(),
     }
@@ -61,13 +59,13 @@ pub fn plan_of(bytes: &[u8]) -> Plan
 
 /// Returns the form of bytes: the nearest if they are known by it, or that of a key with another
 /// tag.
-fn form_of(nearest: Form, shape: Shape, is_tree: bool, bytes: &[u8]) -> Option<Form>
+fn form_of(nearest: Form, shape: Shape, tree: Shape) -> Option<Form>
     ensures { result ≡ form_by (if shape.is_whole || nat_le 2 shape.parts then Some nearest
-        else None) (is_tree && is_retagged bytes.now) }
+        else None) (tree.is_whole && is_last tree.progress) }
 {
     if shape.is_whole || shape.parts >= 2 {
         Some(nearest)
-    } else if is_tree && is_retagged(bytes) {
+    } else if tree.is_whole && tree.progress.is_last() {
         Some(FIRST)
     } else {
         None
@@ -116,22 +114,25 @@ struct Shape {
     left: usize,
     /// The number of elements that are in the root alone.
     parts: usize,
+    /// How far they are a key whose private key has another tag.
+    progress: Progress,
     /// Whether all of them are.
     is_whole: bool,
-    ghost left_fits: { left < 2 ^ 64 },
-    ghost parts_fit: { parts < 2 ^ 64 },
 }
 
 /// Returns how far the bytes are of a form with this root.
-#[tactic(auto, using(crate::proofs::PictureLemmas::counted), unfolding(crate::specs::Pictures::left_as, crate::specs::Pictures::parts_as))]
+#[tactic(auto, unfolding(crate::specs::Pictures::left_as, crate::specs::Pictures::parts_as))]
 fn shape_as(root: Component, bytes: &[u8]) -> Shape
     ensures left { result.left ≡ left_as root bytes.now }
     ensures parts { result.parts ≡ parts_as root bytes.now }
+    ensures progress { result.progress
+        ≡ (shape_in (rows_as strictly root false bytes.now)).progress }
     ensures whole { result.is_whole ≡ whole_as false root bytes.now }
 {
     let mut shape = Shape {
         left: 0,
         parts: 0,
+        progress: Progress::Nothing,
         is_whole: false,
     };
     let rules = Rules {
@@ -145,12 +146,20 @@ fn shape_as(root: Component, bytes: &[u8]) -> Shape
 }
 
 impl Rows for Shape {
-    ghost tells = { λ a b rows. (capped b.left ≡ capped (a.left + left_in rows))
-        × (capped b.parts ≡ capped (a.parts + parts_in rows)) };
+    ghost use Rattle.std.proofs.Common.{refl};
+    ghost use Rattle.der_view.specs.Pictures.{with_row};
+    ghost use Rattle.der_view.specs.RowLaws.{fold-join};
 
-    fn element(&mut self, place: Place, _element: &Element) {
+    ghost tells = { λ a b rows. b ≡ fold with_row a rows };
+
+    fn element(&mut self, place: Place, element: &Element) {
         if place.depth == 1 {
             self.parts = self.parts.saturating_add(1);
+        }
+        if place.depth < 2 {
+            self.progress = self
+                .progress
+                .with_tag(byte_at(element.head, 0), element.len);
         }
     }
 
@@ -160,10 +169,59 @@ impl Rows for Shape {
         self.left = self.left.saturating_add(len);
     }
 
-    ghost nothing = { λ a. (capped_none a.left, capped_none a.parts) };
+    ghost nothing = { λ a. refl };
 
-    ghost joined = { λ a b c first second one two. (
-      capped_left a.left b.left c.left first second one.0 two.0,
-      capped_parts a.parts b.parts c.parts first second one.1 two.1,
-    ) };
+    ghost joined = { fold-join with_row };
+}
+
+/// How far a root and its elements are those of an ECPrivateKey (RFC 5915 section 3) of which the
+/// privateKey has another tag.
+#[derive(Clone, Copy)]
+enum Progress {
+    /// None has come.
+    Nothing,
+    /// The root, a SEQUENCE.
+    Root,
+    /// In it the version.
+    Version,
+    /// The version, and in the place of the privateKey another primitive type of this length.
+    Replaced(usize),
+    /// After these the parameters.
+    Parameters,
+    /// After these the public key.
+    PublicKey,
+    /// They are others.
+    Others,
+}
+
+impl Progress {
+    /// Returns `true` if no element has to follow, and one that has come tells a key from other
+    /// bytes: its parameters, its public key, or as many bytes as a private key on P-224, P-256,
+    /// P-384 or P-521 has.
+    fn is_last(self) -> bool
+        ensures { result ≡ is_last self }
+    {
+        match self {
+            Progress::Replaced(len) => len == 28 || len == 32 || len == 48 || len == 66,
+            Progress::Parameters | Progress::PublicKey => true,
+            _ => false,
+        }
+    }
+
+    /// Returns the progress after the root or an element of it, with this tag and a content of this
+    /// length.
+    #[tactic(auto, unfolding(crate::specs::Pictures::with_tag))]
+    fn with_tag(self, tag: u8, len: usize) -> Progress
+        ensures { result ≡ with_tag self tag len }
+    {
+        match self {
+            Progress::Nothing if tag == 0x30 => Progress::Root,
+            Progress::Root if tag == 0x02 && len == 1 => Progress::Version,
+            Progress::Version if tag < 0x20 && tag != 0x04 => Progress::Replaced(len),
+            Progress::Replaced(_) if tag == 0xA0 => Progress::Parameters,
+            Progress::Replaced(_) if tag == 0xA1 => Progress::PublicKey,
+            Progress::Parameters if tag == 0xA1 => Progress::PublicKey,
+            _ => Progress::Others,
+        }
+    }
 }

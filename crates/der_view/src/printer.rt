@@ -1,16 +1,19 @@
 //! Rows as text.
-ghost use Rattle.std.specs.Prelude.{◌≡◌, ◌+◌, ◌++◌, ◌/◌, List, OnOk, None, codes, false, length};
+ghost use Rattle.std.specs.Prelude.{◌≡◌, ◌+◌, ◌++◌, ◌/◌, List, OnOk, None, codes, false};
+ghost use Rattle.std.specs.Prelude.{length, true};
+ghost use Rattle.std.specs.List.{All};
 ghost use Rattle.std.proofs.Common.{refl, ◌∙◌};
 ghost use Rattle.der_view.specs.Facts.{row_view};
-ghost use Rattle.der_view.specs.Lines.{kept, shown};
+ghost use Rattle.der_view.specs.Lines.{IsLine, kept, shown};
 ghost use Rattle.der_view.specs.Marks.{mark_words};
 ghost use Rattle.der_view.specs.Pictures.{rows_by};
-ghost use Rattle.der_view.specs.Printing.{AreLines, HasWritten, content_lines, line_text};
+ghost use Rattle.der_view.specs.Printing.{HasWritten, content_lines, line_text};
 ghost use Rattle.der_view.specs.Printing.{lines_text, mark_lines, rows_lines, rows_text};
 ghost use Rattle.der_view.specs.Printing.{told_lines};
 ghost use Rattle.der_view.specs.PrintingLaws.{IsPlain, has_written_both};
 ghost use Rattle.der_view.specs.RowLines.{hex_words, spaces};
 ghost use Rattle.der_view.specs.Rows.{Row};
+ghost use Rattle.der_view.specs.Shows.{are_plain};
 
 use crate::facts::RowFacts;
 use crate::form::draw_rows;
@@ -30,6 +33,39 @@ const BYTES_IN_LINE: usize = 16;
 /// The column of a content.
 const CONTENT_COLUMN: usize = 25;
 
+/// What of an input is drawn, and how.
+#[derive(Clone, Copy)]
+pub struct Options<'a> {
+    /// Whether every content is given.
+    pub all: bool,
+    /// Whether lines of JSON are written, in place of rows.
+    pub json: bool,
+    /// Of how many levels rows are drawn; 0 for all.
+    pub levels: usize,
+    /// The number of bytes before the row whose element is drawn alone; 0 for all bytes.
+    pub offset: usize,
+    /// The name of the file in UTF-8, which JSON has; empty if it has none.
+    pub file: &'a [u8],
+}
+
+impl<'a> Options<'a> {
+    /// Returns those of all of an input in rows, with all contents or without.
+    pub(crate) fn plain(all: bool) -> Options<'a>
+        ensures plain { are_plain result ≡ true }
+        ensures json { result.json ≡ false }
+        ensures levels { result.levels ≡ 0 }
+        ensures all { result.all ≡ all }
+    {
+        Options {
+            all,
+            json: false,
+            levels: 0,
+            offset: 0,
+            file: &[],
+        }
+    }
+}
+
 /// Writes the rows of bytes by a plan, with all contents or without.
 ///
 /// # Errors
@@ -44,15 +80,30 @@ pub fn write_rows<W: Output>(
     ensures { OnOk result (W.appends writer.old writer.new
         (rows_text plan all (rows_by plan all bytes.now))) }
 {
-    let mut printer = Printer::new(writer, plan, all);
-    draw_rows(&mut printer, plan, bytes, all);
+    write_rows_as(writer, plan, bytes, &Options::plain(all))
+}
+
+/// Writes the rows of bytes by a plan, as the options ask.
+pub(crate) fn write_rows_as<W: Output>(
+    writer: &mut W,
+    plan: Plan,
+    bytes: &[u8],
+    options: &Options,
+) -> Result<(), W::Error>
+    ensures { options.now.json ≡ false → options.now.levels ≡ 0 → OnOk result
+        (W.appends writer.old writer.new
+        (rows_text plan options.now.all (rows_by plan options.now.all bytes.now))) }
+{
+    let mut printer = Printer::new(writer, plan, options.all);
+    printer.style.json = options.json;
+    printer.style.levels = options.levels;
+    draw_rows(&mut printer, plan, bytes, options.all);
     printer.finish()
 }
 
 /// Each line of rows is printable ASCII of at most 100 characters, whatever the rows are.
-#[tactic(auto, using(crate::proofs::PrintingLemmas::rows_are))]
 pub fn lines_are_short(plan: Plan, all: bool)
-    ensures { (rows : List Row) → AreLines (rows_lines plan all rows) }
+    ensures { (rows : List Row) → All IsLine (rows_lines plan all rows) }
 {
     let _ = (plan, all);
 }
@@ -72,15 +123,15 @@ pub fn write_line<W: Output>(writer: &mut W, line: &Line) -> Result<(), W::Error
 
 /// How rows are written.
 #[derive(Clone, Copy)]
-pub(crate) struct Style {
+struct Style {
     /// How the bytes are drawn.
     plan: Plan,
     /// Whether every content is given.
     all: bool,
     /// Whether they are written as JSON.
-    pub(crate) is_json: bool,
+    json: bool,
     /// Of how many levels they are written; 0 for all.
-    pub(crate) levels: usize,
+    levels: usize,
 }
 
 /// Writes the lines of rows. It keeps the first error of the writer, and writes nothing after it.
@@ -88,7 +139,7 @@ pub(crate) struct Style {
 #[derive(Drop)]
 pub struct Printer<'a, W: Output> {
     writer: &'a mut W,
-    pub(crate) style: Style,
+    style: Style,
     error: Option<W::Error>,
 }
 
@@ -98,7 +149,7 @@ impl<'a, W: Output> Printer<'a, W> {
         ensures writer { result.writer.ghost_name ≡ writer.entry.ghost_name }
         ensures now { result.writer.now ≡ writer.old }
         ensures style { result.style
-            ≡ record { plan = plan; all = all; is_json = false; levels = 0 } }
+            ≡ record { plan = plan; all = all; json = false; levels = 0 } }
         ensures error { result.error ≡ None }
     {
         Printer {
@@ -106,7 +157,7 @@ impl<'a, W: Output> Printer<'a, W> {
             style: Style {
                 plan,
                 all,
-                is_json: false,
+                json: false,
                 levels: 0,
             },
             error: None,
@@ -137,15 +188,11 @@ impl<'a, W: Output> Printer<'a, W> {
             self.old.writer.now self.new.error self.new.writer.now
             (lines_text (told_lines (row_view row.now))) }
     {
-        let Style {
-            is_json,
-            levels,
-            ..
-        } = self.style;
+        let levels = self.style.levels;
         if self.error.is_some() || levels > 0 && row.place.depth >= levels {
             return;
         }
-        let told = if is_json {
+        let told = if self.style.json {
             write_object(self.writer, row)
         } else {
             write_row(self.writer, row)

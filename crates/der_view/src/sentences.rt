@@ -1,10 +1,20 @@
 //! What is said last: tables of words and commands.
-ghost use Rattle.std.specs.Prelude.{◌≡◌, ◌≤◌, length};
-ghost use Rattle.der_view.specs.Sentences.{advice_command, advice_words, command_of, form_word};
-ghost use Rattle.der_view.specs.Sentences.{place_of, reason_of, words_of};
+ghost use Rattle.std.specs.Prelude.{◌≡◌, map, slice_index};
+ghost use Rattle.der_view.specs.Sentences.{advice_command, advice_words, command_of, file_words};
+ghost use Rattle.der_view.specs.Sentences.{form_in, form_words, is_pgp_key, reason_of, words_of};
 
 use crate::grammar::Name;
-use crate::words::text_at;
+
+/// How OpenSSL reads the bytes that something is said of.
+#[derive(Clone, Copy)]
+pub enum Reading {
+    /// As DER.
+    Der,
+    /// As PEM.
+    Pem,
+    /// Not at all.
+    Nothing,
+}
 
 /// What is said of an input, or of a part of it.
 #[derive(Clone, Copy)]
@@ -41,28 +51,12 @@ pub enum Sentence {
     Utf16,
     /// A text of four bytes a character.
     Utf32,
-    /// A Java keystore.
-    Java,
-    /// Bytes that gzip compressed.
-    Gzip,
-    /// Microsoft's own form of a private key.
-    Pvk,
-    /// A file of KeePass.
-    Keepass,
-    /// A key of OpenPGP.
-    PgpKey,
-    /// An input without a byte.
-    Empty,
-    /// A block without a byte.
-    EmptyBlock,
-    /// A whole tree of no form.
-    NoKey,
 }
 
 /// Why a block isn't drawn, after its label; what is said; and the command that helps: of each
 /// [`Sentence`], in their order.
 #[rattlefmt::skip]
-const SENTENCES: [(&str, &str, &str); 24] = [
+static SENTENCES: [(&str, &str, &str); 16] = [
     ("encrypted (RFC 1421), not drawn", "", ""),
     ("encrypted (RFC 1421), not drawn",
     "If OpenSSL reads it, this asks for the password and writes it in DER:",
@@ -86,14 +80,6 @@ const SENTENCES: [(&str, &str, &str); 24] = [
     ("", "This is text, and no PEM, hexadecimal or base64.", ""),
     ("", "This begins as text in UTF-16. Write it in UTF-8 first.", ""),
     ("", "This begins as text in UTF-32. Write it in UTF-8 first.", ""),
-    ("", "This begins as a Java keystore: no DER.", ""),
-    ("", "This begins as gzip (RFC 1952): no DER.", ""),
-    ("", "This begins as a PVK file: no DER.", ""),
-    ("", "This begins as a KeePass file: no DER.", ""),
-    ("", "This begins as an OpenPGP key (RFC 9580): no DER.", ""),
-    ("", "The input is empty.", ""),
-    ("", "The block is empty.", ""),
-    ("", "This is no EC private key (RFC 5915).", ""),
 ];
 
 #[tactic(auto, unfolding(crate::specs::Sentences::sentence_row))]
@@ -120,73 +106,98 @@ impl Sentence {
     }
 }
 
-/// The names of the forms but that of an EC private key.
-#[rattlefmt::skip]
-const FORMS: [Name; 24] = [
-    Name::PrivateKeyInfo, Name::RsaPrivateKey, Name::DsaPrivateKey, Name::Pfx, Name::Certificate,
-    Name::CertificationRequest, Name::CertificateList, Name::PublicKeyInfo, Name::DhParameter,
-    Name::RsaPublicKey, Name::Signature, Name::DsaParameters, Name::DomainParameters,
-    Name::EcParameters, Name::NamedCurve, Name::ContentInfo, Name::EncryptedPrivateKeyInfo,
-    Name::DigestInfo, Name::OcspRequest, Name::OcspResponse, Name::TimeStampReq,
-    Name::TimeStampResp, Name::AsymmetricKeyPackage, Name::SafeContents,
-];
-
-/// What is said of bytes that are all of a form: the words before what they are, that, and the
-/// words after it, for each of [`FORMS`], in their order, and then for no other.
-#[rattlefmt::skip]
-const FORM_WORDS: [&str; 75] = [
-    "This is ", "PKCS #8 (RFC 5958)", " with an EC key.",
-    "This is ", "an RSA private key (RFC 8017)", ", no EC key.",
-    "This is ", "a DSA private key", ", no EC key.",
-    "This is ", "PKCS #12 (RFC 7292)", ".",
-    "This is ", "a certificate (RFC 5280)", ": it has no private key.",
-    "This is ", "a certification request (RFC 2986)", ": it has no private key.",
-    "This is ", "a list of revoked certificates (RFC 5280)", ": it has no private key.",
-    "This is ", "a public key (RFC 5280)", ": it has no private key.",
-    "These are INTEGERs, as of ",
-    "Diffie-Hellman parameters (PKCS #3)", " or an RSA public key: no key.",
-    "These are two INTEGERs, as of ", "an RSA public key (RFC 8017)", ": no private key.",
-    "These are two INTEGERs, as of ", "an ECDSA signature (RFC 3279)", ": no key.",
-    "These are three INTEGERs, as of ", "DSA parameters (RFC 3279)", ": no key.",
-    "These are INTEGERs, as of ", "Diffie-Hellman parameters (RFC 3279)", ": no key.",
-    "These are ", "the parameters of a curve (RFC 3279)", ": no key.",
-    "This is ", "an identifier", ": it has no private key.",
-    "This is ", "CMS or PKCS #7 (RFC 5652)", ", no EC key.",
-    "This is ", "encrypted PKCS #8 (RFC 5958)", ".",
-    "This is ", "a digest (RFC 8017)", ", no EC key.",
-    "This is ", "an OCSP request (RFC 6960)", ", no EC key.",
-    "This is ", "an OCSP response (RFC 6960)", ", no EC key.",
-    "This is ", "a time stamp query (RFC 3161)", ", no EC key.",
-    "This is ", "a time stamp reply (RFC 3161)", ", no EC key.",
-    "This is ", "a package of private keys (RFC 5958)", ", no EC key.",
-    "This is ", "the inside of PKCS #12 (RFC 7292)", ", no EC key.",
-    "This is no ", "EC private key (RFC 5915)", ".",
-];
-
-/// Returns the words before what bytes are that are all of the form with this name, what they are,
-/// and the words after it.
-#[tactic(auto, unfolding(crate::specs::Sentences::form_word))]
-pub(crate) fn form_words(name: Name) -> (&'static str, &'static str, &'static str)
-    ensures before { result.0.now ≡ form_word 0 name }
-    ensures form { result.1.now ≡ form_word 1 name }
-    ensures after { result.2.now ≡ form_word 2 name }
+/// Returns what is said of bytes that begin as a file of a known kind; nothing of others.
+#[tactic(auto, unfolding(crate::specs::Sentences::file_words))]
+pub(crate) fn file_words(bytes: &[u8]) -> &'static str
+    ensures { result.now ≡ file_words bytes.now }
 {
-    let first = 3 * place_of(&FORMS, name);
-    (
-        text_at(&FORM_WORDS, first),
-        text_at(&FORM_WORDS, first + 1),
-        text_at(&FORM_WORDS, first + 2),
-    )
+    let java = "This begins as a Java keystore: no DER.";
+    match bytes {
+        _ if bytes.starts_with(&[0xFE, 0xED, 0xFE, 0xED]) => java,
+        _ if bytes.starts_with(&[0xCE, 0xCE, 0xCE, 0xCE]) => java,
+        _ if bytes.starts_with(&[0x1F, 0x8B, 0x08]) => "This begins as gzip (RFC 1952): no DER.",
+        _ if bytes.starts_with(&[0x1E, 0xF1, 0xB5, 0xB0]) => "This begins as a PVK file: no DER.",
+        _ if bytes.starts_with(&[0x03, 0xD9, 0xA2, 0x9A]) => {
+            "This begins as a KeePass file: no DER."
+        }
+        _ if is_pgp_key(bytes) => "This begins as an OpenPGP key (RFC 9580): no DER.",
+        _ => "",
+    }
 }
 
-/// Returns the place of a name among these, or their number if it is none of them.
-fn place_of(names: &[Name], name: Name) -> usize
-    ensures place { result ≡ place_of names.now name }
-    ensures most { result ≤ length names.now }
+/// Returns `true` if bytes begin as a key of OpenPGP of version 4 does, with a length of two bytes
+/// (RFC 9580 sections 4.2.2 and 5.5.2).
+fn is_pgp_key(bytes: &[u8]) -> bool
+    ensures { result ≡ is_pgp_key bytes.now }
 {
-    match names {
-        [first, others @ ..] if !first.is(name) => place_of(others, name) + 1,
-        _ => 0,
+    let len = usize::from(byte_at(bytes, 1)) * 256 + usize::from(byte_at(bytes, 2));
+    matches!(byte_at(bytes, 0), 0x95 | 0x99)
+        && byte_at(bytes, 3) == 0x04
+        && len <= bytes.len().saturating_sub(3)
+}
+
+/// Returns a byte, or 0 if there are fewer.
+pub(crate) fn byte_at(bytes: &[u8], place: usize) -> u8
+    ensures { result ≡ slice_index bytes.now place }
+{
+    if place < bytes.len() { bytes[place] } else { 0 }
+}
+
+/// The forms but that of an EC private key: the name, what bytes of it are, and what is said of
+/// those that are all of it.
+#[rattlefmt::skip]
+static FORMS: [(Name, &str, &str); 24] = [
+    (Name::PrivateKeyInfo, "PKCS #8 (RFC 5958)", "This is %f with an EC key."),
+    (Name::RsaPrivateKey, "an RSA private key (RFC 8017)", "This is %f, no EC key."),
+    (Name::DsaPrivateKey, "a DSA private key", "This is %f, no EC key."),
+    (Name::Pfx, "PKCS #12 (RFC 7292)", "This is %f."),
+    (Name::Certificate, "a certificate (RFC 5280)", "This is %f: it has no private key."),
+    (Name::CertificationRequest, "a certification request (RFC 2986)",
+    "This is %f: it has no private key."),
+    (Name::CertificateList, "a list of revoked certificates (RFC 5280)",
+    "This is %f: it has no private key."),
+    (Name::PublicKeyInfo, "a public key (RFC 5280)", "This is %f: it has no private key."),
+    (Name::DhParameter, "Diffie-Hellman parameters (PKCS #3)",
+    "These are INTEGERs, as of %f or an RSA public key: no key."),
+    (Name::RsaPublicKey, "an RSA public key (RFC 8017)",
+    "These are two INTEGERs, as of %f: no private key."),
+    (Name::Signature, "an ECDSA signature (RFC 3279)",
+    "These are two INTEGERs, as of %f: no key."),
+    (Name::DsaParameters, "DSA parameters (RFC 3279)",
+    "These are three INTEGERs, as of %f: no key."),
+    (Name::DomainParameters, "Diffie-Hellman parameters (RFC 3279)",
+    "These are INTEGERs, as of %f: no key."),
+    (Name::EcParameters, "the parameters of a curve (RFC 3279)", "These are %f: no key."),
+    (Name::NamedCurve, "an identifier", "This is %f: it has no private key."),
+    (Name::ContentInfo, "CMS or PKCS #7 (RFC 5652)", "This is %f, no EC key."),
+    (Name::EncryptedPrivateKeyInfo, "encrypted PKCS #8 (RFC 5958)", "This is %f."),
+    (Name::DigestInfo, "a digest (RFC 8017)", "This is %f, no EC key."),
+    (Name::OcspRequest, "an OCSP request (RFC 6960)", "This is %f, no EC key."),
+    (Name::OcspResponse, "an OCSP response (RFC 6960)", "This is %f, no EC key."),
+    (Name::TimeStampReq, "a time stamp query (RFC 3161)", "This is %f, no EC key."),
+    (Name::TimeStampResp, "a time stamp reply (RFC 3161)", "This is %f, no EC key."),
+    (Name::AsymmetricKeyPackage, "a package of private keys (RFC 5958)",
+    "This is %f, no EC key."),
+    (Name::SafeContents, "the inside of PKCS #12 (RFC 7292)", "This is %f, no EC key."),
+];
+
+/// Returns what bytes of the form with this name are, and what is said of those that are all of it.
+#[tactic(auto, unfolding(crate::specs::Sentences::form_words))]
+pub(crate) fn form_words(name: Name) -> (&'static str, &'static str)
+    ensures { (result.0.now, result.1.now) ≡ form_words name }
+{
+    form_in(&FORMS, name)
+}
+
+/// Returns the same by the first of these rows with this name.
+fn form_in(forms: &[(Name, &'static str, &'static str)], name: Name) -> (&'static str, &'static str)
+    ensures { (result.0.now, result.1.now)
+        ≡ form_in (map (λ row. (row.0, row.1.now, row.2.now)) forms.now) name }
+{
+    match forms {
+        [(own, form, whole), ..] if own.is(name) => (*form, *whole),
+        [_, others @ ..] => form_in(others, name),
+        [] => ("EC private key (RFC 5915)", "This is no %f."),
     }
 }
 
@@ -195,67 +206,70 @@ fn place_of(names: &[Name], name: Name) -> usize
 pub enum Advice {
     /// None.
     Nothing,
-    /// Makes the DER of a key of DER.
+    /// Makes the DER of a key.
     Der,
-    /// Makes the DER of a key of PEM.
+    /// Makes the DER of a key that is read, of PEM alone.
     Pem,
-    /// Makes the DER of a key of DER, with the name of its curve.
-    NamedDer,
-    /// Makes the DER of a key of PEM, with the name of its curve.
-    NamedPem,
-    /// Makes the DER of an encrypted key of DER.
-    EncryptedDer,
-    /// Makes the DER of an encrypted key of PEM.
-    EncryptedPem,
-    /// Makes the DER of a key of DER that is encrypted as before 2000.
-    LegacyDer,
-    /// Makes the DER of a key of PEM that is encrypted as before 2000.
-    LegacyPem,
+    /// Makes the DER of a key, with the name of its curve.
+    Named,
+    /// Makes the DER of an encrypted key.
+    Encrypted,
+    /// Makes the DER of a key that is encrypted as before 2000.
+    Legacy,
     /// Makes PEM of the keys of PKCS #12.
     Pkcs12,
     /// Makes PEM of the keys of PKCS #12 with a MAC of SHA-1.
     LegacyPkcs12,
 }
 
-/// What each command does, and the command, in the order of [`Advice`].
+/// What each command does, the command that reads DER, and the one that reads PEM, in the order of
+/// [`Advice`].
 #[rattlefmt::skip]
-const COMMANDS: [(&str, &str); 11] = [
-    ("", ""),
+static COMMANDS: [(&str, &str, &str); 8] = [
+    ("", "", ""),
     ("If OpenSSL reads it, this writes it in DER:",
-    "openssl ec -inform DER -in FILE -outform DER -out key.der"),
-    ("If OpenSSL reads it, this writes it in DER:",
-    "openssl ec -in FILE -outform DER -out key.der"),
+    "  openssl ec -inform DER -in FILE -outform DER -out key.der",
+    "  openssl ec -in FILE -outform DER -out key.der"),
+    ("If OpenSSL reads it, this writes it in DER:", "",
+    "  openssl ec -in FILE -outform DER -out key.der"),
     ("Its curve is given by parameters. If OpenSSL knows it, this names it:",
-    "openssl ec -inform DER -in FILE -param_enc named_curve -outform DER -out key.der"),
-    ("Its curve is given by parameters. If OpenSSL knows it, this names it:",
-    "openssl ec -in FILE -param_enc named_curve -outform DER -out key.der"),
+    "  openssl ec -inform DER -in FILE -param_enc named_curve -outform DER -out key.der",
+    "  openssl ec -in FILE -param_enc named_curve -outform DER -out key.der"),
     ("If it has an EC key, this asks for the password and writes it:",
-    "openssl ec -inform DER -in FILE -outform DER -out key.der"),
+    "  openssl ec -inform DER -in FILE -outform DER -out key.der",
+    "  openssl ec -in FILE -outform DER -out key.der"),
     ("If it has an EC key, this asks for the password and writes it:",
-    "openssl ec -in FILE -outform DER -out key.der"),
-    ("If it has an EC key, this asks for the password and writes it:",
-    "openssl ec -provider legacy -provider default -inform DER -in FILE -outform DER -out key.der"),
-    ("If it has an EC key, this asks for the password and writes it:",
-    "openssl ec -provider legacy -provider default -in FILE -outform DER -out key.der"),
+    "  openssl ec -provider legacy -provider default -inform DER -in FILE -outform DER \
+        -out key.der",
+    "  openssl ec -provider legacy -provider default -in FILE -outform DER -out key.der"),
     ("If OpenSSL reads it, this asks for the password and writes its keys as PEM:",
-    "openssl pkcs12 -in FILE -nodes -nocerts -out key.pem"),
+    "  openssl pkcs12 -in FILE -nodes -nocerts -out key.pem", ""),
     ("If OpenSSL reads it, this asks for the password and writes its keys as PEM:",
-    "openssl pkcs12 -legacy -in FILE -nodes -nocerts -out key.pem"),
+    "  openssl pkcs12 -legacy -in FILE -nodes -nocerts -out key.pem", ""),
 ];
 
 #[tactic(auto, unfolding(crate::specs::Sentences::advice_row))]
 impl Advice {
-    /// Returns what the command does; empty if there is none.
-    pub fn words(self) -> &'static str
-        ensures { result.now ≡ advice_words self }
+    /// Returns what the command does that reads bytes as OpenSSL does; empty if there is none.
+    pub fn words(self, reading: Reading) -> &'static str
+        ensures { result.now ≡ advice_words self reading }
     {
-        COMMANDS[self as usize].0
+        if self.command(reading).is_empty() {
+            ""
+        } else {
+            COMMANDS[self as usize].0
+        }
     }
 
-    /// Returns the command; empty if there is none.
-    pub fn command(self) -> &'static str
-        ensures { result.now ≡ advice_command self }
+    /// Returns the command that reads bytes as OpenSSL does, after two spaces; empty if there is
+    /// none.
+    pub fn command(self, reading: Reading) -> &'static str
+        ensures { result.now ≡ advice_command self reading }
     {
-        COMMANDS[self as usize].1
+        match reading {
+            Reading::Der => COMMANDS[self as usize].1,
+            Reading::Pem => COMMANDS[self as usize].2,
+            Reading::Nothing => "",
+        }
     }
 }

@@ -2,39 +2,20 @@
 ghost use Rattle.std.specs.Prelude.{◌≡◌, ◌≤◌, ◌+◌, ◌*◌, IfOk, OnOk, length, true};
 ghost use Rattle.der_view.specs.Drawings.{bytes_text, has_key, heading_line, heading_of};
 ghost use Rattle.der_view.specs.Drawings.{is_key_of, picture_text, source_key, source_text};
-ghost use Rattle.der_view.specs.Pictures.{rows_by};
-ghost use Rattle.der_view.specs.Printing.{rows_text};
 ghost use Rattle.der_view.specs.Said.{note_text};
 ghost use Rattle.der_view.specs.Shows.{are_plain};
 ghost use Rattle.der_view.specs.Sources.{source_len, source_view, text_len};
 
 use crate::characters::Characters;
 use crate::drawing::{is_read_as_key, known_of, reading_with, write_said, write_text};
-use crate::form::draw_rows;
-use crate::json::{Object, mark_of, write_last, write_said_object};
+use crate::json::{Object, write_last, write_said_object};
 use crate::line::Line;
 use crate::output::Output;
 use crate::part::drawn_element;
-use crate::plan::{Plan, plan_of};
-use crate::printer::{Printer, write_line, write_rows};
-use crate::said::{Reading, file_note};
-use crate::sentences::Sentence;
+use crate::plan::plan_of;
+use crate::printer::{Options, write_line, write_rows_as};
+use crate::sentences::{Reading, Sentence, file_words};
 use crate::text::{Encoding, Found, Source, Sources, armour_of};
-
-/// What of an input is drawn, and how.
-#[derive(Clone, Copy)]
-pub struct Options<'a> {
-    /// Whether every content is given.
-    pub all: bool,
-    /// Whether lines of JSON are written, in place of rows.
-    pub json: bool,
-    /// Of how many levels rows are drawn; 0 for all.
-    pub levels: usize,
-    /// The number of bytes before the row whose element is drawn alone; 0 for all bytes.
-    pub offset: usize,
-    /// The name of the file in UTF-8, which JSON has; empty if it has none.
-    pub file: &'a [u8],
-}
 
 /// Writes the picture of an input: of DER, or of what its text encodes. Returns whether some part
 /// of it is a key (RFC 5915 section 3). With `all` every content is given.
@@ -54,14 +35,7 @@ pub fn draw<W: Output>(
     ensures text { OnOk result (W.appends writer.old writer.new (picture_text all input.now)) }
     ensures key { IfOk result (λ found. found ≡ has_key input.now) }
 {
-    let options = Options {
-        all,
-        json: false,
-        levels: 0,
-        offset: 0,
-        file: &[],
-    };
-    show(writer, input, room, &options)
+    show(writer, input, room, &Options::plain(all))
 }
 
 /// Writes the picture of an input as [`draw`] does, or as the options ask. Returns
@@ -208,38 +182,14 @@ fn show_part<W: Output>(
     let plan = plan_of(bytes);
     let is_key = is_read_as_key(bytes);
     let known = known_of(plan, bytes);
-    let file = file_note(bytes);
+    let file = file_words(bytes);
+    write_rows_as(writer, plan, bytes, options)?;
     if options.json {
-        let mut rows = Printer::new(writer, plan, options.all);
-        rows.style.is_json = true;
-        rows.style.levels = options.levels;
-        draw_rows(&mut rows, plan, bytes, options.all);
-        rows.finish()?;
-        write_said_object(writer, is_key, reading, file, &known, mark_of(plan, bytes))?;
+        write_said_object(writer, is_key, reading, file, &known)?;
         return Ok(is_key);
     }
-    write_levels(writer, plan, bytes, options)?;
     write_said(writer, is_key, reading, file, &known)?;
     Ok(is_key)
-}
-
-/// Writes the rows of bytes of the levels that are asked for.
-fn write_levels<W: Output>(
-    writer: &mut W,
-    plan: Plan,
-    bytes: &[u8],
-    options: &Options,
-) -> Result<(), W::Error>
-    ensures { are_plain options.now ≡ true → OnOk result (W.appends writer.old writer.new
-        (rows_text plan options.now.all (rows_by plan options.now.all bytes.now))) }
-{
-    if options.levels == 0 {
-        return write_rows(writer, plan, bytes, options.all);
-    }
-    let mut rows = Printer::new(writer, plan, options.all);
-    rows.style.levels = options.levels;
-    draw_rows(&mut rows, plan, bytes, options.all);
-    rows.finish()
 }
 
 /// Writes the first object of the picture of a source, in which `found` was found.

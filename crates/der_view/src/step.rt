@@ -1,7 +1,7 @@
 //! The element that comes next, what it is, and what is shown of it.
 ghost use Rattle.std.specs.Prelude.{◌≡◌, ◌+◌, ◌<◌, ◌≤◌, IfSome, length, option_map};
 ghost use Rattle.der_view.specs.Rows.{admits, chosen, component_at, element_at, end_at, fitting};
-ghost use Rattle.der_view.specs.Rows.{is_of, may_end, step_at, step_by, step_of};
+ghost use Rattle.der_view.specs.Rows.{is_of, may_end, step_by, step_of};
 
 use crate::content::{is_primitive, is_whole, shown_len};
 use crate::grammar::{Case, Component, Content, ELEMENT, Presence, Structure};
@@ -41,11 +41,9 @@ pub(crate) fn step_by<'c, 'a>(
         (λ step. step.header.len + length step.content.now + length step.rest.now
         ≡ length bytes.now) }
 {
-    let [tag, ..] = bytes else {
-        return None;
-    };
+    let tag = *bytes.first()?;
     let (header, content, rest) = element_at(may_be_cut, bytes)?;
-    let found = component_at(*tag, &header, content, components);
+    let found = component_at(tag, &header, content, components);
     let follows = found.is_some();
     if !follows && !may_misfit {
         return None;
@@ -62,30 +60,6 @@ pub(crate) fn step_by<'c, 'a>(
     })
 }
 
-/// The greatest number of elements inside each other.
-const MOST_LEVELS: usize = 64;
-
-/// Returns the next element of a level at this depth, at which there may be one.
-#[tactic(auto, unfolding(crate::specs::Rows::step_at))]
-pub(crate) fn step_at<'c, 'a>(
-    is_loose: bool,
-    depth: usize,
-    components: &'c [Component],
-    bytes: &'a [u8],
-) -> Option<Step<'c, 'a>>
-    ensures exact { option_map step_of result
-        ≡ step_at is_loose depth components.now bytes.now }
-    ensures depth { IfSome result (λ _. depth < 64) }
-    ensures within { IfSome result
-        (λ step. step.header.len + length step.content.now + length step.rest.now
-        ≡ length bytes.now) }
-{
-    if depth >= MOST_LEVELS {
-        return None;
-    }
-    step_by(is_loose, is_loose, components, bytes)
-}
-
 /// Returns the header and the content of the element that the bytes begin with, and the bytes after
 /// it. Of an indefinite length the content is all that comes.
 fn element_at(may_be_cut: bool, bytes: &[u8]) -> Option<(Header, &[u8], &[u8])>
@@ -94,20 +68,13 @@ fn element_at(may_be_cut: bool, bytes: &[u8]) -> Option<(Header, &[u8], &[u8])>
     ensures within { IfSome result
         (λ found. found.0.len + length found.1.now + length found.2.now ≡ length bytes.now) }
 {
-    let Ok(header) = Header::read(bytes) else {
-        return None;
-    };
+    let header = Header::read(bytes).ok()?;
     let there = &bytes[header.len..];
-    let Some(len) = header.content_len else {
-        return Some((header, there, &[]));
-    };
-    if there.len() < len {
-        if may_be_cut {
-            return Some((header, there, &[]));
-        }
-        return None;
+    match header.content_len {
+        Some(len) if len <= there.len() => Some((header, &there[..len], &there[len..])),
+        Some(_) if !may_be_cut => None,
+        _ => Some((header, there, &[])),
     }
-    Some((header, &there[..len], &there[len..]))
 }
 
 /// Returns the first component that such an element can be, and those that may come after it. If
@@ -137,7 +104,7 @@ fn component_at<'a>(
 fn chosen<'a>(cases: &[Case], bytes: &[u8], others: &'a [Component]) -> &'a [Component]
     ensures { result.now ≡ chosen cases.now bytes.now others.now }
 {
-    let [case, more @ ..] = cases else {
+    let Some((case, more)) = cases.split_first() else {
         return others;
     };
     if is_of(case.0.identifiers(), bytes) {
@@ -152,17 +119,12 @@ fn chosen<'a>(cases: &[Case], bytes: &[u8], others: &'a [Component]) -> &'a [Com
 fn fitting(tag: u8, components: &[Component]) -> Option<(Component, &[Component])>
     ensures { option_map (λ found. (found.0, found.1.now)) result ≡ fitting tag components.now }
 {
-    let [component, others @ ..] = components else {
-        return None;
-    };
-    let expected = component.0;
-    if expected == tag || (expected == 0x17 && tag == 0x18) || expected == 0x00 {
-        return match component.1 {
-            Presence::Many => Some((*component, components)),
-            _ => Some((*component, others)),
-        };
-    }
-    match component.1 {
+    let (component, others) = components.split_first()?;
+    let (expected, presence, ..) = *component;
+    let fits = expected == tag || (expected == 0x17 && tag == 0x18) || expected == 0x00;
+    match presence {
+        Presence::Many if fits => Some((*component, components)),
+        _ if fits => Some((*component, others)),
         Presence::Needed => None,
         _ => fitting(tag, others),
     }
@@ -172,13 +134,9 @@ fn fitting(tag: u8, components: &[Component]) -> Option<(Component, &[Component]
 pub(crate) fn may_end(components: &[Component]) -> bool
     ensures { result ≡ may_end components.now }
 {
-    let [component, others @ ..] = components else {
-        return true;
-    };
-    match component.1 {
-        Presence::Needed => false,
-        _ => may_end(others),
-    }
+    components
+        .iter()
+        .all(|component| !matches!(component.1, Presence::Needed))
 }
 
 /// Returns the number of bytes that end a level here: those of an end-of-contents (X.690 section

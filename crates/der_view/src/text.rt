@@ -1,15 +1,14 @@
 //! What an input is: DER, or a text that encodes some.
 ghost use Rattle.std.specs.Prelude.{◌≡◌, ◌<◌, ◌≤◌, ◌+◌, ◌*◌, ◌-◌, ◌^◌, [], ◌∷◌, List, length, min};
-ghost use Rattle.std.specs.Prelude.{MatchOption, take};
+ghost use Rattle.std.specs.Prelude.{MatchOption};
 ghost use Rattle.std.specs.List.{list_all};
-ghost use Rattle.der_view.specs.Blocks.{block_view, line_len};
+ghost use Rattle.der_view.specs.Blocks.{block_view};
 ghost use Rattle.der_view.specs.Parts.{IsIn, base64_content, block_content, content_of};
-ghost use Rattle.der_view.specs.Parts.{dump_note, is_json, note_of, openssh_note, putty_note};
-ghost use Rattle.der_view.specs.Parts.{text_content, trimmed_start};
+ghost use Rattle.der_view.specs.Parts.{dump_note, hex_content, is_json, note_of, openssh_note};
+ghost use Rattle.der_view.specs.Parts.{putty_note};
 ghost use Rattle.der_view.specs.Sources.{SourceView, blocks_or, has_begin, is_der, is_raw_len};
 ghost use Rattle.der_view.specs.Sources.{is_text, is_text_byte, source_len, source_view};
 ghost use Rattle.der_view.specs.Sources.{sources_left, sources_of, text_len, wide_note};
-ghost use Rattle.der_view.specs.Sources.{without_mark};
 
 mod almost;
 mod encoded;
@@ -20,9 +19,9 @@ use crate::sentences::Sentence;
 pub use almost::{Armour, Flaw, armour_of};
 use almost::{find_almost, find_mended};
 use der_types::kind::{Kind, Utf8String};
-use encoded::{base64_into, hex_into, place_of};
+use encoded::{base64_into, hex_into};
 pub use pem::Block;
-use pem::{line_len, next_block};
+use pem::{Sought, cut, has, next_block, trimmed_start};
 use std::marker::Model;
 
 /// How bytes are encoded in an input.
@@ -68,9 +67,11 @@ pub enum Found {
 /// The sources of an input that are still to come, in order. A contract sees them.
 #[derive(Drop)]
 pub struct Sources<'a> {
-    /// The lines whose blocks of PEM are still to come.
+    /// The text whose blocks of PEM are still to come.
     rest: &'a [u8],
-    /// The number of lines before them.
+    /// Whether a line begins with it.
+    starts: bool,
+    /// The number of lines that begin before it.
     number: usize,
     /// Whether OpenSSL reads the next key.
     reads: bool,
@@ -81,8 +82,8 @@ pub struct Sources<'a> {
 impl<'a> Model for Sources<'a> {
     ghost Value = { List SourceView };
 
-    ghost view = { λ sources. sources_left sources.other sources.reads sources.number
-        sources.rest.now };
+    ghost view = { λ sources. sources_left sources.other sources.reads sources.starts
+        sources.number sources.rest.now };
 
     ghost invariant = { λ sources. sources.number + length sources.rest.now < 2 ^ 64 };
 }
@@ -128,7 +129,7 @@ fn has_no_controls(input: &[u8]) -> bool
 fn has_begin(input: &[u8]) -> bool
     ensures { result ≡ has_begin input.now }
 {
-    place_of(input, b"-----BEGIN ").is_some()
+    has(input, Sought::Bytes(b"-----BEGIN "))
 }
 
 /// Returns `true` if the input is DER: all of a form of the table, or one whole element and no
@@ -168,16 +169,6 @@ pub(crate) fn is_raw_len(len: usize) -> bool
     matches!(len, 28 | 32 | 48 | 66)
 }
 
-/// Returns the text without the byte order mark in front of it.
-fn without_mark(text: &[u8]) -> &[u8]
-    ensures { result.now ≡ without_mark text.now }
-{
-    match text {
-        [0xEF, 0xBB, 0xBF, rest @ ..] => rest,
-        _ => text,
-    }
-}
-
 impl<'a> Sources<'a> {
     /// Returns the sources of an input, of which there is at least one.
     #[tactic(auto, unfolding(crate::specs::Sources::sources_of))]
@@ -188,7 +179,7 @@ impl<'a> Sources<'a> {
             return Sources::of(&[], Source::Der(input));
         }
         if is_text(input) {
-            let text = without_mark(input);
+            let text = input.strip_prefix(b"\xEF\xBB\xBF").unwrap_or(input);
             return Sources::of(text, Source::Text(text));
         }
         match wide_note(input) {
@@ -204,6 +195,7 @@ impl<'a> Sources<'a> {
     {
         Sources {
             rest: text,
+            starts: true,
             number: 0,
             // OpenSSL reads no lines that end in a carriage return alone.
             reads: text.contains(&b'\n'),
@@ -217,24 +209,25 @@ impl<'a> Sources<'a> {
         ensures { MatchOption result ((self.old ≡ []) × (self.new ≡ self.old))
             (λ source. self.old ≡ source_view source ∷ self.new) }
     {
-        let other = self.other;
+        let Some((block, rest)) = next_block(self.rest, self.starts, self.number) else {
+            let other = self.other?;
+            self.other = None;
+            return Some(other);
+        };
+        let is_read = self.reads & block.is_key_of_openssl();
         self.other = None;
-        match next_block(self.rest, self.number) {
-            None => other,
-            Some((block, rest)) => {
-                let is_read = self.reads & block.is_key_of_openssl();
-                self.rest = rest;
-                self.number = block.line;
-                self.reads &= !block.is_of_private_key();
-                Some(Source::Pem { block, is_read })
-            }
-        }
+        self.rest = rest;
+        self.starts = false;
+        self.number = block.line;
+        self.reads &= !block.is_of_private_key();
+        Some(Source::Pem { block, is_read })
     }
 }
 
 impl<'a> Source<'a> {
     /// Returns what is in the source. Bytes that are encoded are decoded into the front of `bytes`;
     /// `digits` is memory for their digits.
+    #[tactic(auto, unfolding(crate::specs::Parts::text_content))]
     pub fn find(&self, digits: &mut [u8], bytes: &mut [u8]) -> Found
         requires digits { source_len (source_view self.now) ≤ length digits.old }
         requires bytes { source_len (source_view self.now) + 2 ≤ length bytes.old }
@@ -243,7 +236,10 @@ impl<'a> Source<'a> {
         match self {
             Source::Der(_) => Found::Itself,
             Source::Pem { block, is_read } => find_in_block(block, *is_read, digits, bytes),
-            Source::Text(text) => find_in_text(*text, digits, bytes),
+            Source::Text(text) => match dump_note(*text) {
+                Some(note) => Found::Said(note),
+                None => find_in_text(*text, digits, bytes),
+            },
             Source::Wide(note) => Found::Said(*note),
         }
     }
@@ -289,7 +285,7 @@ fn find_in_block(block: &Block, is_read: bool, digits: &mut [u8], bytes: &mut [u
 fn openssh_note(body: &[u8], bytes: &[u8]) -> Sentence
     ensures { result ≡ openssh_note body.now bytes.now }
 {
-    if place_of(bytes, b"ssh-ed25519").is_some() {
+    if has(bytes, Sought::Bytes(b"ssh-ed25519")) {
         Sentence::OpensshEdwards
     } else if body.contains(&b'\r') {
         Sentence::OpensshCarriage
@@ -299,15 +295,12 @@ fn openssh_note(body: &[u8], bytes: &[u8]) -> Sentence
 }
 
 /// Returns what is in a text with no block of PEM, whose bytes are decoded into `bytes`.
-#[tactic(auto, unfolding(crate::specs::Parts::text_content))]
+#[tactic(auto, unfolding(crate::specs::Parts::hex_content))]
 fn find_in_text(text: &[u8], digits: &mut [u8], bytes: &mut [u8]) -> Found
     requires digits { length text.now ≤ length digits.old }
     requires bytes { length text.now + 2 ≤ length bytes.old }
-    ensures { IsIn bytes.new result (text_content text.now) }
+    ensures { IsIn bytes.new result (hex_content text.now) }
 {
-    if let Some(note) = dump_note(text) {
-        return Found::Said(note);
-    }
     match hex_into(text, digits, bytes) {
         Some(len) if len > 0 => Found::Decoded(Encoding::Hexadecimal, Flaw::Nothing, len),
         _ => find_in_base64(text, digits, bytes),
@@ -350,7 +343,7 @@ fn note_of(text: &[u8]) -> Sentence
     ensures { result ≡ note_of text.now }
 {
     if text.starts_with(b"PuTTY-User-Key-File-") {
-        putty_note(first_line(text))
+        putty_note(cut(text, false, Sought::Line(b"")).0)
     } else if text.starts_with(b"ssh-")
         || text.starts_with(b"ecdsa-sha2-")
         || text.starts_with(b"sk-")
@@ -368,18 +361,11 @@ fn note_of(text: &[u8]) -> Sentence
 fn putty_note(line: &[u8]) -> Sentence
     ensures { result ≡ putty_note line.now }
 {
-    if place_of(line, b"ssh-ed25519").is_some() || place_of(line, b"ssh-ed448").is_some() {
+    if has(line, Sought::Bytes(b"ssh-ed25519")) || has(line, Sought::Bytes(b"ssh-ed448")) {
         Sentence::PuttyEdwards
     } else {
         Sentence::Putty
     }
-}
-
-/// Borrows the first line of a text.
-fn first_line(text: &[u8]) -> &[u8]
-    ensures { result.now ≡ take (line_len text.now) text.now }
-{
-    &text[..line_len(text)]
 }
 
 /// Returns `true` if the text begins as an object of JSON with a member does (RFC 8259 section 4).
@@ -390,11 +376,4 @@ fn is_json(text: &[u8]) -> bool
         [b'{', rest @ ..] => trimmed_start(rest).starts_with(b"\""),
         _ => false,
     }
-}
-
-/// Borrows the text without white space in front.
-fn trimmed_start(text: &[u8]) -> &[u8]
-    ensures { result.now ≡ trimmed_start text.now }
-{
-    text.trim_ascii_start()
 }

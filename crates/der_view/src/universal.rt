@@ -1,16 +1,15 @@
 //! The types of X.680.
 ghost use Rattle.std.specs.Prelude.{◌≡◌, ◌++◌};
 ghost use Rattle.der_view.specs.Lines.{kept};
-ghost use Rattle.der_view.specs.Types.{class_name, type_name, type_word};
+ghost use Rattle.der_view.specs.Types.{type_name, type_word};
 
 use crate::header::{Class, Tag};
 use crate::line::Line;
 use crate::words::text_at;
-use itoa::Buffer;
 
 /// The names of the types by their tag numbers (X.680 section 8.4, table 1).
 #[rattlefmt::skip]
-const TYPES: [&str; 31] = [
+static TYPES: [&str; 31] = [
     "", "BOOLEAN", "INTEGER", "BIT STRING", "OCTET STRING", "NULL", "OBJECT IDENTIFIER",
     "ObjectDescriptor", "EXTERNAL", "REAL", "ENUMERATED", "EMBEDDED PDV", "UTF8String",
     "RELATIVE-OID", "TIME", "", "SEQUENCE", "SET", "NumericString", "PrintableString",
@@ -20,7 +19,7 @@ const TYPES: [&str; 31] = [
 
 /// What stands before a tag number for its class (X.690 section 8.1.2.2), in the order of
 /// [`Class`].
-const CLASSES: [&str; 4] = ["UNIVERSAL ", "APPLICATION ", "", "PRIVATE "];
+static CLASSES: [&str; 4] = ["UNIVERSAL ", "APPLICATION ", "", "PRIVATE "];
 
 /// Returns the name of the type of X.680 with this tag number; nothing if it has none.
 #[tactic(auto, unfolding(crate::specs::Types::type_word))]
@@ -30,17 +29,10 @@ pub fn type_word(number: u32) -> &'static str
     text_at(&TYPES, number as usize)
 }
 
-/// Returns what stands before a tag number for its class.
-#[tactic(auto, unfolding(crate::specs::Types::class_name))]
-fn class_name(class: Class) -> &'static str
-    ensures { result.now ≡ class_name class }
-{
-    CLASSES[class as usize]
-}
-
 impl Line {
     /// Appends the name of the type with this tag: that of X.680, or else the class and the number
     /// in brackets.
+    #[tactic(auto, using(crate::proofs::LineLemmas::kept_pieces), unfolding(crate::specs::Types::class_name))]
     pub fn push_type(&mut self, tag: Tag)
         ensures { self.new ≡ kept (self.old ++ type_name tag) }
     {
@@ -48,13 +40,10 @@ impl Line {
         if tag.is_universal(tag.number) && !name.is_empty() {
             self.push_str(name);
         } else {
-            let number = tag.number as usize;
-            self.push_all(&[
-                "[",
-                class_name(tag.class),
-                Buffer::new().format(number),
-                "]",
-            ]);
+            self.push_str("[");
+            self.push_str(CLASSES[tag.class as usize]);
+            self.push_decimal(tag.number as usize);
+            self.push_str("]");
         }
     }
 }

@@ -1,17 +1,15 @@
 //! What is shown of the content of a primitive element.
-ghost use Rattle.std.specs.Prelude.{◌≡◌, ◌<◌, ◌≤◌, ◌^◌, length, option_map};
-ghost use Rattle.sec1_der.specs.Elements.{number_of};
+ghost use Rattle.std.specs.Prelude.{◌≡◌, ◌≤◌, length, option_map};
 ghost use Rattle.der_view.specs.Characters.{string_codes};
 ghost use Rattle.der_view.specs.Values.{String, bits_value, boolean_value, integer_text};
-ghost use Rattle.der_view.specs.Values.{time_value};
-ghost use Rattle.der_view.specs.Values.{universal_value, value_by, value_view};
+ghost use Rattle.der_view.specs.Values.{time_value, universal_value, value_by, value_view};
 
 mod arcs;
 mod text;
 
 use crate::characters::Characters;
 use crate::header::{Class, Tag};
-use crate::names::{name_of, split};
+use crate::names::{magnitude, name_of, split};
 pub use arcs::Arcs;
 use arrayvec::ArrayString;
 use der_types::kind::{GeneralizedTime, Kind, UtcTime, VisibleString};
@@ -120,23 +118,6 @@ fn integer(content: &[u8]) -> Option<ShortText>
     let mut text = short("-");
     text.push_str(Buffer::new().format(end - number));
     Some(text)
-}
-
-/// Returns the number whose digits in base 256 are these, and 256 to the power of their number.
-#[tactic(auto, using(der_types::proofs::UnsignedLemmas::digit_steps))]
-fn magnitude(digits: &[u8]) -> (u128, u128)
-    requires { length digits.now ≤ 8 }
-    ensures number { result.0 ≡ number_of digits.now }
-    ensures end { result.1 ≡ 256 ^ length digits.now }
-    ensures below { result.0 < result.1 }
-{
-    let mut number: u128 = 0;
-    let mut end: u128 = 1;
-    for digit in digits {
-        number = number * 256 + u128::from(*digit);
-        end *= 256;
-    }
-    (number, end)
 }
 
 /// Returns what is shown of a BIT STRING (X.690 section 8.6.2): its bits, the first one first, if

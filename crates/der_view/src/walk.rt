@@ -10,7 +10,7 @@ ghost use Rattle.der_view.specs.Rows.Row.{Element as Drawn, EndOfContents, NotDr
 use crate::content::shown_len;
 use crate::grammar::{Component, Content, Structure};
 use crate::header::Header;
-use crate::step::{Step, end_at, may_end, step_at};
+use crate::step::{Step, end_at, may_end, step_by};
 
 /// Where a row begins.
 #[derive(Clone, Copy)]
@@ -129,14 +129,18 @@ pub(crate) struct Level<'c, 'a> {
     pub(crate) bytes: &'a [u8],
 }
 
+/// The greatest number of elements inside each other.
+const MOST_LEVELS: usize = 64;
+
 /// Tells the rows of a level, at most so many elements, one after or inside the other. Returns the
 /// bytes after it, unless the rows end in it.
 #[cycle(walks)]
+#[tactic(auto, unfolding(crate::specs::Rows::step_at))]
 fn walk<'a, R: Rows>(
     rows: &mut R,
     rules: &Rules,
-    most: usize,
-    place: Place,
+    mut most: usize,
+    mut place: Place,
     level: &Level<'_, 'a>,
 ) -> Option<&'a [u8]>
     requires within { place.offset + length level.now.bytes.now ≤ place.end }
@@ -146,8 +150,6 @@ fn walk<'a, R: Rows>(
         ≡ level_rest rules.now.is_loose most place.depth level.now }
     ensures len { IfSome result (λ rest. length rest.now ≤ length level.now.bytes.now) }
 {
-    let mut most = most;
-    let mut place = place;
     let mut level = *level;
     while most > 0 {
         let components = level.components;
@@ -156,7 +158,10 @@ fn walk<'a, R: Rows>(
             draw_end(rows, place, &level, len);
             return Some(&bytes[len..]);
         }
-        let Some(step) = step_at(rules.is_loose, place.depth, components, bytes) else {
+        if place.depth >= MOST_LEVELS {
+            break;
+        }
+        let Some(step) = step_by(rules.is_loose, rules.is_loose, components, bytes) else {
             break;
         };
         most -= 1;
@@ -272,24 +277,17 @@ fn draw_element<R: Rows>(
     let header = step.header;
     let content = step.content;
     let shown = shown_len(rules.shows_small, &header, step.component.2, content);
-    let start = place.offset + header.len;
+    let given = given_part(rules.given, place.offset + header.len, content.len());
+    let is_open = header.content_len.is_none();
     let element = Element {
         header,
         head: step.head,
         component: step.component,
         expected: if step.follows { &[] } else { level.components },
         follows: step.follows,
-        len: if header.content_len.is_none() {
-            0
-        } else {
-            content.len()
-        },
+        len: if is_open { 0 } else { content.len() },
         shown: &content[..shown],
-        content: if opened {
-            &[]
-        } else {
-            given_part(rules.given, start, content.len())
-        },
+        content: if opened { &[] } else { given },
         opened,
     };
     rows.element(place, &element);
@@ -363,9 +361,7 @@ fn follows<R: Rows>(
         components: structure.components(),
         bytes,
     };
-    let strict = Rules {
-        is_loose: false,
-        ..*rules
-    };
+    let is_loose = false;
+    let strict = Rules { is_loose, ..*rules };
     walk(rows, &strict, most, place, &trial).is_some()
 }

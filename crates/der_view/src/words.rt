@@ -9,7 +9,7 @@ use crate::line::Line;
 
 /// How the standards spell each name, in the order of [`Name`].
 #[rattlefmt::skip]
-const NAMES: [&str; 141] = [
+static NAMES: [&str; 141] = [
     "", "version", "privateKey", "parameters", "publicKey", "namedCurve", "the point",
     "privateKeyAlgorithm", "attributes", "algorithm", "ECPrivateKey", "RSAPrivateKey", "the key",
     "modulus", "publicExponent", "privateExponent", "prime1", "prime2", "exponent1", "exponent2",

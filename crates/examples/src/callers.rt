@@ -29,6 +29,7 @@ pub mod unseen_keys;
 
 // By which kind bytes are refused, and what a refusal leaves.
 pub mod failed_readers;
+pub mod fault_places;
 pub mod header_kinds;
 pub mod said_kinds;
 pub mod type_kinds;

@@ -377,6 +377,7 @@ fn word_of(mark: Option<Mark>) -> &'static str {
     match mark {
         None => "-",
         Some(Mark::Fault(fault)) => word_of_fault(fault),
+        Some(Mark::Characters(number)) => characters_of(number),
         Some(mark) => mark.kind(),
     }
 }
@@ -400,7 +401,6 @@ fn word_of_fault(fault: Fault) -> &'static str {
         Fault::UnusedNotZero => "UnusedNotZero",
         Fault::UtcTime => "UtcTime",
         Fault::GeneralizedTime => "GeneralizedTime",
-        Fault::Characters(number) => characters_of(number),
     }
 }
 

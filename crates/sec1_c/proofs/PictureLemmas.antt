@@ -1,41 +1,97 @@
--- The text of a picture in a buffer.
-use Rattle.std.proofs.Common.{◌≡◌, ℕ, ◌+◌, ◌-◌, ◌^◌, ◌≤◌, ◌<◌, Bool, true, false, ◌∙◌, List, [], ◌++◌, ap, arith}
-use Rattle.std.proofs.Common.{length, length-append, refl, subst, sym, take, drop, if◌then◌else◌}
-use Rattle.std.specs.Prelude.{min}
+-- What is written into a slice from its beginning: the text of a picture, or its lines.
+use Rattle.std.proofs.Common.{◌≡◌, ℕ, zero, suc, ◌+◌, ◌-◌, ◌^◌, ◌≤◌, ◌<◌, ◌∙◌, List, [], ◌∷◌, ◌++◌, ap, arith, refl}
+use Rattle.std.proofs.Common.{sym, ap₂, Bool, true, false, length, take, drop, take_all, take_at, min, inl, inr}
+use Rattle.std.proofs.Common.{if◌then◌else◌, subst}
+use Rattle.std.proofs.Common.{length-append, length-drop}
+use Rattle.std.proofs.Math.Seq.{drop-drop, take-nil}
+use borrow.Rule.Slice.PartMut.{put_mid}
+use Rattle.std.proofs.lemmas.Bool.{cases_lt}
+use Rattle.std.proofs.lemmas.List.{drop_all, length-take}
 use mir.Val.{bool_byte}
 use Rattle.sec1_c.specs.Outputs.{Writes}
-use Rattle.sec1_c.specs.Pictures.{Extends, Holds, IsDrawn}
+use Rattle.sec1_c.specs.Pictures.{AreStored, Fills, IsDrawn}
 
-held : (old : List ℕ) (old_len : ℕ) (new : List ℕ) (new_len : ℕ) (bytes text : List ℕ) → length new ≤ 2 ^ 64 - 1
-    → new_len ≡ min (old_len + length bytes) (2 ^ 64 - 1) → length new ≡ length old
-    → (new_len ≤ length new → take new_len new ≡ take old_len old ++ bytes) → Holds old old_len text
-    → Holds new new_len (text ++ bytes)
-held old old_len new new_len bytes text few len size written holds = record {
-  len_is = omega (arith, holds.len_is, len, length-append text bytes);
-  begins = λ fits.
-      let all : length (text ++ bytes) ≡ length text + length bytes = length-append text bytes in
-      let before : old_len ≡ length text = omega (arith, all, fits, few, size, holds.len_is) in
-      let after : new_len ≡ length (text ++ bytes) = omega (arith, all, fits, few, len, before) in
-      let kept : take old_len old ≡ text =
-      ap (λ n. take n old) before ∙ holds.begins (omega (arith, all, fits, size)) in
-      ap (λ n. take n new) (sym after) ∙ (written (omega (arith, after, fits)) ∙ ap (λ t. t ++ bytes) kept);
-}
+-- ---- a slice
 
--- one more piece of a text
-pub extended : (old : List ℕ) (old_len : ℕ) (new : List ℕ) (new_len : ℕ) (bytes : List ℕ)
-    → length new ≤ 2 ^ 64 - 1 → new_len ≡ min (old_len + length bytes) (2 ^ 64 - 1) → length new ≡ length old
-    → (new_len ≤ length new → take new_len new ≡ take old_len old ++ bytes) → Extends old old_len new new_len bytes
-extended old old_len new new_len bytes few len size written =
-    (size, λ text holds. held old old_len new new_len bytes text few len size written holds)
+module _ {A : Type 0} where
+  -- one whose first elements are these items, as many as it has room for
+  abbrev filled : List A → List A → List A
+  filled items old = take (length old) items ++ drop (length items) old
+
+  length-filled : (items old : List A) → length (filled items old) ≡ length old
+  length-filled items old =
+      omega (
+        arith,
+        length-append (take (length old) items) (drop (length items) old),
+        length-take (length old) items,
+        length-drop (length items) old,
+      )
+
+  from_start : (items old : List A) (n : ℕ) → n ≡ min (length items) (length old)
+      → take n items ++ drop n old ≡ filled items old
+  from_start items old n is = elim (cases_lt (length old) (length items)) [
+    | inl long ↦
+        let all : n ≡ length old = omega arith in
+        rw (all, drop_all (length old) old (omega arith), drop_all (length items) old (omega arith)) refl
+    | inr short ↦
+        let all : n ≡ length items = omega arith in
+        rw (all, take_all (length items) items (omega arith), take_all (length old) items short) refl
+  ]
+
+  -- as many of the items as fit are put behind those that were put there before
+  more : (before old items : List A) (start n : ℕ) → start ≡ min (length before) (length old)
+      → n ≡ min (length items) (length old - start)
+      → take start (filled before old) ++ (take n items ++ drop (start + n) (filled before old))
+      ≡ filled (before ++ items) old
+  more [] old items zero n first second =
+      let none : filled [] old ≡ old = ap (λ l. l ++ old) (take-nil (length old)) in
+      let sum : 0 + n ≡ n = omega arith in
+      ap (λ k. take 0 (filled [] old) ++ (take n items ++ drop k (filled [] old))) sum
+      ∙ (ap (λ xs. take 0 xs ++ (take n items ++ drop n xs)) none
+      ∙ (ap (λ l. l ++ (take n items ++ drop n old)) (take_at [] old 0 refl)
+      ∙ from_start items old n (omega (arith, second))))
+  more (x ∷ before) (y ∷ old) items (suc start) n first second =
+      let sum : suc start + n ≡ suc (start + n) = omega arith in
+      ap (λ k. x ∷ (take start (filled before old) ++ (take n items ++ drop k (x ∷ filled before old)))) sum
+      ∙ ap (λ rest. x ∷ rest) (more before old items start n (omega (arith, first)) (omega (arith, second)))
+  more (x ∷ before) [] items zero zero first second = refl
+  more [] old items (suc start) n first second = absurd (omega (arith, first))
+  more (x ∷ before) (y ∷ old) items zero n first second = absurd (omega (arith, first))
+  more (x ∷ before) [] items (suc start) n first second = absurd (omega (arith, first))
+  more (x ∷ before) [] items zero (suc n) first second = absurd (omega (arith, second))
+
+-- one more piece
+pub appended : {A : Type 0} (old new items piece : List A) (count new_count start n size : ℕ) → length old ≤ 2 ^ 64 - 1
+    → start ≡ min count (length old) → n ≡ min (length items) (length old - start) → size ≡ n → piece ≡ take n items
+    → new ≡ put_mid start size old piece → new_count ≡ min (count + length items) (2 ^ 64 - 1)
+    → Fills old count new new_count items
+appended old new items piece count new_count start n size few first second same is wrote counts from before held =
+    let len : length old ≡ length from = ap length held.stored ∙ length-filled before from in
+    record {
+      count_is = omega (arith, counts, held.count_is, length-append before items);
+      stored =
+          wrote
+          ∙ (ap₂ (λ (k : ℕ) (piece : List _). put_mid start k old piece) same is
+          ∙ (ap (λ rest. take start old ++ (take n items ++ rest)) (drop-drop n start old)
+          ∙ (ap (λ old. take start old ++ (take n items ++ drop (start + n) old)) held.stored
+          ∙ more before from items start n (omega (arith, first, held.count_is, len, few))
+          (omega (arith, second, len)))));
+    }
+
+-- ---- the text of a picture
 
 -- a text that was written into memory is stored from there
-pub drawn : (text old new bytes memory : List ℕ) (key result stored is_key len : ℕ) → Holds memory len text
-    → length memory ≡ length old → length old < 2 ^ 64 - 1 → len ≤ length old → bytes ≡ take len memory
-    → Writes bytes old new result stored → is_key ≡ key → IsDrawn text key old new result stored is_key
-drawn text old new bytes memory key result stored is_key len holds size few within is writes told =
-    let same : len ≡ length text = omega (arith, holds.len_is, few, within) in
+pub drawn : (text old new bytes first memory : List ℕ) (key result stored is_key len : ℕ)
+    → AreStored first memory len text → length first ≡ length old → length old < 2 ^ 64 - 1 → len ≤ length old
+    → bytes ≡ take len memory → Writes bytes old new result stored → is_key ≡ key
+    → IsDrawn text key old new result stored is_key
+drawn text old new bytes first memory key result stored is_key len written size few within is writes told =
+    let same : len ≡ length text = omega (arith, written.count_is, few, within) in
     let all : bytes ≡ text =
-    is ∙ (ap (λ n. take n memory) same ∙ holds.begins (omega (arith, same, size, within))) in
+    is
+    ∙ (ap (take len)
+    (written.stored ∙ ap (λ l. l ++ drop (length text) first) (take_all (length first) text (omega arith)))
+    ∙ take_at text (drop (length text) first) len (sym same)) in
     let count : length bytes ≡ length text = ap length all in
     let done = writes.fits (omega (arith, count, same, within)) in
     record {
@@ -48,10 +104,6 @@ drawn text old new bytes memory key result stored is_key len holds size few with
       );
       short = λ short. absurd (omega (arith, short, same, within));
     }
-
--- no text, at the beginning of memory
-pub holds_none : (memory : List ℕ) (len : ℕ) → len ≡ 0 → Holds memory len []
-holds_none memory len none = record { len_is = omega (arith, none); begins = λ fits. refl }
 
 -- the number that says whether there is a key
 pub told_number : (found has : Bool) (number : ℕ) → number ≡ bool_byte found → found ≡ has

@@ -1,66 +1,15 @@
 -- The lines of a picture in an array, and what they are of.
-use Rattle.std.proofs.Common.{◌≡◌, ℕ, ◌+◌, ◌-◌, ◌^◌, ◌<◌, ◌≤◌, ◌∙◌, List, [], ◌∷◌, ◌++◌, ap, arith, refl, sym, length}
-use Rattle.std.proofs.Common.{take, drop, min, inl, inr, length-append, append_assoc, append-nil, length-drop, add-zero}
-use Rattle.std.proofs.Math.ListN.{set}
-use Rattle.std.proofs.Math.Seq.{drop-append_seam, drop-nil, set_out, take-append-add, take-nil}
-use Rattle.std.proofs.lemmas.Bool.{cases_lt}
+use Rattle.std.proofs.Common.{◌≡◌, ℕ, ◌+◌, ◌≤◌, ◌∙◌, List, [], ◌∷◌, ◌++◌, ap, arith, refl, sym, length}
+use Rattle.std.proofs.Common.{take, min, length-append, append_assoc, append-nil, add-zero}
+use Rattle.std.proofs.Math.Seq.{drop-append_seam, take-append-add}
 use Rattle.std.proofs.lemmas.Grind.{flat_map-append}
 use Rattle.std.proofs.lemmas.List.{length-take, length-take-le, take-take}
 use Rattle.std.proofs.lemmas.Slice.{take-put_mid}
 use Rattle.std.specs.List.{flat_map}
 use borrow.Rule.Slice.PartMut.{put_mid}
 use Rattle.der_view.specs.Sources.{SourceView, sources_of}
-use Rattle.sec1_c.specs.PictureLines.{Adds, IsDecodedAt, decoded_of, source_lines, sources_lines}
+use Rattle.sec1_c.specs.PictureLines.{IsDecodedAt, decoded_of, source_lines, sources_lines}
 use Rattle.sec1_c.specs.declared.picture.lines.PictureLine.{PictureLine}
-
--- an array whose first elements are these lines, as many as it has room for
-abbrev written : List PictureLine → List PictureLine → List PictureLine
-written lines old = take (length old) lines ++ drop (length lines) old
-
--- where it has room for one more
-one_more : (lines old : List PictureLine) (line : PictureLine) → length lines < length old
-    → set (written lines old) (length lines) line ≡ written (lines ++ line ∷ []) old
-one_more [] (x ∷ old) line fits = ap (λ rest. line ∷ (rest ++ old)) (sym (take-nil (length old)))
-one_more (first ∷ lines) (x ∷ old) line fits = ap (λ rest. first ∷ rest) (one_more lines old line (omega arith))
-one_more lines [] line fits = absurd (omega arith)
-
--- where it has none
-none_more : (lines old : List PictureLine) (line : PictureLine) → length old ≤ length lines
-    → written lines old ≡ written (lines ++ line ∷ []) old
-none_more lines [] line fits = drop-nil (length lines) ∙ sym (drop-nil (length (lines ++ line ∷ [])))
-none_more [] (x ∷ old) line fits = absurd (omega arith)
-none_more (first ∷ lines) (x ∷ old) line fits = ap (λ rest. first ∷ rest) (none_more lines old line (omega arith))
-
-length-written : (lines old : List PictureLine) → length (written lines old) ≡ length old
-length-written lines old =
-    omega (
-      arith,
-      length-append (take (length old) lines) (drop (length lines) old),
-      length-take (length old) lines,
-      length-drop (length lines) old,
-    )
-
--- one line
-pub Adds-one : (old new : List PictureLine) (old_count new_count : ℕ) (line : PictureLine) → length old ≤ 2 ^ 64 - 1
-    → new_count ≡ min (old_count + 1) (2 ^ 64 - 1) → new ≡ set old old_count line
-    → Adds old old_count new new_count (line ∷ [])
-Adds-one old new old_count new_count line few len wrote first before held =
-    let size : length old ≡ length first = ap length held.stored ∙ length-written before first in
-    let all : length (before ++ line ∷ []) ≡ length before + 1 = length-append before (line ∷ []) in
-    record {
-      count_is = omega (arith, all, held.count_is);
-      stored =
-          wrote
-          ∙ elim (cases_lt (length before) (length first)) [
-            | inr full ↦
-                set_out old old_count line (omega (arith, held.count_is))
-                ∙ (held.stored ∙ none_more before first line full)
-            | inl room ↦
-                let at : old_count ≡ length before = omega (arith, held.count_is) in
-                ap (λ n. set old n line) at
-                ∙ (ap (λ array. set array (length before) line) held.stored ∙ one_more before first line room)
-          ];
-    }
 
 -- the lines of one more source
 pub sources_lines-snoc : (before : ℕ) (sources : List SourceView) (source : SourceView)

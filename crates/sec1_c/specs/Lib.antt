@@ -22,5 +22,5 @@ pub mod WrittenKeys
 pub mod PrivateKeys
 pub mod Pictures
 pub mod PictureLines
-pub mod PictureLineLaws
+pub mod PictureLaws
 pub mod PemBlocks

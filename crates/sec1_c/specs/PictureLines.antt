@@ -1,7 +1,7 @@
 -- What each line of the picture of an input is of.
-use Rattle.std.specs.Prelude.{◌≡◌, ℕ, ◌+◌, ◌-◌, ◌^◌, ◌≤◌, ◌<◌, ◌==◌, ◌&&◌, not, nat_lt, min}
-use Rattle.std.specs.Prelude.{Bool, false, if◌then◌else◌, List, [], ◌∷◌, ◌++◌, length, take, drop}
-use Rattle.std.specs.Prelude.{Option, is_some}
+use Rattle.std.specs.Prelude.{◌≡◌, ℕ, ◌+◌, ◌≤◌, ◌<◌, ◌==◌, ◌&&◌, not, nat_lt}
+use Rattle.std.specs.Prelude.{Bool, false, if◌then◌else◌, List, [], ◌∷◌, ◌++◌, length}
+use Rattle.std.specs.Prelude.{Option, is_some, take, drop}
 use Rattle.std.specs.List.{flat_map}
 use Rattle.der_view.specs.Drawings.{found_of, heading_of, is_key_of, known_of, reading_of}
 use Rattle.der_view.specs.Drawings.{reading_with}
@@ -14,11 +14,11 @@ use Rattle.der_view.specs.Sentences.{command_of, words_of}
 use Rattle.der_view.specs.Sources.{SourceView, Der, sources_of}
 use Rattle.der_view.specs.declared.marks.Mark.{Mark}
 use Rattle.der_view.specs.declared.plan.Plan.{Plan}
-use Rattle.der_view.specs.declared.said.Reading.{Reading}
-use Rattle.der_view.specs.declared.said.Reading.TheVariants as readings
+use Rattle.der_view.specs.declared.sentences.Reading.{Reading}
+use Rattle.der_view.specs.declared.sentences.Reading.TheVariants as readings
 use Rattle.der_view.specs.declared.said.SaidLines.{SaidLines}
-use Rattle.der_view.specs.declared.sentences.Sentence.{Sentence}
 use Rattle.der_view.specs.declared.text.Found.{Found}
+use Rattle.sec1_c.specs.Pictures.{AreStored, Fills}
 use Rattle.sec1_c.specs.declared.picture.lines.Lines.{Lines}
 use Rattle.sec1_c.specs.declared.picture.lines.PictureLine.{PictureLine}
 
@@ -52,13 +52,13 @@ abbrev pub mark_lines : List (Option Mark) → List PictureLine
 mark_lines [] = []
 mark_lines (mark ∷ others) = line_if (is_some mark) 2 ++ mark_lines others
 
--- a row's line, and one for each of its marks
-abbrev pub told_lines : RowView → List PictureLine
-told_lines row = if is_told row then row_line row ∷ mark_lines row.marks else []
+-- and one for each of its marks
+abbrev pub row_lines : RowView → List PictureLine
+row_lines row = if is_told row then row_line row ∷ mark_lines row.marks else []
 
 -- the lines of rows by a plan
 abbrev pub rows_lines : Plan → List Row → List PictureLine
-rows_lines plan rows = flat_map (λ row. told_lines (row_of plan false row)) rows
+rows_lines plan rows = flat_map (λ row. row_lines (row_of plan false row)) rows
 
 -- the lines of what is said of bytes
 abbrev pub words_lines : SaidLines → List PictureLine
@@ -67,24 +67,28 @@ words_lines said =
     ∷ (line_if said.key 3
     ++ (line_if said.point 3 ++ (line_if said.words 3 ++ line_if said.command 4)))
 
--- and of a source with none
-abbrev pub note_lines : Sentence → List PictureLine
-note_lines note =
-    line_if (not (length (words_of note) == 0)) 3 ++ line_if (not (length (command_of note) == 0)) 4
-
 -- the lines of the picture of bytes, which OpenSSL reads so
 unfoldable pub bytes_lines : Reading → List ℕ → List PictureLine
 bytes_lines reading bytes =
     rows_lines (plan_of bytes) (rows_by (plan_of bytes) false bytes)
     ++ words_lines (said_lines (is_key_of bytes) reading (known_of (plan_of bytes) bytes))
 
--- the bytes that were decoded
+-- the bytes that are decoded of a source
 abbrev pub decoded_in : Content → List ℕ
 decoded_in (Bytes encoding flaw bytes) = bytes
 decoded_in content = []
 
 abbrev pub decoded_of : SourceView → List ℕ
 decoded_of source = decoded_in (content_of source)
+
+-- the lines of a content of a source
+abbrev pub content_lines : SourceView → Content → List PictureLine
+content_lines source (Bytes encoding flaw bytes) =
+    bytes_lines (reading_with (reading_of source) flaw) bytes
+content_lines source (Said note) =
+    line_if (not (length (words_of note) == 0)) 3 ++ line_if (not (length (command_of note) == 0)) 4
+content_lines (Der input) Itself = bytes_lines readings.Der input
+content_lines source Itself = []
 
 -- the line of a heading, if there is one: so many bytes of memory are before those that were
 -- decoded
@@ -93,19 +97,11 @@ heading_lines before source found =
     if is_some (heading_of source found)
     then record (line_of 0) { offset = before; content_len = decoded_len found } ∷ [] else []
 
-abbrev pub content_lines : Reading → Content → List PictureLine
-content_lines reading Itself = []
-content_lines reading (Bytes encoding flaw bytes) = bytes_lines (reading_with reading flaw) bytes
-content_lines reading (Said note) = note_lines note
-
-abbrev pub text_lines : ℕ → SourceView → Content → List PictureLine
-text_lines before source content =
-    heading_lines before source (found_of content) ++ content_lines (reading_of source) content
-
 -- the lines of a source
 abbrev pub source_lines : ℕ → SourceView → List PictureLine
-source_lines before (Der input) = bytes_lines readings.Der input
-source_lines before source = text_lines before source (content_of source)
+source_lines before source =
+    heading_lines before source (found_of (content_of source))
+    ++ content_lines source (content_of source)
 
 -- the lines of sources, one after the other: so are the bytes that are decoded of them, after so
 -- many bytes of memory
@@ -118,28 +114,10 @@ sources_lines before (source ∷ sources) =
 abbrev pub picture_lines : ℕ → List ℕ → List PictureLine
 picture_lines before input = sources_lines before (sources_of input)
 
--- the number of lines, and an array whose first elements are the lines, as many as it has room for;
--- the others are as they were
-pub record AreStored (old new : List PictureLine) (count : ℕ) (lines : List PictureLine)
-    : Type 0 where
-  pub count_is : count ≡ min (length lines) (2 ^ 64 - 1)
-  pub stored : new ≡ take (length old) lines ++ drop (length lines) old
-
--- where lines are stored, these are stored after them
-abbrev pub Adds : List PictureLine → ℕ → List PictureLine → ℕ → List PictureLine → Type 0
-Adds old old_count new new_count lines =
-    (first : List PictureLine) → (before : List PictureLine)
-    → AreStored first old old_count before → AreStored first new new_count (before ++ lines)
-
 -- the second has these lines too
 pub record Grows (a b : Lines) (lines : List PictureLine) : Type 0 where
   pub place : b.lines.ghost_name ≡ a.lines.ghost_name
-  pub adds : Adds a.lines.now a.count b.lines.now b.count lines
-
--- and the same plan
-pub record GrowsBy (a b : Lines) (lines : List PictureLine) : Type 0 where
-  pub plan : b.plan ≡ a.plan
-  pub grows : Grows a b lines
+  pub fills : Fills a.lines.now a.count b.lines.now b.count lines
 
 -- Lines are stored, as many as there is room for, and their number. 0 is returned if all are
 -- stored, otherwise 7.

@@ -3,16 +3,17 @@ use Rattle.std.specs.Prelude.{◌≡◌, ◌≢◌, ◌≤◌, ◌<◌, ◌-◌,
 use Rattle.std.specs.Prelude.{take, if◌then◌else◌}
 use Rattle.der_view.specs.Drawings.{has_key}
 
--- the buffer begins with the text, if that fits, and the length is that of the text
-pub record Holds (buffer : List ℕ) (len : ℕ) (text : List ℕ) : Type 0 where
-  pub len_is : len ≡ min (length text) (2 ^ 64 - 1)
-  pub begins : length text ≤ length buffer → take (length text) buffer ≡ text
+-- the number of items, and a slice whose first elements are the items, as many as it has room for;
+-- the others are as they were
+pub record AreStored {A : Type 0} (old new : List A) (count : ℕ) (items : List A) : Type 0 where
+  pub count_is : count ≡ min (length items) (2 ^ 64 - 1)
+  pub stored : new ≡ take (length old) items ++ drop (length items) old
 
--- what held a text holds it with these bytes after it
-abbrev pub Extends : List ℕ → ℕ → List ℕ → ℕ → List ℕ → Type 0
-Extends old old_len new new_len bytes =
-    (length new ≡ length old)
-    × ((text : List ℕ) → Holds old old_len text → Holds new new_len (text ++ bytes))
+-- where items are stored, these are stored after them
+abbrev pub Fills : {A : Type 0} → List A → ℕ → List A → ℕ → List A → Type 0
+Fills old old_count new new_count items =
+    (first : List _) → (before : List _)
+    → AreStored first old old_count before → AreStored first new new_count (before ++ items)
 
 -- 1 if some part of an input is a key, and otherwise 0
 abbrev pub key_number : List ℕ → ℕ

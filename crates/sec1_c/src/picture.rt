@@ -132,18 +132,13 @@ pub extern "C" fn sec1_picture_lines(
         return kind_number(ErrorKind::Buffer);
     }
     let most = lines.len();
-    let (digits, bytes) = room.split_at_mut((room.len() / 2).saturating_sub(1));
+    let (digits, bytes) = room.split_at_mut(room.len() / 2 - 1);
     let mut lines = Lines::new(lines, plan_of(input));
     let mut sources = Sources::new(input);
     let mut used = 0;
     while let Some(source) = sources.next_source() {
-        let source_len = source_len(&source);
-        let room_len = source_len.saturating_add(2);
-        if digits.len() < source_len || bytes.len() - used < room_len {
-            return kind_number(ErrorKind::Buffer);
-        }
-        let rest = &mut bytes[used..used + room_len];
-        used += lines.push_source(&source, digits.len().saturating_add(used), digits, rest);
+        let rest = &mut bytes[used..used + source_len(&source) + 2];
+        used += lines.push_source(&source, digits.len() + used, digits, rest);
     }
     *count = lines.count();
     if lines.count() <= most {

@@ -1,12 +1,10 @@
 //! Draws any file that people have in place of a key, and says what it is.
 #![tactic(auto)]
 
-mod failure;
 mod output;
 mod text;
 
-use crate::failure::Failure;
-use crate::output::{Style, show, status_of};
+use crate::output::{Failure, Style, show, status_of};
 use crate::text::escaped;
 use clap::error::ErrorKind;
 use clap::{Arg, ArgAction, ArgMatches, Command, Error, value_parser};
@@ -14,7 +12,6 @@ use der_view::Options;
 use std::alloc::{AllocError, Global};
 use std::io::BufWriter;
 use std::process::ExitCode;
-use std::rt::{Env, Files};
 use std::{env, fs, io};
 
 /// The number of bytes that are written at a time.
@@ -71,79 +68,59 @@ fn parsed<'a>(alloc: Global, words: &'a [String]) -> Result<ArgMatches<'a>, Erro
         .try_get_matches_from(words)
 }
 
-/// The handles of the program, and its arguments.
-#[derive(Drop)]
-struct Program<'r, H> {
-    /// The system.
-    rt: &'r H,
-    /// How files are shown.
-    style: Style<'r>,
+/// Shows a file, or standard input if there is none or its name is `-`. Returns whether it has a
+/// key.
+fn show_file(rt: &HostRuntime, style: Style, path: Option<&str>) -> Result<bool, Failure> {
+    let alloc = rt.alloc();
+    let Ok(mut writer) = BufWriter::with_capacity(alloc, BUFFER, io::writer(rt)) else {
+        return Err(Failure::Memory);
+    };
+    match path {
+        None | Some("-") => show(alloc, style, path, rt.reader(), &mut writer),
+        Some(name) => {
+            let file = fs::open(rt, name).map_err(Failure::Input)?;
+            show(alloc, style, path, file, &mut writer)
+        }
+    }
 }
 
-impl<'r, H: AllocGlobal + Env + Eprint + Files + Input + Print> Program<'r, H> {
-    /// Shows a file, or standard input if there is none or its name is `-`. Returns whether it has
-    /// a key.
-    fn show(&self, path: Option<&str>) -> Result<bool, Failure> {
-        let alloc = self.rt.alloc();
-        let Ok(mut writer) = BufWriter::with_capacity(alloc, BUFFER, io::writer(self.rt)) else {
-            return Err(Failure::Memory);
-        };
-        match path {
-            None | Some("-") => show(alloc, self.style, path, self.rt.reader(), &mut writer),
-            Some(name) => match fs::open(self.rt, name) {
-                Ok(file) => show(alloc, self.style, path, file, &mut writer),
-                Err(error) => Err(Failure::Input(error)),
-            },
-        }
-    }
+/// Says why a file isn't shown to its end. Returns whether others may be shown.
+fn tell(rt: &HostRuntime, path: Option<&str>, failure: Failure) -> bool {
+    let name = match path {
+        None | Some("-") => "standard input",
+        Some(path) => path,
+    };
+    let Ok(name) = escaped(rt.alloc(), name) else {
+        tell_memory(rt);
+        return true;
+    };
+    let told = match &failure {
+        Failure::Input(error) => eprintln!(rt; "sec1_dump: {name}: {error}"),
+        Failure::TooLong => eprintln!(rt; "sec1_dump: {name}: more than 16,777,215 bytes"),
+        Failure::Memory => eprintln!(rt; "sec1_dump: {name}: out of memory"),
+        Failure::Output(error) => eprintln!(rt; "sec1_dump: standard output: {error}"),
+    };
+    told.is_ok() && !matches!(&failure, Failure::Output(_))
+}
 
-    /// Says why a file isn't shown to its end. Returns whether others may be shown.
-    fn tell(&self, path: Option<&str>, failure: Failure) -> bool {
-        let alloc = self.rt.alloc();
-        let name = match path {
-            None | Some("-") => "standard input",
-            Some(path) => path,
-        };
-        let Ok(name) = escaped(alloc, name) else {
-            let _ = eprintln!(self.rt; "sec1_dump: out of memory");
-            return true;
-        };
-        let told = match &failure {
-            Failure::Input(error) => eprintln!(self.rt; "sec1_dump: {name}: {error}"),
-            Failure::TooLong => eprintln!(self.rt; "sec1_dump: {name}: more than 16,777,215 bytes"),
-            Failure::Memory => eprintln!(self.rt; "sec1_dump: {name}: out of memory"),
-            Failure::Output(error) => eprintln!(self.rt; "sec1_dump: standard output: {error}"),
-        };
-        told.is_ok() && !matches!(&failure, Failure::Output(_))
-    }
+/// Says that there is no memory.
+fn tell_memory(rt: &HostRuntime) {
+    let _ = eprintln!(rt; "sec1_dump: out of memory");
+}
 
-    /// Shows these files. Returns the greatest of their statuses.
-    fn run(&self, paths: &[&str]) -> u8 {
-        let mut status = 0;
-        for path in paths {
-            let (goes_on, ended) = self.status(Some(*path));
-            status = u8::max(status, ended);
-            if !goes_on {
-                break;
-            }
-        }
-        status
-    }
-
-    /// Shows a file. Returns whether others may be shown, and the status for this one.
-    fn status(&self, path: Option<&str>) -> (bool, u8) {
-        let shown = self.show(path);
-        let status = status_of(&shown);
-        match shown {
-            Ok(_) => (true, status),
-            Err(failure) => (self.tell(path, failure), status),
-        }
+/// Shows a file. Returns whether others may be shown, and the status for this one.
+fn dump_file(rt: &HostRuntime, style: Style, path: Option<&str>) -> (bool, u8) {
+    let shown = show_file(rt, style, path);
+    let status = status_of(&shown);
+    match shown {
+        Ok(_) => (true, status),
+        Err(failure) => (tell(rt, path, failure), status),
     }
 }
 
 /// Shows the files that the arguments name, or standard input if they name none. Returns the
-/// status.
-fn dump<H: AllocGlobal + Env + Eprint + Files + Input + Print>(rt: &H, matches: &ArgMatches) -> u8 {
+/// greatest of their statuses.
+fn dump(rt: &HostRuntime, matches: &ArgMatches) -> u8 {
     let options = Options {
         all: matches.get_flag("all"),
         json: matches.get_flag("json"),
@@ -157,37 +134,33 @@ fn dump<H: AllocGlobal + Env + Eprint + Files + Input + Print>(rt: &H, matches: 
     let paths = matches.get_strs("FILE").unwrap_or(&[]);
     let named = paths.len() > 1;
     let style = Style { options, named };
-    let program = Program { rt, style };
     if paths.is_empty() {
-        program.status(None).1
-    } else {
-        program.run(paths)
+        return dump_file(rt, style, None).1;
     }
+    let mut greatest = 0;
+    for path in paths {
+        let (goes_on, status) = dump_file(rt, style, Some(*path));
+        greatest = u8::max(greatest, status);
+        if !goes_on {
+            break;
+        }
+    }
+    greatest
 }
 
 /// Says what is wrong with the arguments, or prints help or the version, and returns the status.
-fn tell_arguments<H: Eprint + Print>(rt: &H, error: Error) -> u8 {
-    match error.kind() {
-        ErrorKind::DisplayHelp | ErrorKind::DisplayVersion => match error.print(rt) {
-            Ok(()) => 0,
-            Err(error) => {
-                let _ = eprintln!(rt; "sec1_dump: standard output: {error}");
-                2
-            }
-        },
-        ErrorKind::OutOfMemory => {
-            let _ = eprintln!(rt; "sec1_dump: out of memory");
-            2
-        }
-        _ => {
-            let _ = error.print(rt);
+fn tell_arguments(rt: &HostRuntime, error: Error) -> u8 {
+    match error.print(rt) {
+        Ok(()) => error.exit_code() as u8,
+        Err(error) => {
+            let _ = eprintln!(rt; "sec1_dump: standard output: {error}");
             2
         }
     }
 }
 
 /// Runs the program, and returns the status that it ends with. Fails only if an allocation fails.
-fn run<H: AllocGlobal + Env + Eprint + Files + Input + Print>(rt: &H) -> Result<u8, AllocError> {
+fn run(rt: &HostRuntime) -> Result<u8, AllocError> {
     let alloc = rt.alloc();
     let Ok(arguments) = env::args(rt) else {
         let _ = eprintln!(rt; "sec1_dump: the arguments can't be read");
@@ -196,6 +169,7 @@ fn run<H: AllocGlobal + Env + Eprint + Files + Input + Print>(rt: &H) -> Result<
     let words: Vec<String> = arguments.collect(alloc)?;
     match parsed(alloc, words.as_slice()) {
         Ok(matches) => Ok(dump(rt, &matches)),
+        Err(error) if error.kind() == ErrorKind::OutOfMemory => Err(AllocError),
         Err(error) => Ok(tell_arguments(rt, error)),
     }
 }
@@ -204,7 +178,7 @@ fn main(rt: HostRuntime) -> ExitCode {
     match run(&rt) {
         Ok(status) => ExitCode::from(status),
         Err(_) => {
-            let _ = eprintln!(&rt; "sec1_dump: out of memory");
+            tell_memory(&rt);
             ExitCode::from(2)
         }
     }

@@ -1,21 +1,40 @@
 //! Reads a file, and shows what is in it.
-ghost use Rattle.std.specs.Prelude.{◌≡◌, ◌+◌, ◌<◌, ◌≤◌, IfErr, IfOk, IfSome, OnOk};
-ghost use Rattle.std.specs.Prelude.{length, option_map, take};
+ghost use Rattle.std.specs.Prelude.{◌≡◌, ◌<◌, ◌≤◌, IfErr, IfOk, IfSome, OnOk, length};
+ghost use Rattle.std.specs.Prelude.{option_map};
 ghost use Rattle.std.specs.Io.KnownBytes.{Appends};
 ghost use Rattle.der_view.specs.Sources.{text_len};
-ghost use Rattle.sec1_dump.specs.Shown.{IsOfReading, IsOfWriting, IsShown, Shows, limit, status_of};
-ghost use Rattle.sec1_dump.specs.Shown.{title};
-ghost use Rattle.sec1_dump.specs.declared.failure.Failure.TheVariants.{TooLong};
+ghost use Rattle.sec1_dump.specs.Shown.{IsOfWriting, Shows, limit, status_of, title};
+ghost use Rattle.sec1_dump.specs.declared.output.Failure.TheVariants.{Memory, TooLong};
 
-use crate::failure::Failure;
 use crate::text::escaped;
 use der_view::{Options, room_len};
-use std::alloc::Global;
+use std::alloc::{AllocError, Global};
 use std::io;
 use std::io::{Read as _, Write as _};
 
 /// The greatest length of an input in bytes.
 const LIMIT: usize = 16_777_215;
+
+/// Why a file isn't shown to its end.
+#[derive(Drop)]
+pub(crate) enum Failure {
+    /// It couldn't be opened or read.
+    Input(io::Error),
+    /// It is longer than the limit.
+    TooLong,
+    /// An allocation failed.
+    Memory,
+    /// What is shown of it couldn't be written.
+    Output(io::Error),
+}
+
+impl From<AllocError> for Failure {
+    ghost from_gives = { λ _ failure. failure ≡ Memory };
+
+    fn from(_: AllocError) -> Failure {
+        Failure::Memory
+    }
+}
 
 /// How files are shown.
 #[derive(Clone, Copy)]
@@ -57,12 +76,8 @@ pub(crate) fn show<R: io::Read + Drop, W: io::Write>(
         (W.contents writer.old) (W.contents writer.new) has_key)) }
 {
     let input = read_input(alloc, reader)?;
-    let bytes = input.as_slice();
-    let has_key = write_shown(alloc, style, file, bytes, writer)?;
-    match writer.flush() {
-        Ok(()) => Ok(has_key),
-        Err(error) => Err(Failure::Output(error)),
-    }
+    let has_key = write_shown(alloc, style, file, input.as_slice(), writer)?;
+    Ok(has_key)
 }
 
 /// Reads an input that isn't longer than the limit.
@@ -77,37 +92,20 @@ fn read_input<R: io::Read + Drop>(alloc: Global, reader: R) -> Result<Vec<u8>, F
     ensures long { IfErr result (λ failure. failure ≡ TooLong
         → IfSome (R.remaining reader) (λ bytes. limit < length bytes)) }
 {
-    let input = read_most(alloc, reader)?;
-    let bytes = input.as_slice();
-    if bytes.len() > LIMIT {
-        return Err(Failure::TooLong);
-    }
-    Ok(input)
-}
-
-/// Reads an input, at most one byte more than the limit.
-///
-/// # Errors
-///
-/// Input if a read failed, Memory if an allocation failed.
-fn read_most<R: io::Read + Drop>(alloc: Global, reader: R) -> Result<Vec<u8>, Failure>
-    ensures read { IfOk result (λ input.
-        IfSome (R.remaining reader) (λ bytes. input.items ≡ take (limit + 1) bytes)) }
-    ensures kinds { IfErr result IsOfReading }
-{
     let mut input = Vec::new(alloc);
     match reader.take(LIMIT as u64 + 1).read_to_end(&mut input) {
-        Ok(_) => Ok(input),
+        Ok(_) if input.len() <= LIMIT => Ok(input),
+        Ok(_) => Err(Failure::TooLong),
         Err(error) if error.kind() == io::ErrorKind::OutOfMemory => Err(Failure::Memory),
         Err(error) => Err(Failure::Input(error)),
     }
 }
 
-/// Writes what is shown of an input. Returns whether some part of it is a key.
+/// Writes and flushes what is shown of an input. Returns whether some part of it is a key.
 ///
 /// # Errors
 ///
-/// Output if a write failed, Memory if an allocation failed.
+/// Output if a write or the flush failed, Memory if an allocation failed.
 fn write_shown<W: io::Write>(
     alloc: Global,
     style: Style,
@@ -116,27 +114,19 @@ fn write_shown<W: io::Write>(
     writer: &mut W,
 ) -> Result<bool, Failure>
     requires { length input.now ≤ limit }
-    ensures { IfOk result (λ has_key. IsShown style.entry (option_map (λ name. name.now) file.entry)
+    ensures { IfOk result (λ has_key. Shows style.entry (option_map (λ name. name.now) file.entry)
         input.now (W.contents writer.old) (W.contents writer.new) has_key) }
 {
     let mut room = vec![in alloc; 0u8; room_len(input)]?;
     write_title(alloc, writer, style.named && !style.options.json, file)?;
     let options = Options {
-        file: name_bytes(file),
+        file: file.unwrap_or("").as_bytes(),
         ..style.options
     };
-    match der_view::show(writer, input, room.as_mut_slice(), &options) {
-        Ok(has_key) => Ok(has_key),
-        Err(error) => Err(Failure::Output(error)),
-    }
-}
-
-/// Borrows the bytes of the name of a file; none if it has no name.
-fn name_bytes(file: Option<&str>) -> &[u8] {
-    match file {
-        Some(name) => name.as_bytes(),
-        None => &[],
-    }
+    let shown = der_view::show(writer, input, room.as_mut_slice(), &options);
+    let has_key = shown.map_err(Failure::Output)?;
+    writer.flush().map_err(Failure::Output)?;
+    Ok(has_key)
 }
 
 /// Writes the line with the name of a file, if it is to be there.
@@ -157,10 +147,7 @@ fn write_title<W: io::Write>(
     match file {
         Some(file) if named => {
             let name = escaped(alloc, file)?;
-            match write!(writer, "{name}:\n") {
-                Ok(()) => Ok(()),
-                Err(error) => Err(Failure::Output(error)),
-            }
+            write!(writer, "{name}:\n").map_err(Failure::Output)
         }
         _ => Ok(()),
     }

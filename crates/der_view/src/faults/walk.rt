@@ -63,6 +63,8 @@ fn check_content(levels: usize, rule: Rule, tag: u8, end: usize, content: &[u8])
 
 /// Checks a content, which ends at this offset, as a whole: its components have been checked. It is
 /// refused at its first byte, or at that of a BIT STRING with unused bits.
+// Its part of the stack isn't one of each level.
+#[inline(never)]
 #[tactic(auto, using(crate::proofs::FaultLemmas::says))]
 fn check_own(rule: Rule, tag: u8, end: usize, content: &[u8]) -> Step<()>
     requires end { length content.now ≤ end }
@@ -112,7 +114,7 @@ fn decoded<'a, T: DecodeValue<'a> + Drop>(end: usize, content: &'a [u8]) -> Step
 
 /// Returns the tag and the content of the element with this tag that the bytes begin with, and the
 /// bytes after it; or Truncated, Tag or Length if they begin with none.
-#[tactic(auto, using(crate::proofs::FaultLemmas::element_refused))]
+#[tactic(auto, using(crate::proofs::FaultLemmas::elements))]
 fn first_element(expected: u8, end: usize, bytes: &[u8]) -> Step<(u8, &[u8], &[u8])>
     requires { length bytes.now ≤ end }
     ensures found { MatchResult result

@@ -1,12 +1,12 @@
 //! Texts that are almost PEM or base64.
 ghost use Rattle.std.specs.Prelude.{◌≡◌, ◌≤◌, ◌+◌, length, IfSome, option_map};
-ghost use Rattle.der_view.specs.Almost.{armour_flaw, armour_of, armour_view, before_dashes};
-ghost use Rattle.der_view.specs.Almost.{begin_armour, body_flaw, is_end_of, label_before, line_at};
+ghost use Rattle.der_view.specs.Almost.{armour_flaw, armour_of, armour_view, begin_armour};
+ghost use Rattle.der_view.specs.Almost.{body_flaw, is_end_of, line_after};
 ghost use Rattle.der_view.specs.Parts.{IsIn, almost_content, mended_content};
 ghost use Rattle.der_view.specs.Encoded.{mended_bytes};
 
-use super::encoded::{place_of, strip};
-use super::pem::is_label;
+use super::encoded::strip;
+use super::pem::{Sought, cut, has, labelled};
 use super::{Encoding, Found};
 use crate::plan::plan_of;
 use crate::sentences::Sentence;
@@ -96,7 +96,7 @@ pub(super) fn find_mended(
 fn body_flaw(body: &[u8], other: Flaw) -> Flaw
     ensures { result ≡ body_flaw body.now other }
 {
-    if place_of(body, b"\\n").is_some() || place_of(body, b"\\r").is_some() {
+    if has(body, Sought::Bytes(b"\\n")) || has(body, Sought::Bytes(b"\\r")) {
         Flaw::Escaped
     } else if body.contains(&b'-') || body.contains(&b'_') {
         Flaw::Url
@@ -125,79 +125,52 @@ pub fn armour_of(text: &[u8]) -> Option<Armour>
     ensures value { option_map armour_view result ≡ armour_of text.now }
     ensures within { IfSome result (λ armour. length armour.body.now ≤ length text.now) }
 {
-    match place_of(text, b"-----BEGIN ") {
-        Some(place) => begin_armour(line_at(text, place), &text[place + 11..]),
-        None => {
-            let place = place_of(text, b"-----END ")?;
-            let label = label_before(&text[place + 9..])?;
-            Some(Armour {
-                line: line_at(text, place),
-                label,
-                body: &text[..place],
-                has_begin: false,
-                has_end: true,
-            })
-        }
+    let (before, begin) = cut(text, true, Sought::Bytes(b"-----BEGIN "));
+    if !begin.is_empty() {
+        return begin_armour(line_after(before), begin);
     }
+    let (body, end) = cut(text, true, Sought::Bytes(b"-----END "));
+    let (label, _) = labelled(b"END ", end)?;
+    Some(Armour {
+        line: line_after(body),
+        label,
+        body,
+        has_begin: false,
+        has_end: true,
+    })
 }
 
-/// Returns what is between a BEGIN and the next five dashes. It has this line, and this is after
-/// it.
+/// Returns what is between a BEGIN, with which the text begins in this line, and the next five
+/// dashes.
 #[tactic(auto, unfolding(crate::specs::Almost::begin_armour))]
-fn begin_armour(line: usize, after: &[u8]) -> Option<Armour>
-    ensures value { option_map armour_view result ≡ begin_armour line after.now }
-    ensures within { IfSome result (λ armour. length armour.body.now ≤ length after.now) }
+fn begin_armour(line: usize, begin: &[u8]) -> Option<Armour>
+    ensures value { option_map armour_view result ≡ begin_armour line begin.now }
+    ensures within { IfSome result (λ armour. length armour.body.now ≤ length begin.now) }
 {
-    let label = label_before(after)?;
-    let inside = &after[label.len() + 5..];
-    let body = before_dashes(inside);
+    let (label, inside) = labelled(b"BEGIN ", begin)?;
+    let (body, end) = cut(inside, true, Sought::Bytes(b"-----"));
     Some(Armour {
         line,
         label,
         body,
         has_begin: true,
-        has_end: is_end_of(&inside[body.len()..], label),
+        has_end: is_end_of(end, label),
     })
 }
 
-/// Returns the number of the line in which this place of a text is; that of the first is 1.
-fn line_at(text: &[u8], place: usize) -> usize
-    requires { place ≤ length text.now }
-    ensures { result ≡ line_at text.now place }
+/// Returns the number of the line that begins last in a text, or after it; that of the first is 1.
+fn line_after(text: &[u8]) -> usize
+    ensures { result ≡ line_after text.now }
 {
-    text[..place].iter().filter(|byte| **byte == b'\n').count() + 1
-}
-
-/// Returns the label before the first five dashes of a text; `None` if there is none.
-#[tactic(auto, unfolding(crate::specs::Almost::label_before))]
-fn label_before(text: &[u8]) -> Option<&[u8]>
-    ensures value { option_map (λ label. label.now) result ≡ label_before text.now }
-    ensures within { IfSome result (λ label. length label.now + 5 ≤ length text.now) }
-{
-    let place = place_of(text, b"-----")?;
-    let label = &text[..place];
-    if is_label(label) { Some(label) } else { None }
-}
-
-/// Borrows what is before the first five dashes of a text, or all of it.
-#[tactic(auto, unfolding(crate::specs::Almost::before_dashes))]
-fn before_dashes(text: &[u8]) -> &[u8]
-    ensures value { result.now ≡ before_dashes text.now }
-    ensures within { length result.now ≤ length text.now }
-{
-    match place_of(text, b"-----") {
-        Some(place) => &text[..place],
-        None => text,
-    }
+    text.iter().filter(|byte| **byte == b'\n').count() + 1
 }
 
 /// Returns `true` if a text begins with an END of this label.
-#[tactic(auto, unfolding(crate::specs::Almost::is_end_of))]
 fn is_end_of(text: &[u8], label: &[u8]) -> bool
     ensures { result ≡ is_end_of text.now label.now }
 {
     match text.strip_prefix(b"-----END ".as_slice()) {
-        Some(rest) => before_dashes(rest) == label,
+        Some(rest) => cut(rest, true, Sought::Bytes(b"-----")).0 == label,
         None => false,
     }
 }

@@ -1,16 +1,9 @@
 //! Hexadecimal and base64, decoded into memory that is given.
-ghost use Rattle.std.specs.Prelude.{◌≡◌, ◌≤◌, ◌+◌, length, take, IfSome};
+ghost use Rattle.std.specs.Prelude.{◌≡◌, ◌≤◌, ◌+◌, length, take};
 ghost use Rattle.der_view.specs.Encoded.{IsDecoded, base64_bytes, digit_of, digits_in, hex_bytes};
-ghost use Rattle.der_view.specs.Encoded.{hex_digits, is_blank, is_separator, place_of};
+ghost use Rattle.der_view.specs.Encoded.{hex_digits, is_separator};
 
 use base64::engine::general_purpose::STANDARD;
-
-/// Returns `true` if the byte is a space, a tab, or part of the end of a line.
-fn is_blank(byte: u8) -> bool
-    ensures { result ≡ is_blank byte }
-{
-    byte == b' ' || byte == b'\t' || byte == b'\r' || byte == b'\n'
-}
 
 /// Writes the digits of base64 in a text to the front of `digits`, and returns their number: all
 /// bytes but blanks, or if the text is almost base64, what [`digit_of`] returns.
@@ -39,18 +32,14 @@ pub(super) fn strip(text: &[u8], is_almost: bool, digits: &mut [u8]) -> usize
 fn digit_of(is_almost: bool, previous: u8, byte: u8) -> Option<u8>
     ensures { result ≡ digit_of is_almost previous byte }
 {
-    if !is_almost {
-        if is_blank(byte) { None } else { Some(byte) }
-    } else if previous == b'\\' && (byte == b'n' || byte == b'r') {
-        None
-    } else if byte.is_ascii_alphanumeric() || byte == b'+' || byte == b'/' {
-        Some(byte)
-    } else if byte == b'-' {
-        Some(b'+')
-    } else if byte == b'_' {
-        Some(b'/')
-    } else {
-        None
+    match byte {
+        b' ' | b'\t' | b'\r' | b'\n' => None,
+        _ if !is_almost => Some(byte),
+        b'n' | b'r' if previous == b'\\' => None,
+        b'A'..=b'Z' | b'a'..=b'z' | b'0'..=b'9' | b'+' | b'/' => Some(byte),
+        b'-' => Some(b'+'),
+        b'_' => Some(b'/'),
+        _ => None,
     }
 }
 
@@ -72,7 +61,7 @@ pub(super) fn base64_into(text: &[u8], digits: &mut [u8], bytes: &mut [u8]) -> O
 fn is_separator(byte: u8) -> bool
     ensures { result ≡ is_separator byte }
 {
-    is_blank(byte) || byte == b':' || byte == b','
+    matches!(byte, b' ' | b'\t' | b'\r' | b'\n' | b':' | b',')
 }
 
 /// Writes the bytes of a text that are no separators and no `0x` to the front of `digits`, and
@@ -107,6 +96,7 @@ fn strip_hex(text: &[u8], digits: &mut [u8]) -> usize
 
 /// Writes the bytes that hexadecimal digits encode to the front of `bytes`, and returns their
 /// number; `None` if the text isn't an even count of digits. `digits` is memory for its digits.
+#[tactic(auto, unfolding(crate::specs::Encoded::hex_bytes))]
 pub(super) fn hex_into(text: &[u8], digits: &mut [u8], bytes: &mut [u8]) -> Option<usize>
     requires digits { length text.now ≤ length digits.old }
     requires bytes { length text.now ≤ length bytes.old }
@@ -117,22 +107,4 @@ pub(super) fn hex_into(text: &[u8], digits: &mut [u8], bytes: &mut [u8]) -> Opti
         Ok(()) => Some(count / 2),
         Err(_) => None,
     }
-}
-
-/// Returns the first place at which a text has another.
-#[tactic(auto, unfolding(crate::specs::Encoded::place_of))]
-pub(super) fn place_of(text: &[u8], other: &[u8]) -> Option<usize>
-    ensures value { result ≡ place_of text.now other.now }
-    ensures within { IfSome result (λ place. place + length other.now ≤ length text.now) }
-{
-    let mut place = 0;
-    let mut rest = text;
-    while let [_, others @ ..] = rest {
-        if rest.starts_with(other) {
-            return Some(place);
-        }
-        rest = others;
-        place += 1;
-    }
-    None
 }

@@ -1,98 +1,88 @@
 //! The blocks of PEM in a text (RFC 7468 section 2).
-ghost use Rattle.std.specs.Prelude.{◌≡◌, ◌≤◌, ◌<◌, ◌+◌, ◌^◌, [], ◌∷◌, length, IfSome, true};
-ghost use Rattle.std.specs.Prelude.{MatchOption, option_map};
+ghost use Rattle.std.specs.Prelude.{◌≡◌, ◌≤◌, ◌<◌, ◌+◌, ◌^◌, [], ◌∷◌, length, IfSome};
+ghost use Rattle.std.specs.Prelude.{MatchOption, codes, false, option_map, true};
 ghost use Rattle.std.specs.List.{list_all};
-ghost use Rattle.der_view.specs.Blocks.{between, block_of, block_view, blocks_in, cut_at, cut_view};
-ghost use Rattle.der_view.specs.Blocks.{is_end, is_key_of_openssl, is_label, is_label_byte};
-ghost use Rattle.der_view.specs.Blocks.{is_of, is_of_private_key, label_of, line_len, lines_of};
-ghost use Rattle.der_view.specs.Blocks.{split_headers, trimmed};
+ghost use Rattle.der_view.specs.Blocks.{before, begin_label, block_of, block_view, blocks_in};
+ghost use Rattle.der_view.specs.Blocks.{ends_line, is_at, is_blank, is_in, is_key_of_openssl};
+ghost use Rattle.der_view.specs.Blocks.{is_label, is_label_byte, is_of_private_key, is_this};
+ghost use Rattle.der_view.specs.Blocks.{labelled, line_label, onward, split_headers, trimmed_start};
 
 /// The greatest number of characters of a label.
 const LABEL_MOST: usize = 40;
 
-/// A kind of lines of a text.
+/// What is looked for in a text.
 #[derive(Clone, Copy)]
-enum LineKind {
-    /// The first line of a block.
-    Begin,
-    /// One that may be the first or the last line of a block, so that it is in no body.
-    Boundary,
-    /// One that is empty, but for white space.
-    Empty,
-    /// The header that says that the body is encrypted (RFC 1421 section 4.6.1.1).
-    Encryption,
+pub(super) enum Sought<'a> {
+    /// These bytes.
+    Bytes(&'a [u8]),
+    /// A line that begins with these bytes.
+    Line(&'a [u8]),
+    /// A line that is empty, but for white space.
+    Blank,
 }
 
-impl LineKind {
-    /// Returns `true` if a line is of this kind.
-    fn takes(self, line: &[u8]) -> bool
-        ensures { result ≡ is_of self line.now }
+impl Sought<'_> {
+    /// Returns `true` if this is at the beginning of a text, with which a line begins or not.
+    fn is_at(self, starts: bool, text: &[u8]) -> bool
+        ensures { result ≡ is_at self.entry starts text.now }
     {
         match self {
-            LineKind::Begin => label_of(line).is_some(),
-            LineKind::Boundary => line.starts_with(b"-----"),
-            LineKind::Empty => trimmed(line).is_empty(),
-            LineKind::Encryption => line.starts_with(b"Proc-Type: 4,ENCRYPTED"),
+            Sought::Bytes(bytes) => text.starts_with(bytes),
+            Sought::Line(front) => starts && text.starts_with(front),
+            Sought::Blank => starts && is_blank(text),
         }
     }
 }
 
-/// A line of a text, and the lines around it.
-#[derive(Clone, Copy)]
-struct CutLine<'a> {
-    /// The number of lines before it.
-    count: usize,
-    /// These lines.
-    before: &'a [u8],
-    /// The line, with what ends it.
-    line: &'a [u8],
-    /// The lines after it.
-    after: &'a [u8],
-}
-
-/// Returns the first line of this kind in a text; `None` if there is none.
-#[tactic(auto, using(crate::proofs::BlockLemmas::cut_here, crate::proofs::BlockLemmas::cut_later))]
-fn cut(text: &[u8], kind: LineKind) -> Option<CutLine<'_>>
-    ensures value { option_map cut_view result ≡ cut_at kind (lines_of text.now) }
-    ensures takes { IfSome result (λ cut. is_of kind cut.line.now ≡ true) }
-    ensures within { IfSome result
-        (λ cut. cut.count + 1 + length cut.after.now ≤ length text.now) }
+/// Returns what of a text is before the first place with what is looked for, and the text from
+/// there on; all and nothing if there is none. A line begins with the text, or not.
+pub(super) fn cut<'a>(text: &'a [u8], starts: bool, sought: Sought) -> (&'a [u8], &'a [u8])
+    ensures before { result.0.now ≡ before (is_at sought.entry) starts text.now }
+    ensures onward { result.1.now ≡ onward (is_at sought.entry) starts text.now }
 {
-    let mut count = 0;
-    let mut len = 0;
-    while len < text.len() {
-        let (before, rest) = text.split_at(len);
-        let (line, after) = rest.split_at(line_len(rest));
-        if kind.takes(line) {
-            return Some(CutLine {
-                count,
-                before,
-                line,
-                after,
-            });
-        }
-        count += 1;
-        len += line.len();
-    }
-    None
-}
-
-/// Returns the number of bytes of the first line of a text, with the CR LF, LF or CR that ends it.
-pub(super) fn line_len(text: &[u8]) -> usize
-    ensures value { result ≡ line_len text.now }
-    ensures within { result ≤ length text.now }
-    ensures some { 0 < length text.now → 0 < result }
-{
-    let mut len = 0;
+    let mut place = 0;
     let mut rest = text;
+    let mut begins = starts;
     while let [byte, after @ ..] = rest {
-        len += 1;
-        if *byte == b'\n' || (*byte == b'\r' && !after.starts_with(b"\n")) {
-            return len;
+        if sought.is_at(begins, rest) {
+            return text.split_at(place);
         }
+        begins = ends_line(*byte, after);
         rest = after;
+        place += 1;
     }
-    len
+    text.split_at(place)
+}
+
+/// Returns `true` if a line ends with this byte, which these are after (RFC 7468 section 3).
+fn ends_line(byte: u8, after: &[u8]) -> bool
+    ensures { result ≡ ends_line byte after.now }
+{
+    byte == b'\n' || (byte == b'\r' && !after.starts_with(b"\n"))
+}
+
+/// Returns `true` if a text, with which a line begins, has what is looked for.
+pub(super) fn has(text: &[u8], sought: Sought) -> bool
+    ensures { result ≡ is_in (is_at sought.entry) true text.now }
+{
+    !cut(text, true, sought).1.is_empty()
+}
+
+/// Borrows the text without white space in front.
+pub(super) fn trimmed_start(text: &[u8]) -> &[u8]
+    ensures value { result.now ≡ trimmed_start text.now }
+    ensures within { length result.now ≤ length text.now }
+{
+    text.trim_ascii_start()
+}
+
+/// Returns `true` if the first line of a text is empty, but for white space.
+fn is_blank(text: &[u8]) -> bool
+    ensures { result ≡ is_blank text.now }
+{
+    let rest = trimmed_start(text);
+    let space = &text[..text.len() - rest.len()];
+    rest.is_empty() || space.contains(&b'\n') || space.contains(&b'\r')
 }
 
 /// A block of PEM.
@@ -112,55 +102,69 @@ pub struct Block<'a> {
     pub has_end: bool,
 }
 
-/// Returns the first block of a text before which are so many lines, and the lines after the
-/// block's first one; `None` if there is none.
-#[tactic(auto, using(crate::proofs::BlockLemmas::blocks_cut, crate::proofs::BlockLemmas::concat_lines))]
-pub(super) fn next_block(text: &[u8], number: usize) -> Option<(Block<'_>, &[u8])>
+/// Returns the first block whose first line begins in a text after so many lines, and the text
+/// after its first byte; `None` if there is none.
+pub(super) fn next_block(text: &[u8], starts: bool, number: usize) -> Option<(Block<'_>, &[u8])>
     requires { number + length text.now < 2 ^ 64 }
-    ensures value { MatchOption result (blocks_in number (lines_of text.now) ≡ [])
-        (λ next. blocks_in number (lines_of text.now)
-        ≡ block_view next.0 ∷ blocks_in next.0.line (lines_of next.1.now)) }
+    ensures value { MatchOption result (blocks_in starts number text.now ≡ [])
+        (λ next. blocks_in starts number text.now
+        ≡ block_view next.0 ∷ blocks_in false next.0.line next.1.now) }
     ensures within { IfSome result
         (λ next. next.0.line + length next.1.now ≤ number + length text.now) }
 {
-    let begin = cut(text, LineKind::Begin)?;
-    let label = label_of(begin.line)?;
-    let line = number + begin.count + 1;
-    let after = begin.after;
-    match cut(after, LineKind::Boundary) {
-        Some(end) => {
-            let has_end = is_end(end.line, label);
-            Some((Block::new(line, label, end.before, has_end), after))
+    let mut line = number;
+    let mut rest = text;
+    let mut begins = starts;
+    while let [byte, after @ ..] = rest {
+        line += usize::from(begins);
+        if let Some(label) = begin_label(begins, rest) {
+            return Some((Block::new(line, label, after), after));
         }
-        None => Some((Block::new(line, label, after, false), after)),
+        begins = ends_line(*byte, after);
+        rest = after;
+    }
+    None
+}
+
+/// Returns the label of the block that a text begins with, if a line begins with the text.
+fn begin_label(starts: bool, text: &[u8]) -> Option<&[u8]>
+    ensures { option_map (λ label. label.now) result ≡ begin_label starts text.now }
+{
+    if starts {
+        line_label(b"BEGIN ", text)
+    } else {
+        None
     }
 }
 
-/// Returns a text without the white space at its end.
-fn trimmed(text: &[u8]) -> &[u8]
-    ensures { result.now ≡ trimmed text.now }
+/// Returns the label in the line that a text begins with: five dashes, this word, the label and
+/// five dashes; `None` if it isn't such a line.
+fn line_label<'a>(word: &[u8], text: &'a [u8]) -> Option<&'a [u8]>
+    ensures { option_map (λ label. label.now) result ≡ line_label word.now text.now }
 {
-    text.trim_ascii_end()
+    let (label, after) = labelled(word, text)?;
+    if is_blank(after) { Some(label) } else { None }
 }
 
-/// Returns what a line has between this front and the dashes at its end; `None` if it is no such
-/// line.
-fn between<'a>(front: &[u8], line: &'a [u8]) -> Option<&'a [u8]>
-    ensures { option_map (λ text. text.now) result ≡ between front.now line.now }
+/// Returns the label in the text, which begins with five dashes, this word, the label and five
+/// dashes, and what is after these; `None` if it doesn't begin so.
+pub(super) fn labelled<'a>(word: &[u8], text: &'a [u8]) -> Option<(&'a [u8], &'a [u8])>
+    ensures value { option_map (λ found. (found.0.now, found.1.now)) result
+        ≡ labelled word.now text.now }
+    ensures within { IfSome result (λ found. length found.1.now ≤ length text.now) }
 {
-    trimmed(line).strip_prefix(front)?.strip_suffix(b"-----")
-}
-
-/// Returns the label of a block's first line; `None` if the line is none.
-fn label_of(line: &[u8]) -> Option<&[u8]>
-    ensures { option_map (λ label. label.now) result ≡ label_of line.now }
-{
-    let text = between(b"-----BEGIN ", line)?;
-    if is_label(text) { Some(text) } else { None }
+    let rest = text.strip_prefix(b"-----")?.strip_prefix(word)?;
+    let (label, end) = cut(rest, true, Sought::Bytes(b"-----"));
+    let after = end.strip_prefix(b"-----")?;
+    if is_label(label) {
+        Some((label, after))
+    } else {
+        None
+    }
 }
 
 /// Returns `true` if the text is a label.
-pub(super) fn is_label(text: &[u8]) -> bool
+fn is_label(text: &[u8]) -> bool
     ensures { result ≡ is_label text.now }
 {
     1 <= text.len() && text.len() <= LABEL_MOST && are_label_bytes(text)
@@ -173,42 +177,46 @@ fn are_label_bytes(text: &[u8]) -> bool
     text.iter().all(|byte| matches!(byte, b'A'..=b'Z' | b'0'..=b'9' | b' ' | b'#' | b'.'))
 }
 
-/// Returns `true` if the line is the last one of a block with this label.
-fn is_end(line: &[u8], label: &[u8]) -> bool
-    ensures { result ≡ is_end line.now label.now }
+/// Returns `true` if a text begins with the last line of a block with this label.
+fn is_end(text: &[u8], label: &[u8]) -> bool
+    ensures { result ≡ is_this (line_label (codes "END ") text.now) label.now }
 {
-    match between(b"-----END ", line) {
-        Some(text) => text == label,
+    match line_label(b"END ", text) {
+        Some(other) => other == label,
         None => false,
     }
 }
 
-/// Returns the headers of a block with these lines (RFC 1421 section 4.4), and the lines after
-/// them. The headers are the lines up to an empty one, if one of them has a colon.
-#[tactic(auto, using(crate::proofs::BlockLemmas::concat_lines))]
+/// Returns the headers in what is between the first line of a block and its last one (RFC 1421
+/// section 4.4), and what is after them. The headers are the lines up to an empty one, if one of
+/// them has a colon.
 fn split_headers(inside: &[u8]) -> (&[u8], &[u8])
     ensures headers { result.0.now ≡ (split_headers inside.now).0 }
     ensures body { result.1.now ≡ (split_headers inside.now).1 }
 {
-    match cut(inside, LineKind::Empty) {
-        Some(empty) if empty.before.contains(&b':') => (empty.before, empty.after),
-        _ => (&inside[..0], inside),
+    let (headers, rest) = cut(inside, true, Sought::Blank);
+    if !rest.is_empty() && headers.contains(&b':') {
+        (headers, cut(rest, false, Sought::Line(b"")).1)
+    } else {
+        (&inside[..0], inside)
     }
 }
 
 impl<'a> Block<'a> {
-    /// Returns the block with this first line and label, these lines, and its last line or not.
-    fn new(line: usize, label: &'a [u8], inside: &'a [u8], has_end: bool) -> Block<'a>
-        ensures { block_view result ≡ block_of line label.now inside.now has_end }
+    /// Returns the block with this label in its first line, of which this is the number, before
+    /// this text.
+    fn new(line: usize, label: &'a [u8], text: &'a [u8]) -> Block<'a>
+        ensures { block_view result ≡ block_of line label.now text.now }
     {
-        let (headers, body) = split_headers(inside);
+        let (lines, end) = cut(text, false, Sought::Line(b"-----"));
+        let (headers, body) = split_headers(cut(lines, false, Sought::Line(b"")).1);
         Block {
             line,
             label,
             body,
             has_headers: !headers.is_empty(),
-            is_encrypted: cut(headers, LineKind::Encryption).is_some(),
-            has_end,
+            is_encrypted: has(headers, Sought::Line(b"Proc-Type: 4,ENCRYPTED")),
+            has_end: is_end(end, label),
         }
     }
 

@@ -1,109 +1,99 @@
 //! The arcs of an identifier.
-ghost use Rattle.std.specs.Prelude.{◌≡◌, ◌∷◌, [], Bool, ℕ, List, IfSome, MatchOption};
-ghost use Rattle.std.specs.Prelude.{option_map, true};
-ghost use Rattle.std.specs.List.{list_all};
-ghost use Rattle.sec1_der.specs.Identifiers.{arcs_of_numbers, numbers_after};
-ghost use Rattle.der_types.specs.ObjectIdentifiers.{are_subidentifiers};
-ghost use Rattle.der_view.specs.Values.{arcs_by, arcs_view, is_u128, numbers_below};
+ghost use Rattle.std.specs.Prelude.{◌≡◌, ◌∷◌, [], MatchOption, true};
+ghost use Rattle.sec1_der.specs.Identifiers.{numbers_after};
+ghost use Rattle.der_view.specs.Arcs.{arcs_by, are_u128};
 
 use der_types::kind::{Kind, ObjectIdentifier};
 
-/// The arcs of an OBJECT IDENTIFIER (X.690 section 8.19). Each is below 2^128, as those that are
-/// made of a UUID are (X.667 section 7).
+/// The arcs of an OBJECT IDENTIFIER (X.690 section 8.19), from the next one on. Each is below
+/// 2^128, as those that are made of a UUID are (X.667 section 7).
 #[derive(Clone, Copy)]
 pub struct Arcs<'a> {
-    /// The first arc.
-    pub first: u128,
-    /// The second arc.
-    pub second: u128,
-    /// The subidentifiers of the arcs after these, from the next one on.
-    pub further: &'a [u8],
+    /// How many of the first two arcs were returned.
+    begun: u8,
+    /// The subidentifiers of the arcs that are left. The first two arcs share one.
+    left: &'a [u8],
+    ghost fit: { are_u128 0 left.now ≡ true },
 }
 
 impl<'a> Arcs<'a> {
+    ghost use Rattle.std.specs.Prelude.{option_map};
+    ghost use Rattle.der_view.specs.Values.{arcs_view};
+
     /// Returns the arcs of the identifier with this content; `None` if it is no identifier's, or a
     /// subidentifier isn't below 2^128.
-    #[tactic(auto, using(crate::proofs::ArcLemmas::arcs_none))]
     pub fn new(content: &'a [u8]) -> Option<Arcs<'a>>
         ensures { option_map arcs_view result ≡ arcs_by content.now }
     {
-        if !ObjectIdentifier::test(content) {
+        if !ObjectIdentifier::test(content) || !are_u128(content) {
             return None;
         }
-        let (number, further) = split_subidentifier(0, content)?;
-        if !fit(further) {
-            return None;
-        }
-        let (first, second) = first_arcs(number);
         Some(Arcs {
-            first,
-            second,
-            further,
+            begun: 0,
+            left: content,
         })
     }
+}
 
-    /// Returns the next arc after the first two; `None` after the last one.
-    pub fn next_further(&mut self) -> Option<u128>
-        ensures { MatchOption result
-            ((numbers_below 0 self.old.further.now ≡ []) × (self.new ≡ self.old))
-            (λ arc. numbers_below 0 self.old.further.now
-            ≡ arc ∷ numbers_below 0 self.new.further.now) }
-    {
-        let (number, rest) = split_subidentifier(0, self.further)?;
-        self.further = rest;
+impl Iterator for Arcs<'_> {
+    ghost use Rattle.std.specs.Iterator.{YieldsFirst, item_count};
+    ghost use Rattle.der_view.specs.Values.{arcs_view};
+
+    type Item = u128;
+
+    ghost next_gives = { YieldsFirst arcs_view };
+
+    ghost remaining = { item_count arcs_view };
+
+    fn next(&mut self) -> Option<u128> {
+        let (number, rest) = split_subidentifier(self.left)?;
+        // X.690 section 8.19.4
+        let first = (number / 40).min(2);
+        if self.begun == 0 {
+            self.begun = 1;
+            return Some(first);
+        }
+        self.left = rest;
+        if self.begun == 1 {
+            self.begun = 2;
+            return Some(number - 40 * first);
+        }
         Some(number)
     }
 }
 
-/// Returns the two arcs in the first subidentifier (X.690 section 8.19.4).
-fn first_arcs(number: u128) -> (u128, u128)
-    ensures { (further : List ℕ) → arcs_of_numbers (number ∷ further)
-        ≡ result.0 ∷ result.1 ∷ further }
+/// Returns `true` if each subidentifier in these bytes is below 2^128.
+#[tactic(auto, using(std::proofs::lemmas::Bool::Decides::nat_tests))]
+fn are_u128(bytes: &[u8]) -> bool
+    ensures { result ≡ are_u128 0 bytes.now }
 {
-    if number < 40 {
-        (0, number)
-    } else if number < 80 {
-        (1, number - 40)
-    } else {
-        (2, number - 80)
+    let mut high: u128 = 0;
+    for byte in bytes {
+        let digit = u128::from(*byte % 128);
+        if high >= 1 << 121 {
+            return false;
+        }
+        high = if *byte < 128 { 0 } else { high * 128 + digit };
     }
+    true
 }
 
-/// Returns `true` if each subidentifier in these bytes is below 2^128.
-#[tactic(auto, using(crate::proofs::ArcLemmas::fit_end))]
-fn fit(bytes: &[u8]) -> bool
-    requires { are_subidentifiers true bytes.now ≡ true }
-    ensures { result ≡ list_all is_u128 (numbers_after 0 bytes.now) }
+/// Returns the first subidentifier (X.690 section 8.19.2) and the bytes after it. `None` if none
+/// ends in these bytes.
+fn split_subidentifier(bytes: &[u8]) -> Option<(u128, &[u8])>
+    requires { are_u128 0 bytes.now ≡ true }
+    ensures { MatchOption result (numbers_after 0 bytes.now ≡ [])
+        (λ split. (numbers_after 0 bytes.now ≡ split.0 ∷ numbers_after 0 split.1.now)
+        × (are_u128 0 split.1.now ≡ true)) }
 {
+    let mut number = 0;
     let mut rest = bytes;
-    while let Some((_, after)) = split_subidentifier(0, rest) {
+    while let Some((byte, after)) = rest.split_first() {
+        number = number * 128 + u128::from(*byte % 128);
+        if *byte < 128 {
+            return Some((number, after));
+        }
         rest = after;
     }
-    rest.is_empty()
-}
-
-/// Returns the first subidentifier (X.690 section 8.19.2) and the bytes after it; `high` is the
-/// number in its digits before these. `None` if none ends in these bytes, or it isn't below 2^128.
-#[tactic(auto, using(crate::proofs::ArcLemmas::below_high))]
-fn split_subidentifier(high: u128, bytes: &[u8]) -> Option<(u128, &[u8])>
-    ensures next { MatchOption result (numbers_below high bytes.now ≡ [])
-        (λ split. numbers_below high bytes.now ≡ split.0 ∷ numbers_below 0 split.1.now) }
-    ensures all { IfSome result (λ split. list_all is_u128 (numbers_after high bytes.now)
-        ≡ list_all is_u128 (numbers_after 0 split.1.now)) }
-    ensures valid { IfSome result (λ split. (begins : Bool)
-        → are_subidentifiers begins bytes.now ≡ true
-        → are_subidentifiers true split.1.now ≡ true) }
-{
-    let Some((byte, rest)) = bytes.split_first() else {
-        return None;
-    };
-    if high >= 1 << 121 {
-        return None;
-    }
-    let number = high * 128 + u128::from(*byte % 128);
-    if *byte < 128 {
-        Some((number, rest))
-    } else {
-        split_subidentifier(number, rest)
-    }
+    None
 }

@@ -2,12 +2,11 @@
 #![tactic(auto, using(crate::proofs::LineLemmas::kept_pieces))]
 
 ghost use Rattle.std.specs.Prelude.{◌≡◌, ◌++◌, true};
-ghost use Rattle.std.specs.Fmt.{decimal, digits};
+ghost use Rattle.std.specs.Fmt.{digits};
 ghost use Rattle.sec1_der.specs.Identifiers.{dotted};
 ghost use Rattle.der_view.specs.Characters.{codes_of, escaped, escaped_all};
 ghost use Rattle.der_view.specs.Lines.{kept};
-ghost use Rattle.der_view.specs.Values.{arcs_view, number_of_text};
-ghost use Rattle.der_view.specs.Values.{value_text, value_view};
+ghost use Rattle.der_view.specs.Values.{arcs_view, number_of_text, value_text, value_view};
 
 use super::{Arcs, Value};
 use crate::characters::Characters;
@@ -71,24 +70,19 @@ impl Line {
     pub fn push_arcs(&mut self, arcs: Arcs<'_>)
         ensures { self.new ≡ kept (self.old ++ dotted (arcs_view arcs.entry)) }
     {
-        self.push_arc(arcs.first);
-        self.push_byte(b'.');
-        self.push_arc(arcs.second);
         let mut left = arcs;
-        while self.len() <= MAX_WIDTH {
-            let Some(arc) = left.next_further() else {
+        let Some(first) = left.next() else {
+            return self.push_str("");
+        };
+        self.push_str(Buffer::new().format(first));
+        for arc in left {
+            if self.len() > MAX_WIDTH {
                 return;
-            };
+            }
             self.push_byte(b'.');
-            self.push_arc(arc);
+            self.push_str(Buffer::new().format(arc));
         }
-    }
-
-    /// Appends an arc in decimal digits.
-    fn push_arc(&mut self, arc: u128)
-        ensures { self.new ≡ kept (self.old ++ decimal arc) }
-    {
-        self.push_str(Buffer::new().format(arc));
+        self.push_str("");
     }
 
     /// Appends characters; those that don't print in ASCII, `"` and `\` are escaped.
@@ -96,13 +90,13 @@ impl Line {
     pub fn push_characters(&mut self, characters: Characters<'_>)
         ensures { self.new ≡ kept (self.old ++ escaped_all (codes_of characters.entry)) }
     {
-        let mut left = characters;
-        while self.len() <= MAX_WIDTH {
-            let Some(character) = left.next_character() else {
+        for character in characters {
+            if self.len() > MAX_WIDTH {
                 return;
-            };
+            }
             self.push_character(character);
         }
+        self.push_str("");
     }
 
     /// Appends a character: as itself if it prints in ASCII, `"` and `\` after a `\`, and another

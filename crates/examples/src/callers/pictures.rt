@@ -1,12 +1,14 @@
 //! Pictures of any input, by `der_view`: its sources, its text, its rows, and what is a key.
 ghost use Rattle.std.specs.Prelude.{◌≡◌, ◌≤◌, ◌+◌, ◌∷◌, [], List, ℕ, Bool, true, false, length};
 ghost use Rattle.std.specs.Prelude.{IfOk, IsSomeAnd};
+ghost use Rattle.std.specs.List.{All};
 ghost use Rattle.sec1.specs.Keys.{IsKeyOf, Key};
 ghost use Rattle.der_view.specs.Drawings.{has_key, is_key_of, picture_text};
 ghost use Rattle.der_view.specs.Headers.{max_content_len};
+ghost use Rattle.der_view.specs.Lines.{IsLine};
 ghost use Rattle.der_view.specs.Masks.{AreAlike};
 ghost use Rattle.der_view.specs.Pictures.{picture, plan_of};
-ghost use Rattle.der_view.specs.Printing.{AreLines, rows_lines, rows_text};
+ghost use Rattle.der_view.specs.Printing.{rows_lines, rows_text};
 ghost use Rattle.der_view.specs.RowLaws.{AllFollow, AreAt, offset_of, row_len, rows_len};
 ghost use Rattle.der_view.specs.Rows.{Row};
 ghost use Rattle.der_view.specs.Sources.{Der, has_begin, is_text, source_view};
@@ -179,7 +181,7 @@ pub fn two_rows(alloc: Global, a: &[u8], b: &[u8]) -> io::Result<(Vec<u8>, Vec<u
 
 /// Each line of the rows of an input prints in ASCII, and has at most 100 characters.
 pub fn short_lines(input: &[u8], all: bool)
-    ensures { AreLines (rows_lines (plan_of input.now) all (picture all input.now)) }
+    ensures { All IsLine (rows_lines (plan_of input.now) all (picture all input.now)) }
 {
     lines_are_short(plan_of(input), all);
 }

@@ -2,17 +2,17 @@
 ghost use Rattle.std.specs.Prelude.{◌≡◌, ◌≤◌, ◌+◌, [], ◌∷◌, length, take};
 ghost use Rattle.der_view.specs.Drawings.{reading_with};
 ghost use Rattle.der_view.specs.Facts.{row_view};
-ghost use Rattle.der_view.specs.Parts.{content_of, decoded_len};
+ghost use Rattle.der_view.specs.Parts.{decoded_len};
 ghost use Rattle.der_view.specs.Sources.{source_len, source_view};
-ghost use Rattle.sec1_c.specs.PictureLines.{Adds, AreStored, Grows, GrowsBy, bytes_lines};
-ghost use Rattle.sec1_c.specs.PictureLines.{decoded_of};
-ghost use Rattle.sec1_c.specs.PictureLines.{heading_lines, line_if, line_of, mark_lines};
-ghost use Rattle.sec1_c.specs.PictureLines.{note_lines, row_line, source_lines, text_lines};
-ghost use Rattle.sec1_c.specs.PictureLines.{told_lines, words_lines};
+ghost use Rattle.sec1_c.specs.PictureLines.{Grows, bytes_lines, decoded_of, heading_lines};
+ghost use Rattle.sec1_c.specs.PictureLines.{line_if, line_of, mark_lines, row_line};
+ghost use Rattle.sec1_c.specs.PictureLines.{row_lines, rows_lines, source_lines};
+ghost use Rattle.sec1_c.specs.Pictures.{AreStored};
 
+use crate::picture::text::fill;
 use der_view::{
-    Component, Element, Flaw, Found, Mark, Place, Plan, Reading, RowFacts, Rows, SaidLines,
-    Sentence, Source, draw_rows, plan_of, said_lines,
+    Component, Element, Flaw, Found, Mark, Place, Plan, Reading, RowFacts, Rows, Source, draw_rows,
+    plan_of, said_lines,
 };
 
 /// The kinds of lines.
@@ -96,48 +96,26 @@ impl<'a> Lines<'a> {
         ensures decoded { take result bytes.new ≡ decoded_of (source_view source.now) }
         ensures within { result ≤ length bytes.old }
     {
-        match source {
-            Source::Der(input) => {
-                self.push_bytes(*input, Reading::Der, Flaw::Nothing);
-                0
-            }
-            _ => self.push_text(source, before, digits, bytes),
-        }
-    }
-
-    /// Adds the lines of a part that is text. Returns the number of bytes that were decoded.
-    fn push_text(
-        &mut self,
-        source: &Source,
-        before: usize,
-        digits: &mut [u8],
-        bytes: &mut [u8],
-    ) -> usize
-        requires digits { source_len (source_view source.now) ≤ length digits.old }
-        requires bytes { source_len (source_view source.now) + 2 ≤ length bytes.old }
-        ensures added { Grows self.old self.new (text_lines before (source_view source.now)
-            (content_of (source_view source.now))) }
-        ensures decoded { take result bytes.new ≡ decoded_of (source_view source.now) }
-        ensures within { result ≤ length bytes.old }
-    {
         let found = source.find(digits, bytes);
+        let len = decoded_len(&found);
         self.push_heading(source, before, &found);
-        match found {
-            Found::Decoded(_, flaw, len) => {
+        match (source, found) {
+            (_, Found::Decoded(_, flaw, _)) => {
                 self.push_bytes(&bytes[..len], source.reading(), flaw);
-                len
             }
-            Found::Said(note) => {
-                self.push_note(note);
-                0
+            (_, Found::Said(note)) => {
+                self.push_if(!note.words().is_empty(), WORDS);
+                self.push_if(!note.command().is_empty(), COMMAND);
             }
-            Found::Itself => 0,
+            (Source::Der(input), _) => self.push_bytes(*input, Reading::Der, Flaw::Nothing),
+            _ => {}
         }
+        len
     }
 
     /// Adds the line of a heading, if the part has one.
     fn push_heading(&mut self, source: &Source, before: usize, found: &Found)
-        ensures { GrowsBy self.old self.new
+        ensures { Grows self.old self.new
             (heading_lines before (source_view source.now) found.now) }
     {
         if source.heading(found).is_some() {
@@ -157,13 +135,7 @@ impl<'a> Lines<'a> {
         let plan = plan_of(bytes);
         self.plan = plan;
         draw_rows(self, plan, bytes, false);
-        self.push_said(said_lines(bytes, reading, flaw));
-    }
-
-    /// Adds the lines of what is said of bytes.
-    fn push_said(&mut self, said: SaidLines)
-        ensures { GrowsBy self.old self.new (words_lines said) }
-    {
+        let said = said_lines(bytes, reading, flaw);
         self.push_if(true, WORDS);
         self.push_if(said.key, WORDS);
         self.push_if(said.point, WORDS);
@@ -171,17 +143,10 @@ impl<'a> Lines<'a> {
         self.push_if(said.command, COMMAND);
     }
 
-    /// Adds the lines of what is said of a part with no bytes.
-    fn push_note(&mut self, note: Sentence)
-        ensures { GrowsBy self.old self.new (note_lines note) }
-    {
-        self.push_if(!note.words().is_empty(), WORDS);
-        self.push_if(!note.command().is_empty(), COMMAND);
-    }
-
     /// Adds the line of a row, and those of its marks, unless it is of no bytes and has no mark.
     fn push_row(&mut self, row: &RowFacts)
-        ensures { GrowsBy self.old self.new (told_lines (row_view row.now)) }
+        ensures plan { self.new.plan ≡ self.old.plan }
+        ensures added { Grows self.old self.new (row_lines (row_view row.now)) }
     {
         if row.is_told() {
             self.push(line_of_row(row));
@@ -191,18 +156,19 @@ impl<'a> Lines<'a> {
 
     /// Adds a line for each of these marks.
     fn push_marks(&mut self, marks: &[Option<Mark>])
-        ensures { GrowsBy self.old self.new (mark_lines marks.now) }
+        ensures plan { self.new.plan ≡ self.old.plan }
+        ensures added { Grows self.old self.new (mark_lines marks.now) }
     {
-        let Some((mark, others)) = marks.split_first() else {
-            return;
-        };
-        self.push_if(mark.is_some(), MARK);
-        self.push_marks(others);
+        if let Some((mark, others)) = marks.split_first() {
+            self.push_if(mark.is_some(), MARK);
+            self.push_marks(others);
+        }
     }
 
     /// Adds a line of this kind, if it is there.
     fn push_if(&mut self, is_there: bool, kind: usize)
-        ensures { GrowsBy self.old self.new (line_if is_there kind) }
+        ensures plan { self.new.plan ≡ self.old.plan }
+        ensures added { Grows self.old self.new (line_if is_there kind) }
     {
         if is_there {
             self.push(of_kind(kind));
@@ -211,25 +177,18 @@ impl<'a> Lines<'a> {
 
     /// Adds a line.
     fn push(&mut self, line: PictureLine)
-        ensures same_reference { self.new.lines.ghost_name ≡ self.old.lines.ghost_name }
         ensures plan { self.new.plan ≡ self.old.plan }
-        ensures added { Adds self.old.lines.now self.old.count self.new.lines.now self.new.count
-            (line ∷ []) }
+        ensures added { Grows self.old self.new (line ∷ []) }
     {
-        let lines = &mut *self.lines;
-        if self.count < lines.len() {
-            lines[self.count] = line;
-        }
-        self.count = self.count.saturating_add(1);
+        self.count = fill(self.lines, self.count, &[line]);
     }
 }
 
 impl Rows for Lines<'_> {
-    ghost use Rattle.std.proofs.Common.{refl};
-    ghost use Rattle.sec1_c.specs.PictureLines.{GrowsBy, rows_lines};
-    ghost use Rattle.sec1_c.specs.PictureLineLaws.{GrowsBy-none, GrowsBy-rows};
+    ghost use Rattle.std.proofs.Common.{refl, ◌∙◌};
+    ghost use Rattle.sec1_c.specs.PictureLaws.{Grows-none, Grows-rows};
 
-    ghost tells = { λ a b rows. GrowsBy a b (rows_lines a.plan rows) };
+    ghost tells = { λ a b rows. (b.plan ≡ a.plan) × Grows a b (rows_lines a.plan rows) };
 
     fn element(&mut self, place: Place, element: &Element) {
         self.push_row(&RowFacts::of_element(self.plan, false, place, element));
@@ -243,9 +202,12 @@ impl Rows for Lines<'_> {
         self.push_row(&RowFacts::of_not_drawn(self.plan, place, expected, len, content));
     }
 
-    ghost nothing = { λ a. GrowsBy-none a };
+    ghost nothing = { λ a. (refl, Grows-none a) };
 
-    ghost joined = { λ a b c first second one two. GrowsBy-rows a b c first second one two };
+    ghost joined = { λ a b c first second one two. (
+      two.0 ∙ one.0,
+      Grows-rows a b c first second one.0 one.1 two.1,
+    ) };
 }
 
 /// Returns the line of a row.

@@ -1,9 +1,20 @@
-//! Where a picture is written.
-ghost use Rattle.std.specs.Prelude.{◌≡◌, ◌≤◌, ◌+◌, ◌-◌, ◌^◌, ◌++◌, length, min, take};
-ghost use Rattle.sec1_c.specs.Pictures.{Extends, Holds};
+//! Memory of a caller that is filled from its beginning.
+ghost use Rattle.std.specs.Prelude.{◌≡◌, ◌≤◌, [], length, take};
+ghost use Rattle.sec1_c.specs.Pictures.{AreStored, Fills};
 
 use der_view::Output;
 use std::convert::Infallible;
+
+/// Copies items behind so many that a slice was given, as many as fit. Returns the number of all,
+/// at most `usize::MAX`.
+pub(super) fn fill<T: Copy>(slice: &mut [T], count: usize, items: &[T]) -> usize
+    ensures { Fills slice.old count slice.new result items.now }
+{
+    let start = count.min(slice.len());
+    let fitting = items.len().min(slice.len() - start);
+    slice[start..start + fitting].copy_from_slice(&items[..fitting]);
+    count.saturating_add(items.len())
+}
 
 /// A writer that fills a slice from its beginning, as far as that goes, and counts what it is
 /// given.
@@ -16,8 +27,7 @@ pub(super) struct Text<'a> {
 impl<'a> Text<'a> {
     /// Returns a writer at the beginning of a slice.
     pub fn new(buffer: &'a mut [u8]) -> Text<'a>
-        ensures len { result.len ≡ 0 }
-        ensures size { length result.buffer.now ≡ length buffer.old }
+        ensures { AreStored buffer.old result.buffer.now result.len [] }
     {
         Text { buffer, len: 0 }
     }
@@ -35,46 +45,21 @@ impl<'a> Text<'a> {
     {
         &self.buffer[..self.len.min(self.buffer.len())]
     }
-
-    /// Appends bytes, if they fit, and counts them.
-    fn append(&mut self, bytes: &[u8])
-        ensures len { self.new.len ≡ min (self.old.len + length bytes.now) (2 ^ 64 - 1) }
-        ensures size { length self.new.buffer.now ≡ length self.old.buffer.now }
-        ensures text { self.new.len ≤ length self.new.buffer.now → take self.new.len
-            self.new.buffer.now ≡ take self.old.len self.old.buffer.now ++ bytes.now }
-    {
-        if self.len <= self.buffer.len() && bytes.len() <= self.buffer.len() - self.len {
-            let end = self.len + bytes.len();
-            self.buffer[self.len..end].copy_from_slice(bytes);
-            self.len = end;
-        } else {
-            self.len = self.len.saturating_add(bytes.len());
-        }
-    }
 }
 
 impl Output for Text<'_> {
-    ghost use Rattle.std.proofs.Common.{append-nil, append_assoc, refl, subst, sym, ◌∙◌};
+    ghost use Rattle.sec1_c.specs.PictureLaws.{Fills-none, Fills-both};
 
     type Error = Infallible;
 
-    ghost appends = { λ a b bytes. Extends a.buffer.now a.len b.buffer.now b.len bytes };
+    ghost appends = { λ a b bytes. Fills a.buffer.now a.len b.buffer.now b.len bytes };
 
-    ghost nothing = { λ a. (
-      refl,
-      λ text holds.
-          subst (Holds a.buffer.now a.len) (sym (append-nil text)) holds,
-    ) };
+    ghost nothing = { λ a. Fills-none a.buffer.now a.len };
 
-    ghost joined = { λ a b c first second p q. (
-      q.0 ∙ p.0,
-      λ text holds.
-          subst (Holds c.buffer.now c.len) (append_assoc text first second)
-          (q.1 (text ++ first) (p.1 text holds)),
-    ) };
+    ghost joined = { λ a b c first second one two. Fills-both first second one two };
 
     fn push(&mut self, bytes: &[u8]) -> Result<(), Infallible> {
-        self.append(bytes);
+        self.len = fill(self.buffer, self.len, bytes);
         Ok(())
     }
 }

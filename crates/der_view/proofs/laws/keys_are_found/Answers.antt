@@ -1,9 +1,6 @@
 use Rattle.std.proofs.Common.{◌∙◌}
-use Rattle.der_view.proofs.DrawingLemmas.{bytes_found, one_source}
+use Rattle.der_view.proofs.DrawingLemmas.{bytes_found}
 use Rattle.der_view.proofs.laws.keys_are_found.Goals as goal
-
-pub returns-clause-source : goal.returns-clause-source
-returns-clause-source c = one_source _
 
 pub returns-clause-key : goal.returns-clause-key
 returns-clause-key c = λ text begin few.

@@ -1,9 +1,12 @@
 use Rattle.std.proofs.Common.{rules, ◌≡◌, ◌+◌, ◌-◌, ◌≤◌, ◌<◌, ◌∙◌, [], length, false, Bool, Some, None, sym, arith}
-use Rattle.der_view.specs.Rows.{end_at, opened_of, rules_of, step_at, step_of}
+use Rattle.std.proofs.Common.{append-nil}
+use Rattle.std.proofs.lemmas.Bool.Decides.{nat_tests}
+use Rattle.der_view.specs.Rows.{Row, end_at, opened_of, rules_of, step_at, step_of}
 use Rattle.der_view.specs.declared.walk.Level.{Level}
-use Rattle.der_view.proofs.WalkLemmas.{IsNext, level_end, level_last, level_more, level_stop, opened_step}
+use Rattle.der_view.proofs.WalkLemmas.{IsNext, level_end, level_next, level_stop, opened_step, told-none}
 use Rattle.der_view.proofs.walk.+walks.Goals.{walk-else-loop-most-test}
-use Rattle.der_view.proofs.walk.+walks.Goals.{walk-then-loop-most-test+in_default+in_default-step_at}
+use Rattle.der_view.proofs.walk.+walks.Goals.{walk-then-loop-most-test+in_default+then-place-ge-MOST_LEVELS}
+use Rattle.der_view.proofs.walk.+walks.Goals.{walk-then-loop-most-test+in_default+else-place-ge-MOST_LEVELS+in_default-step_by}
 use Rattle.der_view.proofs.walk.+walks.Goals as goal
 
 pub draw_step-returns-in_default-clause-rows : goal.draw_step-returns-in_default-clause-rows
@@ -43,24 +46,28 @@ walk-returns-in-Some-clause-rows g t c =
     c.draw_end.ensures)
 
 pub walk-returns-in_err-rest : goal.walk-returns-in_err-rest
+unfolding step_at
 walk-returns-in_err-rest g t c =
     let next : IsNext (rules_of c.args.rules.now) c.loop-most.most (c.loop-most.most - 1) c.loop-most.place
-    c.loop-most.level (step_of c.in-Some-step_at.step) None =
-    record { fewer = omega arith; goes = search rules; is = search rules; after = search rules } in
-    let last = level_last next in
+    c.loop-most.level (step_of c.in-Some-step_by.step) None =
+    record { fewer = omega arith; goes = search rules; is = grind (arith, nat_tests); after = search rules } in
+    let last = level_next next in
     let residual : c.from_residual.result ≡ None = search rules in
     record {
-      rows = c.loop-most.invariant.0 c.draw_step.new.rows (rw last.0 c.draw_step.ensures.rows);
+      rows = c.loop-most.invariant.0 c.draw_step.new.rows
+          (rw (last.0, told-none c.loop-most.level.is_trial, append-nil {A = Row})
+          c.draw_step.ensures.rows);
       rest = rw residual (sym (c.loop-most.invariant.1 ∙ last.1));
       len = search rules;
     }
 
 pub walk-loop-most-preserved : goal.walk-loop-most-preserved
+unfolding step_at
 walk-loop-most-preserved g t c =
     let next : IsNext (rules_of c.args.rules.now) c.loop-most.most (c.loop-most.most - 1) c.loop-most.place
-    c.loop-most.level (step_of c.in-Some-step_at.step) (Some c.in_ok-rest.rest.now) =
-    record { fewer = omega arith; goes = search rules; is = search rules; after = search rules } in
-    let more = level_more c.in_ok-rest.rest.now next in
+    c.loop-most.level (step_of c.in-Some-step_by.step) (Some c.in_ok-rest.rest.now) =
+    record { fewer = omega arith; goes = search rules; is = grind (arith, nat_tests); after = search rules } in
+    let more = level_next next in
     let old = c.loop-most.invariant in
     let within : length c.in_ok-rest.rest.now ≤ length c.loop-most.level.bytes.now = search rules in (
       λ final told'. old.0 final (rw more.0 (g.met.R.Rows.joined c.loop-most.rows c.draw_step.new.rows final _ _
@@ -72,6 +79,7 @@ walk-loop-most-preserved g t c =
     )
 
 pub walk-returns : goal.walk-returns
+unfolding step_at
 walk-returns g t c =
     let loose : Bool = c.args.rules.now.is_loose in
     let level : Level = c.loop-most.level in
@@ -79,7 +87,10 @@ walk-returns g t c =
     × (step_at loose c.loop-most.place.depth level.components.now level.bytes.now ≡ None) =
     elim c.loop-most-test.branch [
       | walk-else-loop-most-test w ↦ λ positive. absurd (omega arith)
-      | walk-then-loop-most-test+in_default+in_default-step_at w ↦ λ positive. (search rules, search rules)
+      | walk-then-loop-most-test+in_default+then-place-ge-MOST_LEVELS w ↦ λ positive.
+          (search rules, grind (arith, nat_tests))
+      | walk-then-loop-most-test+in_default+else-place-ge-MOST_LEVELS+in_default-step_by w ↦ λ positive.
+          (search rules, grind (arith, nat_tests))
     ] in
     let stop = level_stop (rules_of c.args.rules.now) c.loop-most.most c.loop-most.place level stops in
     record {

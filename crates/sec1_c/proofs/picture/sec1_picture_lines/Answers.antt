@@ -1,4 +1,4 @@
-use Rattle.std.proofs.Common.{◌≡◌, ◌≤◌, ◌+◌, ◌-◌, ◌/◌, [], ◌∷◌, ◌++◌, List, length, refl, sym, ap, ◌∙◌, arith}
+use Rattle.std.proofs.Common.{◌≡◌, ◌≤◌, ◌-◌, ◌/◌, [], ◌∷◌, ◌++◌, List, length, refl, sym, ap, ◌∙◌, arith}
 use Rattle.std.proofs.Common.{append_assoc}
 use Rattle.std.proofs.lemmas.List.{length-take-le}
 use Rattle.std.specs.List.{flat_map}
@@ -27,15 +27,11 @@ loop-source-preserved c =
     let new = c.push_source-used.new.bytes in
     let more = c.push_source-used.result in
     let fits : more ≤ length new = omega (arith, c.push_source-used.ensures.within, c.push_source-used.auto.bytes) in
-    let written =
-    part_written c.loop-source.used (c.loop-source.used + c.saturating_add-room_len.result - c.loop-source.used) more
-    c.loop-source.bytes new c.loop-source.invariant.within fits in
+    let written = part_written c.loop-source.used _ more c.loop-source.bytes new c.loop-source.invariant.within fits in
     let len : length (decoded_of source) ≡ more =
     sym (ap length c.push_source-used.ensures.decoded) ∙ length-take-le more new fits in
     let used : length (flat_map decoded_of done.0) ≡ c.loop-source.used =
     sym (ap length done.2) ∙ length-take-le c.loop-source.used c.loop-source.bytes c.loop-source.invariant.within in
-    let place : c.saturating_add.result ≡ length c.loop-source.digits + length (flat_map decoded_of done.0) =
-    omega (arith, c.saturating_add.ensures, used, c.loop-source.auto.digits, c.loop-source.auto.bytes) in
     record {
       room =
           let left = ap total_len c.in-Some.ensures in
@@ -48,8 +44,8 @@ loop-source-preserved c =
             ∙ (ap (λ (rest : List SourceView). done.0 ++ rest) c.in-Some.ensures
             ∙ sym (append_assoc done.0 (source ∷ []) _)),
         written.0 ∙ decoded-snoc done.0 source _ _ done.2 c.push_source-used.ensures.decoded,
-        rw (c.push_source-used.auto.digits, sources_lines-snoc (length c.loop-source.digits) done.0 source, ← place)
-            (c.push_source-used.ensures.added.adds c.args.lines.now _ done.3),
+        rw (c.push_source-used.auto.digits, sources_lines-snoc (length c.loop-source.digits) done.0 source, used)
+            (c.push_source-used.ensures.added.fills c.args.lines.now _ done.3),
       );
     }
 

@@ -1,7 +1,8 @@
 use Rattle.std.proofs.Common.{◌≡◌, ◌+◌, ◌≤◌, List, ◌++◌, length, take}
 use Rattle.std.specs.List.{flat_map}
 use Rattle.der_view.specs.Sources.{SourceView, sources_of, text_len, total_len}
-use Rattle.sec1_c.specs.PictureLines.{AreStored, decoded_of, sources_lines}
+use Rattle.sec1_c.specs.PictureLines.{decoded_of, sources_lines}
+use Rattle.sec1_c.specs.Pictures.{AreStored}
 use Rattle.sec1_c.proofs.picture.sec1_picture_lines.Given as goal
 
 abbrev pub invariant-loop-source : goal.invariant-loop-source

@@ -15,6 +15,7 @@ written (Err e) done new ok is = cc
 
 at_front : (text digits new rest : List ℕ) (half n : ℕ) → digits ≡ hex_digits text → length new ≡ half
     → decode_sized digits n ≡ Ok new → (hex_bytes text ≡ Some (take half (new ++ rest))) × (half ≤ length (new ++ rest))
+unfolding hex_bytes
 at_front text digits new rest half n same size ok =
     let whole : decode_of digits ≡ Ok new = sym (decode_sized-twice digits n (decode_sized-ok digits n new ok)) ∙ ok in
     let front : take half (new ++ rest) ≡ new =

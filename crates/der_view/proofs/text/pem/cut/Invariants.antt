@@ -1,15 +1,12 @@
-use Rattle.std.proofs.Common.{◌≡◌, ◌≤◌, ◌-◌, drop, length, take, option_map}
-use Rattle.der_view.specs.Blocks.{cut_at, lines_of, past}
+use Rattle.std.proofs.Common.{◌≡◌, ◌+◌, length}
+use Rattle.der_view.specs.Blocks.{is_at, len_before}
 use Rattle.der_view.proofs.text.pem.cut.Given as goal
 
-abbrev pub invariant-loop-len : goal.invariant-loop-len
-invariant-loop-len l = record {
-  same :
-      cut_at l.kind (lines_of l.text)
-      ≡ option_map (past l.count (take l.len l.text)) (cut_at l.kind (lines_of (drop l.len l.text)));
-  few : l.count ≤ l.len;
-  within : l.len ≤ length l.text;
+abbrev pub invariant-loop-rest : goal.invariant-loop-rest
+invariant-loop-rest l = record {
+  same : l.place + len_before (is_at l.sought) l.begins l.rest ≡ len_before (is_at l.sought) l.starts l.text;
+  size : l.place + length l.rest ≡ length l.text;
 }
 
-abbrev pub decreases-loop-len : goal.decreases-loop-len
-decreases-loop-len l = length l.text - l.len
+abbrev pub decreases-loop-rest : goal.decreases-loop-rest
+decreases-loop-rest l = length l.rest

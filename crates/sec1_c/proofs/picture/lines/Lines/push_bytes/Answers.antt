@@ -1,4 +1,4 @@
-use Rattle.sec1_c.specs.PictureLineLaws.{Grows-join}
+use Rattle.sec1_c.specs.PictureLaws.{Grows-both}
 use Rattle.sec1_c.specs.PictureLines.{bytes_lines}
 use Rattle.sec1_c.proofs.picture.lines.Lines.push_bytes.Goals as goal
 
@@ -6,5 +6,9 @@ pub returns : goal.returns
 unfolding bytes_lines
 returns c =
     let rows = rw c.plan_of-plan.ensures at c.draw_rows.ensures in
-    let said = rw c.said_lines.ensures at c.push_said.ensures in
-    Grows-join _ _ _ _ _ (record { place = rows.grows.place; adds = rows.grows.adds }) said.grows
+    let said =
+    Grows-both _ _ _ _ _ c.push_if.ensures.added
+    (Grows-both _ _ _ _ _ c.push_if-2.ensures.added
+    (Grows-both _ _ _ _ _ c.push_if-3.ensures.added
+    (Grows-both _ _ _ _ _ c.push_if-4.ensures.added c.push_if-5.ensures.added))) in
+    Grows-both _ _ _ _ _ (record { place = rows.1.place; fills = rows.1.fills }) (rw c.said_lines-said.ensures at said)
