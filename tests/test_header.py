@@ -29,6 +29,8 @@ TYPES = {
     "PrivateKeyInfoParts": "struct sec1_private_key_info_parts",
     "PictureLine": "struct sec1_picture_line",
 }
+# Where the struct of a picture's line is, and its kinds.
+LINES = "crates/der_view/src/output.rt"
 # What the header alone has: a struct whose members are given to a call by inline functions.
 UNPROVED = {
     *("sec1_key_len_of", "sec1_key_write_of", "sec1_picture_show"),
@@ -95,17 +97,17 @@ def source_statuses():
 
 
 def source_lines():
-    """Returns the kinds of a picture's lines: the constants of picture/lines.rt."""
-    text = read("crates/sec1_c/src/picture/lines.rt")
-    found = re.findall(r"^const (\w+): usize = (\d+);", text, re.M)
-    return {"SEC1_LINE_" + name: int(number) for name, number in found}
+    """Returns the kinds of a picture's lines: the constants of der_view's output.rt. Those above 4
+    are stored by no exported function, and aren't in the header."""
+    found = re.findall(r"^pub const (\w+): usize = (\d+);", read(LINES), re.M)
+    return {"SEC1_LINE_" + name: int(number) for name, number in found if int(number) <= 4}
 
 
 def source_items():
     """Returns the types in C of each exported function, beginning with that of its result, and the
     members of each struct of C; and the names of the parameters of each function."""
     types, names = {}, {}
-    for path in sorted((TOP / "crates/sec1_c/src").rglob("*.rt")):
+    for path in [*sorted((TOP / "crates/sec1_c/src").rglob("*.rt")), TOP / LINES]:
         text = path.read_text(encoding="utf-8")
         function = r'pub extern "C" fn (\w+)\((.*?)\) -> (\w+)'
         for name, parameters, result in re.findall(function, text, re.S):

@@ -47,12 +47,8 @@ length_in_der n rest few =
 
 -- the header of an element of n bytes
 abbrev pub der_header : ℕ → ℕ → Header
-der_header tag n = record {
-  tag = tag_of tag (tag % 0x20);
-  tag_len = 1;
-  len = 1 + length (length_octets n);
-  content_len = Some n;
-}
+der_header tag n =
+    record { tag = tag_of tag (tag % 0x20); tag_len = 1; len = 1 + length (length_octets n); content_len = Some n }
 
 -- such an element, as one component
 abbrev pub der_step : (tag n : ℕ) → Component → List Component → Bool → List ℕ → List ℕ → Step
@@ -209,11 +205,8 @@ module _ {fine : Content → Bool} {holds : List Component → Bool} (tag n : �
 
   pub element_alike : Alike (goes tag fine holds) first second
   unfolding cases components
-  element_alike = record {
-    len = ap suc size_same;
-    anything = grind (arith, content.anything, rest.anything);
-    masks = masked_same;
-  }
+  element_alike =
+      record { len = ap suc size_same; anything = grind (arith, content.anything, rest.anything); masks = masked_same }
 
 -- ---- elements before it
 

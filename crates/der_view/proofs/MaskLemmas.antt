@@ -121,11 +121,8 @@ taken_fits step taken = grind (arith, taken.admitted, taken.free)
 module _ (loose : Bool) (most depth : ℕ) (step : Step) where
   pub opened_rows : (s : Structure) → opened_of loose most depth step ≡ Some s → IsRows step.header step.component.2
   unfolding opened_in shown_len shown_in admits is_shown
-  opened_rows s is = record {
-    shown = λ small y. grind arith;
-    alike = λ y z. grind arith;
-    free = λ e c y z. grind arith;
-  }
+  opened_rows s is =
+      record { shown = λ small y. grind arith; alike = λ y z. grind arith; free = λ e c y z. grind arith }
 
   -- a content that is no rows has a definite length
   pub closed_content : IsTaken step → opened_of loose most depth step ≡ None → is_open step ≡ false

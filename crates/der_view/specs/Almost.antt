@@ -1,11 +1,17 @@
 -- Texts that are almost PEM or base64.
 use Rattle.std.specs.Prelude.{ℕ, ◌+◌, ◌==◌, ◌||◌, Bool, true, false, if◌then◌else◌, List, [], ◌∷◌}
-use Rattle.std.specs.Prelude.{codes, count_by, Option, option_map}
+use Rattle.std.specs.Prelude.{codes, count_by, slice_index_or, Option, option_map}
+use denote.Enum.Declared.{tag_of}
 use Rattle.der_view.specs.Blocks.{after_front, before, begin_at, bytes_at, dashes, has, is_in}
 use Rattle.der_view.specs.Blocks.{is_this, labelled, onward}
+use Rattle.der_view.specs.contracts.text.almost.Flaw.{the_type}
 use Rattle.der_view.specs.declared.text.almost.Armour.{Armour}
 use Rattle.der_view.specs.declared.text.almost.Flaw.{Flaw}
 use Rattle.der_view.specs.declared.text.almost.Flaw.TheVariants as flaws
+use Rattle.der_view.specs.declared.text.almost.TheConstants.{FLAWS}
+
+abbrev pub flaw_words : Flaw → List ℕ
+flaw_words flaw = (slice_index_or FLAWS (tag_of the_type flaw) record { now = [] }).now
 
 -- what is wrong with a body that is almost base64, or else this
 unfoldable pub body_flaw : List ℕ → Flaw → Flaw

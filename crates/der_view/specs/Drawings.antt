@@ -1,21 +1,24 @@
 -- The picture of an input: those of its sources, one after the other.
-use Rattle.std.specs.Prelude.{ℕ, ◌↔◌, ◌||◌, Bool, false, IsTrue, List, [], ◌∷◌, ◌++◌, codes}
-use Rattle.std.specs.Prelude.{length, Option, Some, None, is_none, option_map, if◌then◌else◌}
+use Rattle.std.specs.Prelude.{◌≡◌, ℕ, ◌+◌, ◌↔◌, ◌||◌, Bool, true, false, IsTrue, List, [], ◌∷◌}
+use Rattle.std.specs.Prelude.{◌++◌, codes, length, take, Option, Some, None, is_none, option_map}
+use Rattle.std.specs.Prelude.{if◌then◌else◌}
 use Rattle.std.specs.Fmt.{decimal}
-use Rattle.std.specs.List.{fold}
+use Rattle.std.specs.List.{flat_map, fold}
 use Rattle.sec1.specs.KeyFaults.{key_fault}
 use Rattle.sec1.specs.Keys.{Key, IsKeyOf}
-use Rattle.der_view.specs.Almost.{ArmourView, armour_of}
+use Rattle.der_view.specs.Almost.{ArmourView, armour_of, flaw_words}
 use Rattle.der_view.specs.Known.{nothing_known, with_next}
-use Rattle.der_view.specs.Lines.{kept, shown}
+use Rattle.der_view.specs.Lines.{kept}
 use Rattle.der_view.specs.Marks.{bytes_text as count_text}
-use Rattle.der_view.specs.Parts.{Content, Itself, Bytes, Said, content_of}
+use Rattle.der_view.specs.Parts.{Content, Itself, Bytes, Said, content_of, decoded_len}
 use Rattle.der_view.specs.Pictures.{plan_of, rows_by}
-use Rattle.der_view.specs.Printing.{line_text, rows_text}
-use Rattle.der_view.specs.Said.{note_text, said_text}
+use Rattle.der_view.specs.Printing.{Told, as_shown, line_of, lines_text, told_line, told_of}
+use Rattle.der_view.specs.Said.{note_lines, said_lines}
 use Rattle.der_view.specs.Sentences.{file_words, reason_of}
 use Rattle.der_view.specs.Sources.{SourceView, Der, Pem, Text, sources_of}
 use Rattle.der_view.specs.declared.known.Known.{Known}
+use Rattle.der_view.specs.declared.output.PictureLine.{PictureLine}
+use Rattle.der_view.specs.declared.output.TheConstants.{HEADING}
 use Rattle.der_view.specs.declared.plan.Plan.{Plan}
 use Rattle.der_view.specs.declared.sentences.Reading.{Reading}
 use Rattle.der_view.specs.declared.sentences.Reading.TheVariants as readings
@@ -40,21 +43,12 @@ unfoldable pub known_of : Plan → List ℕ → Known
 known_of plan bytes = fold with_next (nothing_known plan) (rows_by plan false bytes)
 
 -- the picture of bytes: their rows, and what is said of them
-unfoldable pub bytes_text : Bool → Reading → List ℕ → List ℕ
-bytes_text all reading bytes =
-    rows_text (plan_of bytes) all (rows_by (plan_of bytes) all bytes)
-    ++ said_text (is_key_of bytes) reading (file_words bytes) (known_of (plan_of bytes) bytes)
+unfoldable pub bytes_lines : Bool → Reading → List ℕ → List Told
+bytes_lines all reading bytes =
+    as_shown (told_of (plan_of bytes) all (rows_by (plan_of bytes) all bytes))
+    ++ said_lines (is_key_of bytes) reading (file_words bytes) (known_of (plan_of bytes) bytes)
 
 -- ---- the line above
-
-abbrev pub flaw_words : Flaw → List ℕ
-flaw_words flaws.Nothing = []
-flaw_words flaws.Escaped = codes ", with " ++ 0x5C ∷ codes "n for line ends"
-flaw_words flaws.Url = codes ", in base64url"
-flaw_words flaws.NoBegin = codes ", with no line BEGIN"
-flaw_words flaws.OneLine = codes ", with no line ends"
-flaw_words flaws.Indented = codes ", indented or quoted"
-flaw_words flaws.Foreign = codes ", with other characters in it"
 
 -- what it says is in a source
 abbrev pub found_text : Found → List ℕ
@@ -87,22 +81,24 @@ heading_of (Text text) (founds.Decoded encoding flaw len) =
     text_heading text encoding (founds.Decoded encoding flaw len)
 heading_of source found = None
 
-abbrev pub heading_line : Option (List ℕ) → List ℕ
-heading_line None = []
-heading_line (Some heading) = line_text (shown (kept heading))
+-- the line of a heading, if there is one
+abbrev pub heading_by : PictureLine → Option (List ℕ) → List Told
+heading_by of None = []
+heading_by of (Some heading) = told_line of (kept heading)
+
+-- that of a source, of which what was decoded is after so many bytes
+abbrev pub heading_lines : ℕ → SourceView → Found → List Told
+heading_lines before source found =
+    heading_by (record (line_of HEADING) { offset = before; content_len = decoded_len found })
+    (heading_of source found)
 
 -- ---- a source
 
--- how OpenSSL reads the bytes in a source
-abbrev pub reading_of : SourceView → Reading
-reading_of (Der input) = readings.Der
-reading_of (Pem block is_read) = if is_read then readings.Pem else readings.Nothing
-reading_of _ = readings.Nothing
-
--- and of a text with a flaw
-abbrev pub reading_with : Reading → Flaw → Reading
-reading_with reading flaws.Nothing = reading
-reading_with reading _ = readings.Nothing
+-- how OpenSSL reads the bytes in a source, of whose text this is wrong
+abbrev pub reading_of : SourceView → Flaw → Reading
+reading_of (Der input) flaw = readings.Der
+reading_of (Pem block true) flaws.Nothing = readings.Pem
+reading_of _ _ = readings.Nothing
 
 -- what is found of a content
 abbrev pub found_of : Content → Found
@@ -111,17 +107,17 @@ found_of (Bytes encoding flaw bytes) = founds.Decoded encoding flaw (length byte
 found_of (Said note) = founds.Said note
 
 -- the picture of a content of a source
-abbrev pub content_text : Bool → SourceView → Content → List ℕ
-content_text all source (Bytes encoding flaw bytes) =
-    bytes_text all (reading_with (reading_of source) flaw) bytes
-content_text all source (Said note) = note_text note
-content_text all (Der input) Itself = bytes_text all readings.Der input
-content_text all source Itself = []
+abbrev pub drawn_lines : Bool → SourceView → Content → List Told
+drawn_lines all source (Bytes encoding flaw bytes) =
+    bytes_lines all (reading_of source flaw) bytes
+drawn_lines all source (Said note) = note_lines note
+drawn_lines all (Der input) Itself = bytes_lines all readings.Der input
+drawn_lines all source Itself = []
 
-abbrev pub source_text : Bool → SourceView → List ℕ
-source_text all source =
-    heading_line (heading_of source (found_of (content_of source)))
-    ++ content_text all source (content_of source)
+abbrev pub source_lines : Bool → ℕ → SourceView → List Told
+source_lines all before source =
+    heading_lines before source (found_of (content_of source))
+    ++ drawn_lines all source (content_of source)
 
 -- whether it is a key's
 abbrev pub content_key : SourceView → Content → Bool
@@ -134,17 +130,37 @@ source_key source = content_key source (content_of source)
 
 -- ---- an input
 
-abbrev pub sources_text : Bool → List SourceView → List ℕ
-sources_text all [] = []
-sources_text all (source ∷ sources) = source_text all source ++ sources_text all sources
+-- the bytes that are decoded of a source
+abbrev pub decoded_in : Content → List ℕ
+decoded_in (Bytes encoding flaw bytes) = bytes
+decoded_in content = []
+
+abbrev pub decoded_of : SourceView → List ℕ
+decoded_of source = decoded_in (content_of source)
+
+-- those of the sources of an input are in memory, one source's bytes after the other's
+abbrev pub IsDecoded : List ℕ → List ℕ → Type 0
+IsDecoded input memory =
+    let bytes = flat_map decoded_of (sources_of input) in take (length bytes) memory ≡ bytes
+
+-- the pictures of sources, where so many bytes were decoded before
+abbrev pub sources_lines : Bool → ℕ → List SourceView → List Told
+sources_lines all before [] = []
+sources_lines all before (source ∷ sources) =
+    source_lines all before source
+    ++ sources_lines all (before + length (decoded_of source)) sources
 
 abbrev pub some_key : List SourceView → Bool
 some_key [] = false
 some_key (source ∷ sources) = source_key source || some_key sources
 
 -- the picture of an input
-unfoldable pub picture_text : Bool → List ℕ → List ℕ
-picture_text all input = sources_text all (sources_of input)
+unfoldable pub picture_lines : Bool → List ℕ → List Told
+picture_lines all input = sources_lines all 0 (sources_of input)
+
+-- its text
+abbrev pub picture_text : Bool → List ℕ → List ℕ
+picture_text all input = lines_text (picture_lines all input)
 
 -- whether some part of it is a key
 unfoldable pub has_key : List ℕ → Bool

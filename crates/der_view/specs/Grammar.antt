@@ -1,6 +1,7 @@
 -- The tables of structures in the code, as definitions read them.
-use Rattle.std.specs.Prelude.{ℕ, List, [], slice_index_or}
+use Rattle.std.specs.Prelude.{ℕ, List, [], ◌∷◌, slice_index_or}
 use denote.Enum.Declared.{tag_of}
+use Rattle.der_view.specs.contracts.grammar.Structure.{the_type}
 use Rattle.der_view.specs.contracts.grammar.family.Family.{the_type as families}
 use Rattle.der_view.specs.declared.grammar.Content.{Content}
 use Rattle.der_view.specs.declared.grammar.family.Family.{Family}
@@ -10,7 +11,6 @@ use Rattle.der_view.specs.declared.grammar.name.Name.{Name}
 use Rattle.der_view.specs.declared.grammar.name.Name.TheVariants as names
 use Rattle.der_view.specs.declared.grammar.Presence.{Presence}
 use Rattle.der_view.specs.declared.grammar.Structure.{Structure}
-use Rattle.der_view.specs.declared.grammar.Structure.TheVariants as of
 use Rattle.der_view.specs.declared.grammar.TheConstants.Structure as rows
 use Rattle.der_view.specs.declared.grammar.name.TheConstants as choices
 
@@ -26,93 +26,32 @@ Form = Component × Secrecy
 unfoldable pub identifiers : Family → List ℕ
 identifiers family = (slice_index_or IDENTIFIERS (tag_of families family) record { now = [] }).now
 
--- the components of a structure
+-- the components of each structure, in the order of `Structure`
 unfoldable pub components : Structure → List Component
-components of.EcPrivateKey = rows.EC_PRIVATE_KEY
-components of.CurveName = rows.CURVE_NAME
-components of.PublicPoint = rows.PUBLIC_POINT
-components of.EcKeyInfo = rows.EC_KEY_INFO
-components of.RsaKeyInfo = rows.RSA_KEY_INFO
-components of.DsaKeyInfo = rows.DSA_KEY_INFO
-components of.DhKeyInfo = rows.DH_KEY_INFO
-components of.X942KeyInfo = rows.X942_KEY_INFO
-components of.OctetKeyInfo = rows.OCTET_KEY_INFO
-components of.KeyInfo = rows.KEY_INFO
-components of.EcKey = rows.EC_KEY
-components of.RsaKey = rows.RSA_KEY
-components of.NumberKey = rows.NUMBER_KEY
-components of.OctetKey = rows.OCTET_KEY
-components of.RsaPrivateKey = rows.RSA_PRIVATE_KEY
-components of.DsaPrivateKey = rows.DSA_PRIVATE_KEY
-components of.KeyPackage = rows.KEY_PACKAGE
-components of.Algorithm = rows.ALGORITHM
-components of.EcAlgorithm = rows.EC_ALGORITHM
-components of.RsaAlgorithm = rows.RSA_ALGORITHM
-components of.DsaAlgorithm = rows.DSA_ALGORITHM
-components of.DhAlgorithm = rows.DH_ALGORITHM
-components of.X942Algorithm = rows.X942_ALGORITHM
-components of.EdwardsAlgorithm = rows.EDWARDS_ALGORITHM
-components of.PublicKeyInfo = rows.PUBLIC_KEY_INFO
-components of.EcPublicKeyInfo = rows.EC_PUBLIC_KEY_INFO
-components of.RsaPublicKeyInfo = rows.RSA_PUBLIC_KEY_INFO
-components of.RsaBits = rows.RSA_BITS
-components of.Signature = rows.SIGNATURE
-components of.RsaPublicKey = rows.RSA_PUBLIC_KEY
-components of.DhParameter = rows.DH_PARAMETER
-components of.DomainParameters = rows.DOMAIN_PARAMETERS
-components of.DsaParameters = rows.DSA_PARAMETERS
-components of.EcParameters = rows.EC_PARAMETERS
-components of.FieldId = rows.FIELD_ID
-components of.Curve = rows.CURVE
-components of.Certificate = rows.CERTIFICATE
-components of.TbsCertificate = rows.TBS_CERTIFICATE
-components of.VersionField = rows.VERSION_FIELD
-components of.DistinguishedName = rows.DISTINGUISHED_NAME
-components of.RelativeName = rows.RELATIVE_NAME
-components of.NameAttribute = rows.NAME_ATTRIBUTE
-components of.Validity = rows.VALIDITY
-components of.ExtensionsField = rows.EXTENSIONS_FIELD
-components of.Extensions = rows.EXTENSIONS
-components of.Extension = rows.EXTENSION
-components of.SubjectKeyExtension = rows.SUBJECT_KEY_EXTENSION
-components of.SubjectKeyIdentifier = rows.SUBJECT_KEY_IDENTIFIER
-components of.AuthorityKeyExtension = rows.AUTHORITY_KEY_EXTENSION
-components of.AuthorityKeyValue = rows.AUTHORITY_KEY_VALUE
-components of.AuthorityKeyIdentifier = rows.AUTHORITY_KEY_IDENTIFIER
-components of.CertificationRequest = rows.CERTIFICATION_REQUEST
-components of.CertificationRequestInfo = rows.CERTIFICATION_REQUEST_INFO
-components of.CertificateList = rows.CERTIFICATE_LIST
-components of.TbsCertList = rows.TBS_CERT_LIST
-components of.RevokedCertificates = rows.REVOKED_CERTIFICATES
-components of.RevokedCertificate = rows.REVOKED_CERTIFICATE
-components of.Pfx = rows.PFX
-components of.MacData = rows.MAC_DATA
-components of.SafeContents = rows.SAFE_CONTENTS
-components of.SafeBag = rows.SAFE_BAG
-components of.ContentInfo = rows.CONTENT_INFO
-components of.PbesKeyInfo = rows.PBES_KEY_INFO
-components of.PbeKeyInfo = rows.PBE_KEY_INFO
-components of.PbesAlgorithm = rows.PBES_ALGORITHM
-components of.PbeAlgorithm = rows.PBE_ALGORITHM
-components of.DigestInfo = rows.DIGEST_INFO
-components of.ShaInfo = rows.SHA_INFO
-components of.Sha1Info = rows.SHA1_INFO
-components of.MdInfo = rows.MD_INFO
-components of.ShaAlgorithm = rows.SHA_ALGORITHM
-components of.Sha1Algorithm = rows.SHA1_ALGORITHM
-components of.MdAlgorithm = rows.MD_ALGORITHM
-components of.OcspRequest = rows.OCSP_REQUEST
-components of.TbsRequest = rows.TBS_REQUEST
-components of.RequestList = rows.REQUEST_LIST
-components of.Request = rows.REQUEST
-components of.CertId = rows.CERT_ID
-components of.OcspResponse = rows.OCSP_RESPONSE
-components of.ResponseBytesField = rows.RESPONSE_BYTES_FIELD
-components of.ResponseBytes = rows.RESPONSE_BYTES
-components of.TimeStampReq = rows.TIME_STAMP_REQ
-components of.TimeStampResp = rows.TIME_STAMP_RESP
-components of.PkiStatusInfo = rows.PKI_STATUS_INFO
-components of.Any = rows.ANY
+components structure =
+    slice_index_or
+    (rows.EC_PRIVATE_KEY ∷ rows.CURVE_NAME ∷ rows.PUBLIC_POINT ∷ rows.EC_KEY_INFO ∷
+    rows.RSA_KEY_INFO ∷ rows.DSA_KEY_INFO ∷ rows.DH_KEY_INFO ∷ rows.X942_KEY_INFO ∷
+    rows.OCTET_KEY_INFO ∷ rows.KEY_INFO ∷ rows.EC_KEY ∷ rows.RSA_KEY ∷ rows.NUMBER_KEY ∷
+    rows.OCTET_KEY ∷ rows.RSA_PRIVATE_KEY ∷ rows.DSA_PRIVATE_KEY ∷ rows.KEY_PACKAGE ∷
+    rows.ALGORITHM ∷ rows.EC_ALGORITHM ∷ rows.RSA_ALGORITHM ∷ rows.DSA_ALGORITHM ∷
+    rows.DH_ALGORITHM ∷ rows.X942_ALGORITHM ∷ rows.EDWARDS_ALGORITHM ∷ rows.PUBLIC_KEY_INFO ∷
+    rows.EC_PUBLIC_KEY_INFO ∷ rows.RSA_PUBLIC_KEY_INFO ∷ rows.RSA_BITS ∷ rows.SIGNATURE ∷
+    rows.RSA_PUBLIC_KEY ∷ rows.DH_PARAMETER ∷ rows.DOMAIN_PARAMETERS ∷ rows.DSA_PARAMETERS ∷
+    rows.EC_PARAMETERS ∷ rows.FIELD_ID ∷ rows.CURVE ∷ rows.CERTIFICATE ∷ rows.TBS_CERTIFICATE ∷
+    rows.VERSION_FIELD ∷ rows.DISTINGUISHED_NAME ∷ rows.RELATIVE_NAME ∷ rows.NAME_ATTRIBUTE ∷
+    rows.VALIDITY ∷ rows.EXTENSIONS_FIELD ∷ rows.EXTENSIONS ∷ rows.EXTENSION ∷
+    rows.SUBJECT_KEY_EXTENSION ∷ rows.SUBJECT_KEY_IDENTIFIER ∷ rows.AUTHORITY_KEY_EXTENSION ∷
+    rows.AUTHORITY_KEY_VALUE ∷ rows.AUTHORITY_KEY_IDENTIFIER ∷ rows.CERTIFICATION_REQUEST ∷
+    rows.CERTIFICATION_REQUEST_INFO ∷ rows.CERTIFICATE_LIST ∷ rows.TBS_CERT_LIST ∷
+    rows.REVOKED_CERTIFICATES ∷ rows.REVOKED_CERTIFICATE ∷ rows.PFX ∷ rows.MAC_DATA ∷
+    rows.SAFE_CONTENTS ∷ rows.SAFE_BAG ∷ rows.CONTENT_INFO ∷ rows.PBES_KEY_INFO ∷
+    rows.PBE_KEY_INFO ∷ rows.PBES_ALGORITHM ∷ rows.PBE_ALGORITHM ∷ rows.DIGEST_INFO ∷
+    rows.SHA_INFO ∷ rows.SHA1_INFO ∷ rows.MD_INFO ∷ rows.SHA_ALGORITHM ∷ rows.SHA1_ALGORITHM ∷
+    rows.MD_ALGORITHM ∷ rows.OCSP_REQUEST ∷ rows.TBS_REQUEST ∷ rows.REQUEST_LIST ∷ rows.REQUEST ∷
+    rows.CERT_ID ∷ rows.OCSP_RESPONSE ∷ rows.RESPONSE_BYTES_FIELD ∷ rows.RESPONSE_BYTES ∷
+    rows.TIME_STAMP_REQ ∷ rows.TIME_STAMP_RESP ∷ rows.PKI_STATUS_INFO ∷ rows.ANY ∷ [])
+    (tag_of the_type structure) []
 
 -- identifiers, and the structure whose components come after one of them
 abbrev pub Case : Type 0

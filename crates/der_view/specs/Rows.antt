@@ -66,11 +66,8 @@ pub record How : Type 0 where
   pub given : List ℕ
 
 abbrev pub rules_of : Rules → How
-rules_of rules = record {
-  loose = rules.is_loose;
-  small = rules.shows_small;
-  given = rules.given.now;
-}
+rules_of rules =
+    record { loose = rules.is_loose; small = rules.shows_small; given = rules.given.now }
 
 -- ---- what comes next
 

@@ -2,7 +2,6 @@
 use Rattle.std.specs.Prelude.{ℕ, ◌-◌, ◌*◌, ◌==◌, ◌&&◌, ◌||◌, not, nat_lt, Bool, true, false}
 use Rattle.std.specs.Prelude.{if◌then◌else◌, List, [], ◌∷◌, ◌++◌, length, codes, find, flat_map}
 use Rattle.std.specs.Prelude.{Option, Some, None, is_none, is_some, unwrap_or, slice_index}
-use Rattle.std.specs.Prelude.{slice_index_or}
 use Rattle.std.specs.Fmt.{decimal}
 use Rattle.std.specs.Str.{bytes_eq}
 use Rattle.curves.specs.Curves.{curve_content, field_len}
@@ -11,10 +10,10 @@ use Rattle.curves.specs.declared.curve.Curve.TheVariants as curves
 use Rattle.curves.specs.declared.curve.TheConstants.Curve.{ALL}
 use Rattle.sec1_der.specs.Identifiers.{dotted}
 use Rattle.der_view.specs.Known.{form_name}
-use Rattle.der_view.specs.Lines.{kept, shown}
+use Rattle.der_view.specs.Lines.{kept}
 use Rattle.der_view.specs.Marks.{bytes_text}
 use Rattle.der_view.specs.Names.{name_by}
-use Rattle.der_view.specs.Printing.{line_text}
+use Rattle.der_view.specs.Printing.{Told, line_of, told_line}
 use Rattle.der_view.specs.Sentences.{advice_command, advice_words, command_of, form_words, words_of}
 use Rattle.der_view.specs.Sources.{begins, is_raw_len}
 use Rattle.der_view.specs.Arcs.{arcs_by}
@@ -25,7 +24,7 @@ use Rattle.der_view.specs.declared.known.Known.{Known}
 use Rattle.der_view.specs.declared.plan.Plan.{Plan}
 use Rattle.der_view.specs.declared.sentences.Reading.{Reading}
 use Rattle.der_view.specs.declared.sentences.Reading.TheVariants as readings
-use Rattle.der_view.specs.declared.said.SaidLines.{SaidLines}
+use Rattle.der_view.specs.declared.output.TheConstants.{COMMAND, WORDS}
 use Rattle.der_view.specs.declared.said.TheConstants.{EC_PUBLIC_KEY, SHA1}
 use Rattle.der_view.specs.declared.sentences.Advice.{Advice}
 use Rattle.der_view.specs.declared.sentences.Advice.TheVariants as advices
@@ -225,29 +224,27 @@ said_of is_key reading file known =
     ∷ advice_words (advice_of is_key known) reading
     ∷ advice_command (advice_of is_key known) reading ∷ []
 
+-- the kind of the line of a sentence: a command is indented
+abbrev pub kind_of : List ℕ → ℕ
+kind_of sentence = if begins sentence (codes "  ") then COMMAND else WORDS
+
 -- the line of a sentence, if it isn't empty
-abbrev pub said_line : Known → List ℕ → List ℕ
+abbrev pub said_line : Known → List ℕ → List Told
 said_line known sentence =
     if length sentence == 0 then []
-    else line_text (shown (kept (sentence_text known false sentence)))
+    else told_line (line_of (kind_of sentence)) (kept (sentence_text known false sentence))
 
 -- their lines
-unfoldable pub said_text : Bool → Reading → List ℕ → Known → List ℕ
-said_text is_key reading file known =
+unfoldable pub said_lines : Bool → Reading → List ℕ → Known → List Told
+said_lines is_key reading file known =
     flat_map (said_line known) (said_of is_key reading file known)
 
--- which lines are there below the first one
-unfoldable pub said_lines : Bool → Reading → Known → SaidLines
-said_lines is_key reading known =
-    let is_said = λ (place : ℕ).
-    not (length (slice_index_or (said_of is_key reading [] known) place []) == 0) in
-    record { key = is_said 1; point = is_said 2; words = is_said 3; command = is_said 4 }
-
--- a line, or none
-abbrev pub line_if : List ℕ → List ℕ → List ℕ
-line_if front text =
-    if length text == 0 then [] else line_text (shown (kept (front ++ text)))
+-- a line of this kind, or none
+abbrev pub line_if : ℕ → List ℕ → List ℕ → List Told
+line_if kind front text =
+    if length text == 0 then [] else told_line (line_of kind) (kept (front ++ text))
 
 -- what is said of a source with no bytes
-abbrev pub note_text : Sentence → List ℕ
-note_text note = line_if [] (words_of note) ++ line_if (codes "  ") (command_of note)
+abbrev pub note_lines : Sentence → List Told
+note_lines note =
+    line_if WORDS [] (words_of note) ++ line_if COMMAND (codes "  ") (command_of note)

@@ -1,22 +1,21 @@
 //! The picture of an input: what is printed of it.
 ghost use Rattle.std.specs.Prelude.{◌≡◌, ◌++◌, flat_map, map, OnOk, option_map};
-ghost use Rattle.der_view.specs.Drawings.{IsKey, end_text, flaw_words, found_text};
+ghost use Rattle.der_view.specs.Drawings.{IsKey, end_text, found_text};
 ghost use Rattle.der_view.specs.Drawings.{heading_of, is_key_of, known_of, pem_heading};
-ghost use Rattle.der_view.specs.Drawings.{reading_of, reading_with};
+ghost use Rattle.der_view.specs.Drawings.{reading_of};
 ghost use Rattle.der_view.specs.Drawings.{text_heading};
 ghost use Rattle.der_view.specs.Lines.{kept};
-ghost use Rattle.der_view.specs.Pictures.{plan_of};
-ghost use Rattle.der_view.specs.Said.{line_if, said_line, said_lines, said_text};
+ghost use Rattle.der_view.specs.Said.{line_if, said_line, said_lines};
 ghost use Rattle.der_view.specs.Sources.{source_view};
 
 use crate::faults::key_fault;
 use crate::form::draw_rows;
 use crate::known::Known;
 use crate::line::Line;
-use crate::output::Output;
-use crate::plan::{Plan, plan_of};
+use crate::output::{COMMAND, Output, WORDS};
+use crate::plan::Plan;
 use crate::printer::write_line;
-use crate::said::{SaidLines, said_of};
+use crate::said::said_of;
 use crate::sentences::Reading;
 use crate::text::{Encoding, Flaw, Found, Source, armour_of};
 use sec1::BorrowedKey;
@@ -57,7 +56,7 @@ pub(crate) fn known_of(plan: Plan, bytes: &[u8]) -> Known
 }
 
 /// Writes what is said of bytes, which are a key's or not.
-#[tactic(auto, unfolding(crate::specs::Said::said_text))]
+#[tactic(auto, unfolding(crate::specs::Said::said_lines))]
 pub(crate) fn write_said<W: Output>(
     writer: &mut W,
     is_key: bool,
@@ -66,7 +65,7 @@ pub(crate) fn write_said<W: Output>(
     known: &Known,
 ) -> Result<(), W::Error>
     ensures { OnOk result (W.appends writer.old writer.new
-        (said_text is_key reading file.now known.now)) }
+        (said_lines is_key reading file.now known.now)) }
 {
     write_sentences(writer, &said_of(is_key, reading, file, known), known)
 }
@@ -96,31 +95,20 @@ fn write_sentence<W: Output>(writer: &mut W, sentence: &str, known: &Known) -> R
     }
     let mut line = Line::new();
     line.push_sentence(false, sentence.as_bytes(), known);
-    write_line(writer, &line)
+    let is_command = sentence.as_bytes().starts_with(b"  ");
+    let kind = if is_command { COMMAND } else { WORDS };
+    write_line(writer, kind, &line)
 }
 
-/// Returns which lines [`draw`] writes last of bytes from a text with this flaw, below the first
-/// line on them.
-#[tactic(auto, unfolding(crate::specs::Said::said_lines))]
-pub fn said_lines(bytes: &[u8], reading: Reading, flaw: Flaw) -> SaidLines
-    ensures { result ≡ said_lines (is_key_of bytes.now) (reading_with reading flaw)
-        (known_of (plan_of bytes.now) bytes.now) }
-{
-    let known = known_of(plan_of(bytes), bytes);
-    let is_key = is_read_as_key(bytes);
-    let said = said_of(is_key, reading_with(reading, flaw), "", &known);
-    SaidLines {
-        key: !said[1].is_empty(),
-        point: !said[2].is_empty(),
-        words: !said[3].is_empty(),
-        command: !said[4].is_empty(),
-    }
-}
-
-/// Writes a line with this text, if it isn't empty.
+/// Writes a line of this kind with this text, if it isn't empty.
 #[tactic(auto, using(crate::proofs::LineLemmas::kept_pieces))]
-pub(crate) fn write_text<W: Output>(writer: &mut W, front: &str, text: &str) -> Result<(), W::Error>
-    ensures { OnOk result (W.appends writer.old writer.new (line_if front.now text.now)) }
+pub(crate) fn write_text<W: Output>(
+    writer: &mut W,
+    kind: usize,
+    front: &str,
+    text: &str,
+) -> Result<(), W::Error>
+    ensures { OnOk result (W.appends writer.old writer.new (line_if kind front.now text.now)) }
 {
     if text.is_empty() {
         return Ok(());
@@ -128,27 +116,17 @@ pub(crate) fn write_text<W: Output>(writer: &mut W, front: &str, text: &str) -> 
     let mut line = Line::new();
     line.push_str(front);
     line.push_str(text);
-    write_line(writer, &line)
-}
-
-/// Returns how OpenSSL reads bytes of a text with this flaw, which it would read so without.
-pub(crate) fn reading_with(reading: Reading, flaw: Flaw) -> Reading
-    ensures { result ≡ reading_with reading flaw }
-{
-    match flaw {
-        Flaw::Nothing => reading,
-        _ => Reading::Nothing,
-    }
+    write_line(writer, kind, &line)
 }
 
 impl<'a> Source<'a> {
-    /// Returns how OpenSSL reads the bytes in the source.
-    pub fn reading(&self) -> Reading
-        ensures { result ≡ reading_of (source_view self.now) }
+    /// Returns how OpenSSL reads the bytes in the source, of whose text this is wrong.
+    pub fn reading(&self, flaw: Flaw) -> Reading
+        ensures { result ≡ reading_of (source_view self.now) flaw }
     {
-        match self {
-            Source::Der(_) => Reading::Der,
-            Source::Pem { is_read: true, .. } => Reading::Pem,
+        match (self, flaw) {
+            (Source::Der(_), _) => Reading::Der,
+            (Source::Pem { is_read: true, .. }, Flaw::Nothing) => Reading::Pem,
             _ => Reading::Nothing,
         }
     }
@@ -192,28 +170,22 @@ fn end_text(has_end: bool) -> &'static str
 }
 
 /// Returns the line above the picture of a text with no block, of which bytes were decoded.
+#[tactic(auto, using(crate::proofs::LineLemmas::kept_pieces))]
 fn text_line(text: &[u8], encoding: Encoding, found: &Found) -> Option<Line>
     ensures { result ≡ option_map kept (text_heading text.now encoding found.now) }
 {
-    match encoding {
+    let front = match encoding {
         Encoding::Pem => {
             let armour = armour_of(text)?;
-            Some(pem_line(armour.line, armour.label, found, armour.has_end))
+            return Some(pem_line(armour.line, armour.label, found, armour.has_end));
         }
-        Encoding::Hexadecimal => Some(plain_line("hexadecimal: ", found)),
-        Encoding::Base64 => Some(plain_line("base64: ", found)),
-    }
-}
-
-/// Returns the line above the picture of a text in the encoding with this name.
-#[tactic(auto, using(crate::proofs::LineLemmas::kept_pieces))]
-fn plain_line(encoding: &str, found: &Found) -> Line
-    ensures { result ≡ kept (encoding.now ++ found_text found.now) }
-{
+        Encoding::Hexadecimal => "hexadecimal: ",
+        Encoding::Base64 => "base64: ",
+    };
     let mut line = Line::new();
-    line.push_str(encoding);
+    line.push_str(front);
     line.push_found(found);
-    line
+    Some(line)
 }
 
 impl Line {
@@ -225,25 +197,10 @@ impl Line {
         match found {
             Found::Decoded(_, flaw, len) => {
                 self.push_bytes_of(*len);
-                self.push_str(flaw_words(*flaw));
+                self.push_str(flaw.words());
             }
             Found::Said(note) => self.push_str(note.reason()),
             Found::Itself => self.push_str(""),
         }
-    }
-}
-
-/// Returns what is said of a text that is almost PEM or base64.
-fn flaw_words(flaw: Flaw) -> &'static str
-    ensures { result.now ≡ flaw_words flaw }
-{
-    match flaw {
-        Flaw::Nothing => "",
-        Flaw::Escaped => ", with \\n for line ends",
-        Flaw::Url => ", in base64url",
-        Flaw::NoBegin => ", with no line BEGIN",
-        Flaw::OneLine => ", with no line ends",
-        Flaw::Indented => ", indented or quoted",
-        Flaw::Foreign => ", with other characters in it",
     }
 }

@@ -4,7 +4,7 @@ ghost use Rattle.std.specs.Prelude.{◌≡◌, ◌<◌, ◌≤◌, ◌∷◌, �
 ghost use Rattle.std.specs.Prelude.{IsSomeAnd, length};
 ghost use Rattle.sec1.specs.Keys.{IsKeyOf, Key};
 ghost use Rattle.sec1_der.specs.Elements.{header};
-ghost use Rattle.der_view.specs.Drawings.{has_key, is_key_of, picture_text};
+ghost use Rattle.der_view.specs.Drawings.{has_key, is_key_of, picture_lines};
 ghost use Rattle.der_view.specs.Grammar.{Component};
 ghost use Rattle.der_view.specs.Headers.{max_content_len};
 ghost use Rattle.der_view.specs.Keys.{AreLevels, AreParts, AreUnseen, IsCutIn, container};
@@ -112,7 +112,8 @@ pub fn rows_are_bytes()
 pub fn keys_are_drawn_alike(a: &[u8], b: &[u8])
     ensures { (k l : Key) → IsKeyOf k a.now → IsKeyOf l b.now → k.parameters ≡ l.parameters
         → k.public_key ≡ l.public_key → length k.private_key ≡ length l.private_key
-        → length a.now ≤ max_content_len → picture_text false a.now ≡ picture_text false b.now }
+        → length a.now ≤ max_content_len
+        → picture_lines false a.now ≡ picture_lines false b.now }
 {
     keys_are_alike();
     keys_are_known();

@@ -35,7 +35,7 @@ mod walk;
 mod words;
 
 pub use characters::Characters;
-pub use drawing::{is_key, said_lines};
+pub use drawing::is_key;
 pub use facts::{Kind, Point, RowFacts, Shown};
 pub use form::draw_rows;
 pub use grammar::{Component, Content, Family, Form, Name, Presence, Secrecy, Structure};
@@ -43,10 +43,9 @@ pub use header::{Class, ElementFault, Header, Tag};
 pub use line::Line;
 pub use marks::{Fault, Mark};
 pub use names::name_of;
-pub use output::Output;
+pub use output::{COMMAND, CONTENT, HEADING, MARK, Output, PictureLine, ROW, WORDS};
 pub use plan::{Plan, Way, plan_of};
-pub use printer::{Options, Printer, lines_are_short, write_line, write_rows};
-pub use said::SaidLines;
+pub use printer::{Options, lines_are_short, write_line, write_rows};
 pub use sentences::{Advice, Reading, Sentence};
 pub use showing::{draw, show};
 pub use text::{

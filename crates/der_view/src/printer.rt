@@ -1,5 +1,5 @@
 //! Rows as text.
-ghost use Rattle.std.specs.Prelude.{◌≡◌, ◌+◌, ◌++◌, ◌/◌, List, OnOk, None, codes, false};
+ghost use Rattle.std.specs.Prelude.{◌≡◌, ◌+◌, ◌++◌, ◌∷◌, ◌/◌, [], List, OnOk, None, codes, false};
 ghost use Rattle.std.specs.Prelude.{length, true};
 ghost use Rattle.std.specs.List.{All};
 ghost use Rattle.std.proofs.Common.{refl, ◌∙◌};
@@ -7,13 +7,12 @@ ghost use Rattle.der_view.specs.Facts.{row_view};
 ghost use Rattle.der_view.specs.Lines.{IsLine, kept, shown};
 ghost use Rattle.der_view.specs.Marks.{mark_words};
 ghost use Rattle.der_view.specs.Pictures.{rows_by};
-ghost use Rattle.der_view.specs.Printing.{HasWritten, content_lines, line_text};
-ghost use Rattle.der_view.specs.Printing.{lines_text, mark_lines, rows_lines, rows_text};
-ghost use Rattle.der_view.specs.Printing.{told_lines};
+ghost use Rattle.der_view.specs.Printing.{HasWritten, are_plain, as_shown, content_lines};
+ghost use Rattle.der_view.specs.Printing.{line_of, line_of_row, mark_lines, rows_lines};
+ghost use Rattle.der_view.specs.Printing.{told_line, told_lines, told_of};
 ghost use Rattle.der_view.specs.PrintingLaws.{IsPlain, has_written_both};
 ghost use Rattle.der_view.specs.RowLines.{hex_words, spaces};
 ghost use Rattle.der_view.specs.Rows.{Row};
-ghost use Rattle.der_view.specs.Shows.{are_plain};
 
 use crate::facts::RowFacts;
 use crate::form::draw_rows;
@@ -22,7 +21,7 @@ use crate::json::write_object;
 use crate::line::Line;
 use crate::marks::Mark;
 use crate::names::split;
-use crate::output::Output;
+use crate::output::{CONTENT, MARK, Output, PictureLine, ROW};
 use crate::plan::Plan;
 use crate::row_line::row_line;
 use crate::walk::{Element, Place, Rows};
@@ -50,10 +49,8 @@ pub struct Options<'a> {
 
 impl<'a> Options<'a> {
     /// Returns those of all of an input in rows, with all contents or without.
-    pub(crate) fn plain(all: bool) -> Options<'a>
+    pub fn plain(all: bool) -> Options<'a>
         ensures plain { are_plain result ≡ true }
-        ensures json { result.json ≡ false }
-        ensures levels { result.levels ≡ 0 }
         ensures all { result.all ≡ all }
     {
         Options {
@@ -66,7 +63,7 @@ impl<'a> Options<'a> {
     }
 }
 
-/// Writes the rows of bytes by a plan, with all contents or without.
+/// Writes the rows of bytes by a plan, as the options ask.
 ///
 /// # Errors
 ///
@@ -75,28 +72,22 @@ pub fn write_rows<W: Output>(
     writer: &mut W,
     plan: Plan,
     bytes: &[u8],
-    all: bool,
-) -> Result<(), W::Error>
-    ensures { OnOk result (W.appends writer.old writer.new
-        (rows_text plan all (rows_by plan all bytes.now))) }
-{
-    write_rows_as(writer, plan, bytes, &Options::plain(all))
-}
-
-/// Writes the rows of bytes by a plan, as the options ask.
-pub(crate) fn write_rows_as<W: Output>(
-    writer: &mut W,
-    plan: Plan,
-    bytes: &[u8],
     options: &Options,
 ) -> Result<(), W::Error>
-    ensures { options.now.json ≡ false → options.now.levels ≡ 0 → OnOk result
-        (W.appends writer.old writer.new
-        (rows_text plan options.now.all (rows_by plan options.now.all bytes.now))) }
+    ensures { are_plain options.now ≡ true → OnOk result (W.appends writer.old writer.new
+        (as_shown (told_of plan options.now.all (rows_by plan options.now.all bytes.now)))) }
 {
-    let mut printer = Printer::new(writer, plan, options.all);
-    printer.style.json = options.json;
-    printer.style.levels = options.levels;
+    let style = Style {
+        plan,
+        all: options.all,
+        json: options.json,
+        levels: options.levels,
+    };
+    let mut printer = Printer {
+        writer,
+        style,
+        error: None,
+    };
     draw_rows(&mut printer, plan, bytes, options.all);
     printer.finish()
 }
@@ -108,17 +99,34 @@ pub fn lines_are_short(plan: Plan, all: bool)
     let _ = (plan, all);
 }
 
-/// Writes a line, as it is shown, and its end.
+/// Writes a line of this kind that has no numbers, as it is shown, and its end.
 ///
 /// # Errors
 ///
 /// An error of the writer.
-pub fn write_line<W: Output>(writer: &mut W, line: &Line) -> Result<(), W::Error>
-    ensures { OnOk result (W.appends writer.old writer.new (line_text (shown line.now))) }
+#[tactic(auto, unfolding(crate::specs::Printing::told_line))]
+pub fn write_line<W: Output>(writer: &mut W, kind: usize, line: &Line) -> Result<(), W::Error>
+    ensures { OnOk result
+        (W.appends writer.old writer.new (told_line (line_of kind) line.now)) }
 {
-    let line = line.finish();
-    writer.push(line.as_bytes())?;
-    writer.push(b"\n")
+    writer.line(PictureLine::of(kind), line.finish().as_bytes())
+}
+
+/// Writes the line of a row.
+#[tactic(auto, unfolding(crate::specs::Printing::told_line))]
+fn write_row_line<W: Output>(writer: &mut W, row: &RowFacts, line: &Line) -> Result<(), W::Error>
+    ensures { OnOk result (W.appends writer.old writer.new
+        (told_line (line_of_row (row_view row.now)) line.now)) }
+{
+    let of = PictureLine {
+        offset: row.place.offset,
+        header_len: row.head.len(),
+        content_len: row.own_len,
+        depth: row.place.depth,
+        hidden: usize::from(row.place.hides(row.own_len, row.value)),
+        ..PictureLine::of(ROW)
+    };
+    writer.line(of, line.finish().as_bytes())
 }
 
 /// How rows are written.
@@ -137,39 +145,15 @@ struct Style {
 /// Writes the lines of rows. It keeps the first error of the writer, and writes nothing after it.
 /// Of JSON and of some levels no clause says what is written.
 #[derive(Drop)]
-pub struct Printer<'a, W: Output> {
+struct Printer<'a, W: Output> {
     writer: &'a mut W,
     style: Style,
     error: Option<W::Error>,
 }
 
 impl<'a, W: Output> Printer<'a, W> {
-    /// Creates a printer of the rows of bytes by this plan, with all contents or without.
-    pub fn new(writer: &'a mut W, plan: Plan, all: bool) -> Printer<'a, W>
-        ensures writer { result.writer.ghost_name ≡ writer.entry.ghost_name }
-        ensures now { result.writer.now ≡ writer.old }
-        ensures style { result.style
-            ≡ record { plan = plan; all = all; json = false; levels = 0 } }
-        ensures error { result.error ≡ None }
-    {
-        Printer {
-            writer,
-            style: Style {
-                plan,
-                all,
-                json: false,
-                levels: 0,
-            },
-            error: None,
-        }
-    }
-
     /// Returns whether all was written.
-    ///
-    /// # Errors
-    ///
-    /// The first error of the writer.
-    pub fn finish(self) -> Result<(), W::Error>
+    fn finish(self) -> Result<(), W::Error>
         ensures error { OnOk result (self.entry.error ≡ None) }
         ensures kept { self.exit.0.now ≡ self.entry.writer.now }
     {
@@ -186,7 +170,7 @@ impl<'a, W: Output> Printer<'a, W> {
         ensures style { self.new.style ≡ self.old.style }
         ensures text { IsPlain self.old.style → HasWritten W.appends self.old.error
             self.old.writer.now self.new.error self.new.writer.now
-            (lines_text (told_lines (row_view row.now))) }
+            (as_shown (told_lines (row_view row.now))) }
     {
         let levels = self.style.levels;
         if self.error.is_some() || levels > 0 && row.place.depth >= levels {
@@ -207,7 +191,7 @@ impl<W: Output> Rows for Printer<'_, W> {
     ghost tells = { λ a b rows. (b.writer.ghost_name ≡ a.writer.ghost_name)
         × (b.style ≡ a.style)
         × (IsPlain a.style → HasWritten W.appends a.error a.writer.now b.error b.writer.now
-        (rows_text a.style.plan a.style.all rows)) };
+        (as_shown (told_of a.style.plan a.style.all rows))) };
 
     #[tactic(auto, using(crate::proofs::LineLemmas::kept_pieces))]
     fn element(&mut self, place: Place, element: &Element) {
@@ -229,8 +213,7 @@ impl<W: Output> Rows for Printer<'_, W> {
     ghost joined = { λ a b c first second one two. (
       two.0 ∙ one.0,
       two.1 ∙ one.1,
-      λ plain. has_written_both W.appends W.joined a.style b.style first second a.error b.error
-          c.error a.writer.now b.writer.now c.writer.now one.1 plain (one.2 plain) two.2,
+      λ plain. has_written_both W.appends W.joined first second one.1 plain (one.2 plain) two.2,
     ) };
 }
 
@@ -239,13 +222,13 @@ impl<W: Output> Rows for Printer<'_, W> {
 #[tactic(auto, unfolding(crate::specs::Printing::told_lines))]
 fn write_row<W: Output>(writer: &mut W, row: &RowFacts) -> Result<(), W::Error>
     ensures { OnOk result
-        (W.appends writer.old writer.new (lines_text (told_lines (row_view row.now)))) }
+        (W.appends writer.old writer.new (as_shown (told_lines (row_view row.now)))) }
 {
     if !row.is_told() {
         return Ok(());
     }
     let line = row_line(row);
-    write_line(writer, &line)?;
+    write_row_line(writer, row, &line)?;
     if !row.is_said(line.len()) {
         write_content(writer, row.content)?;
     }
@@ -255,11 +238,11 @@ fn write_row<W: Output>(writer: &mut W, row: &RowFacts) -> Result<(), W::Error>
 /// Writes a content in lines of 16 bytes.
 fn write_content<W: Output>(writer: &mut W, content: &[u8]) -> Result<(), W::Error>
     ensures { OnOk result (W.appends writer.old writer.new
-        (lines_text (content_lines content.now ((length content.now + 15) / 16)))) }
+        (as_shown (content_lines content.now ((length content.now + 15) / 16)))) }
 {
     for line in 0..content.len().div_ceil(BYTES_IN_LINE) {
         let bytes = split(split(content, line * BYTES_IN_LINE).1, BYTES_IN_LINE).0;
-        write_line(writer, &content_line(bytes))?;
+        write_line(writer, CONTENT, &content_line(bytes))?;
     }
     Ok(())
 }
@@ -276,30 +259,23 @@ fn content_line(bytes: &[u8]) -> Line
 }
 
 /// Writes the lines of marks of a row in which these components could come.
+#[tactic(auto, using(crate::proofs::LineLemmas::kept_pieces))]
 fn write_marks<W: Output>(
     writer: &mut W,
     marks: &[Option<Mark>],
     expected: &[Component],
 ) -> Result<(), W::Error>
     ensures { OnOk result
-        (W.appends writer.old writer.new (lines_text (mark_lines marks.now expected.now))) }
+        (W.appends writer.old writer.new (as_shown (mark_lines marks.now expected.now))) }
 {
     let Some((mark, others)) = marks.split_first() else {
         return Ok(());
     };
     if let Some(mark) = mark {
-        write_line(writer, &mark_line(*mark, expected))?;
+        let mut line = Line::new();
+        line.push_str("     ^ ");
+        line.push_mark(*mark, expected);
+        write_line(writer, MARK, &line)?;
     }
     write_marks(writer, others, expected)
-}
-
-/// Returns the line of a mark.
-#[tactic(auto, using(crate::proofs::LineLemmas::kept_pieces))]
-fn mark_line(mark: Mark, expected: &[Component]) -> Line
-    ensures { result ≡ kept (codes "     ^ " ++ mark_words mark expected.now) }
-{
-    let mut line = Line::new();
-    line.push_str("     ^ ");
-    line.push_mark(mark, expected);
-    line
 }

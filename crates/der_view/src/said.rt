@@ -18,19 +18,6 @@ use crate::text::is_raw_len;
 use crate::values::Arcs;
 use curves::Curve;
 
-/// Which lines stand below the first one that is said of bytes.
-#[derive(Drop)]
-pub struct SaidLines {
-    /// Whether one says that a private key's length isn't that of its curve.
-    pub key: bool,
-    /// Whether one says that a point's length isn't that of its curve.
-    pub point: bool,
-    /// Whether words stand above a command.
-    pub words: bool,
-    /// Whether a command is there.
-    pub command: bool,
-}
-
 /// The content of ecPublicKey (RFC 5480 section 2.1.1).
 const EC_PUBLIC_KEY: [u8; 7] = [0x2A, 0x86, 0x48, 0xCE, 0x3D, 0x02, 0x01];
 

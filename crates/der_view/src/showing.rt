@@ -1,26 +1,28 @@
 //! Pictures in other forms: as lines of JSON, of one element alone, or of the outermost levels.
 ghost use Rattle.std.specs.Prelude.{◌≡◌, ◌≤◌, ◌+◌, ◌*◌, IfOk, OnOk, length, true};
-ghost use Rattle.der_view.specs.Drawings.{bytes_text, has_key, heading_line, heading_of};
-ghost use Rattle.der_view.specs.Drawings.{is_key_of, picture_text, source_key, source_text};
-ghost use Rattle.der_view.specs.Said.{note_text};
-ghost use Rattle.der_view.specs.Shows.{are_plain};
-ghost use Rattle.der_view.specs.Sources.{source_len, source_view, text_len};
+ghost use Rattle.der_view.specs.Drawings.{IsDecoded, bytes_lines, has_key, heading_lines};
+ghost use Rattle.der_view.specs.Drawings.{is_key_of, picture_lines, source_key, source_lines};
+ghost use Rattle.der_view.specs.Parts.{IsIn, content_of};
+ghost use Rattle.der_view.specs.Said.{note_lines};
+ghost use Rattle.der_view.specs.Printing.{are_plain};
+ghost use Rattle.der_view.specs.Sources.{source_view, text_len};
 
 use crate::characters::Characters;
-use crate::drawing::{is_read_as_key, known_of, reading_with, write_said, write_text};
+use crate::drawing::{is_read_as_key, known_of, write_said, write_text};
 use crate::json::{Object, write_last, write_said_object};
 use crate::line::Line;
-use crate::output::Output;
+use crate::output::{COMMAND, HEADING, Output, PictureLine, WORDS};
 use crate::part::drawn_element;
 use crate::plan::plan_of;
-use crate::printer::{Options, write_line, write_rows_as};
+use crate::printer::{Options, write_line, write_rows};
 use crate::sentences::{Reading, Sentence, file_words};
 use crate::text::{Encoding, Found, Source, Sources, armour_of};
 
 /// Writes the picture of an input: of DER, or of what its text encodes. Returns whether some part
 /// of it is a key (RFC 5915 section 3). With `all` every content is given.
 ///
-/// `room` is memory for what is decoded, of [`room_len`](crate::room_len) bytes.
+/// `room` is memory of [`room_len`](crate::room_len) bytes. What is decoded stands at its beginning
+/// then, of one part after the other.
 ///
 /// # Errors
 ///
@@ -32,8 +34,9 @@ pub fn draw<W: Output>(
     all: bool,
 ) -> Result<bool, W::Error>
     requires { 2 * text_len input.now + 2 ≤ length room.old }
-    ensures text { OnOk result (W.appends writer.old writer.new (picture_text all input.now)) }
+    ensures drawn { OnOk result (W.appends writer.old writer.new (picture_lines all input.now)) }
     ensures key { IfOk result (λ found. found ≡ has_key input.now) }
+    ensures decoded { OnOk result (IsDecoded input.now room.new) }
 {
     show(writer, input, room, &Options::plain(all))
 }
@@ -41,7 +44,8 @@ pub fn draw<W: Output>(
 /// Writes the picture of an input as [`draw`] does, or as the options ask. Returns
 /// whether some part of what is drawn is a key (RFC 5915 section 3).
 ///
-/// `room` is memory for what is decoded, of [`room_len`](crate::room_len) bytes.
+/// `room` is memory of [`room_len`](crate::room_len) bytes. What is decoded stands at its beginning
+/// then, of one part after the other.
 ///
 /// # Errors
 ///
@@ -55,44 +59,49 @@ pub fn show<W: Output>(
     requires { 2 * text_len input.now + 2 ≤ length room.old }
     // Of JSON, of a part and of some levels no clause says what is written.
     ensures plain { are_plain options.now ≡ true → OnOk result
-        (W.appends writer.old writer.new (picture_text options.now.all input.now)) }
+        (W.appends writer.old writer.new (picture_lines options.now.all input.now)) }
     ensures key { IfOk result (λ found. options.now.offset ≡ 0 → found ≡ has_key input.now) }
+    ensures decoded { OnOk result (IsDecoded input.now room.new) }
 {
     // By halves: to know how long a text is, each byte of a key would be looked at.
-    let (digits, bytes) = room.split_at_mut(room.len() / 2 - 1);
+    let (bytes, digits) = room.split_at_mut(room.len().div_ceil(2) + 1);
     let mut sources = Sources::new(input);
     let mut has_key = false;
+    let mut used = 0;
     while let Some(source) = sources.next_source() {
-        let is_key = show_source(writer, &source, digits, bytes, options)?;
+        let rest = &mut bytes[used..used + source.text_len() + 2];
+        let found = source.find(digits, rest);
+        let len = found.decoded_len();
+        let is_key = show_source(writer, &source, used, &found, rest, options)?;
         has_key |= is_key;
+        used += len;
     }
     Ok(has_key)
 }
 
-/// Writes the picture of a source. Returns whether it is a key's.
+/// Writes the picture of a source, in which `found` was found. What was decoded is in `memory`, and
+/// `before` bytes were before it. Returns whether it is a key's.
 fn show_source<W: Output>(
     writer: &mut W,
     source: &Source,
-    digits: &mut [u8],
-    bytes: &mut [u8],
+    before: usize,
+    found: &Found,
+    memory: &[u8],
     options: &Options,
 ) -> Result<bool, W::Error>
-    requires digits { source_len (source_view source.now) ≤ length digits.old }
-    requires bytes { source_len (source_view source.now) + 2 ≤ length bytes.old }
+    requires { IsIn memory.now found.now (content_of (source_view source.now)) }
     ensures text { are_plain options.now ≡ true → OnOk result (W.appends writer.old writer.new
-        (source_text options.now.all (source_view source.now))) }
+        (source_lines options.now.all before (source_view source.now))) }
     ensures key { IfOk result (λ is_key. options.now.offset ≡ 0
         → is_key ≡ source_key (source_view source.now)) }
 {
-    let found = source.find(digits, bytes);
-    write_head(writer, source, &found, options)?;
+    write_head(writer, source, before, found, options)?;
     match found {
         Found::Decoded(_, flaw, len) => {
-            let reading = reading_with(source.reading(), flaw);
-            show_bytes(writer, &bytes[..len], reading, options)
+            show_bytes(writer, &memory[..*len], source.reading(*flaw), options)
         }
         Found::Said(note) => {
-            show_note(writer, note, options)?;
+            show_note(writer, *note, options)?;
             Ok(false)
         }
         Found::Itself => match source {
@@ -105,13 +114,13 @@ fn show_source<W: Output>(
 /// Writes what is said of a source that isn't drawn.
 fn show_note<W: Output>(writer: &mut W, note: Sentence, options: &Options) -> Result<(), W::Error>
     ensures { are_plain options.now ≡ true
-        → OnOk result (W.appends writer.old writer.new (note_text note)) }
+        → OnOk result (W.appends writer.old writer.new (note_lines note)) }
 {
     if options.json {
         return write_last(writer, note.words().as_bytes(), note.command());
     }
-    write_text(writer, "", note.words())?;
-    write_text(writer, "  ", note.command())
+    write_text(writer, WORDS, "", note.words())?;
+    write_text(writer, COMMAND, "  ", note.command())
 }
 
 /// Writes what stands above the picture of a source, in which `found` was found.
@@ -119,17 +128,25 @@ fn show_note<W: Output>(writer: &mut W, note: Sentence, options: &Options) -> Re
 fn write_head<W: Output>(
     writer: &mut W,
     source: &Source,
+    before: usize,
     found: &Found,
     options: &Options,
 ) -> Result<(), W::Error>
     ensures { are_plain options.now ≡ true → OnOk result (W.appends writer.old writer.new
-        (heading_line (heading_of (source_view source.now) found.now))) }
+        (heading_lines before (source_view source.now) found.now)) }
 {
     if options.json {
         return write_first(writer, options.file, source, found);
     }
     match source.heading(found) {
-        Some(line) => write_line(writer, &line),
+        Some(line) => {
+            let of = PictureLine {
+                offset: before,
+                content_len: found.decoded_len(),
+                ..PictureLine::of(HEADING)
+            };
+            writer.line(of, line.finish().as_bytes())
+        }
         None => Ok(()),
     }
 }
@@ -143,7 +160,7 @@ fn show_bytes<W: Output>(
     options: &Options,
 ) -> Result<bool, W::Error>
     ensures text { are_plain options.now ≡ true → OnOk result
-        (W.appends writer.old writer.new (bytes_text options.now.all reading bytes.now)) }
+        (W.appends writer.old writer.new (bytes_lines options.now.all reading bytes.now)) }
     ensures key { IfOk result (λ is_key. options.now.offset ≡ 0 → is_key ≡ is_key_of bytes.now) }
 {
     if options.offset == 0 {
@@ -160,7 +177,7 @@ fn show_bytes<W: Output>(
             if options.json {
                 write_last(writer, line.as_bytes(), "")?;
             } else {
-                write_line(writer, &line)?;
+                write_line(writer, WORDS, &line)?;
             }
             Ok(false)
         }
@@ -168,7 +185,7 @@ fn show_bytes<W: Output>(
 }
 
 /// Writes the picture of bytes. Returns whether they are a key's.
-#[tactic(auto, unfolding(crate::specs::Drawings::bytes_text))]
+#[tactic(auto, unfolding(crate::specs::Drawings::bytes_lines))]
 fn show_part<W: Output>(
     writer: &mut W,
     bytes: &[u8],
@@ -176,14 +193,14 @@ fn show_part<W: Output>(
     options: &Options,
 ) -> Result<bool, W::Error>
     ensures text { are_plain options.now ≡ true → OnOk result
-        (W.appends writer.old writer.new (bytes_text options.now.all reading bytes.now)) }
+        (W.appends writer.old writer.new (bytes_lines options.now.all reading bytes.now)) }
     ensures key { IfOk result (λ is_key. is_key ≡ is_key_of bytes.now) }
 {
     let plan = plan_of(bytes);
     let is_key = is_read_as_key(bytes);
     let known = known_of(plan, bytes);
     let file = file_words(bytes);
-    write_rows_as(writer, plan, bytes, options)?;
+    write_rows(writer, plan, bytes, options)?;
     if options.json {
         write_said_object(writer, is_key, reading, file, &known)?;
         return Ok(is_key);

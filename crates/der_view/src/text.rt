@@ -4,8 +4,8 @@ ghost use Rattle.std.specs.Prelude.{MatchOption};
 ghost use Rattle.std.specs.List.{list_all};
 ghost use Rattle.der_view.specs.Blocks.{block_view};
 ghost use Rattle.der_view.specs.Parts.{IsIn, base64_content, block_content, content_of};
-ghost use Rattle.der_view.specs.Parts.{dump_note, hex_content, is_json, note_of, openssh_note};
-ghost use Rattle.der_view.specs.Parts.{putty_note};
+ghost use Rattle.der_view.specs.Parts.{decoded_len, dump_note, hex_content, is_json, note_of};
+ghost use Rattle.der_view.specs.Parts.{openssh_note, putty_note};
 ghost use Rattle.der_view.specs.Sources.{SourceView, blocks_or, has_begin, is_der, is_raw_len};
 ghost use Rattle.der_view.specs.Sources.{is_text, is_text_byte, source_len, source_view};
 ghost use Rattle.der_view.specs.Sources.{sources_left, sources_of, text_len, wide_note};
@@ -62,6 +62,18 @@ pub enum Found {
     Decoded(Encoding, Flaw, usize),
     /// No bytes, but this is said.
     Said(Sentence),
+}
+
+impl Found {
+    /// Returns the number of bytes that were decoded.
+    pub fn decoded_len(&self) -> usize
+        ensures { result ≡ decoded_len self.now }
+    {
+        match self {
+            Found::Decoded(_, _, len) => *len,
+            _ => 0,
+        }
+    }
 }
 
 /// The sources of an input that are still to come, in order. A contract sees them.
@@ -225,6 +237,17 @@ impl<'a> Sources<'a> {
 }
 
 impl<'a> Source<'a> {
+    /// Returns the number of bytes of text that are decoded of the source.
+    pub fn text_len(&self) -> usize
+        ensures { result ≡ source_len (source_view self.now) }
+    {
+        match self {
+            Source::Pem { block, .. } => block.body.len(),
+            Source::Text(text) => text.len(),
+            Source::Der(_) | Source::Wide(_) => 0,
+        }
+    }
+
     /// Returns what is in the source. Bytes that are encoded are decoded into the front of `bytes`;
     /// `digits` is memory for their digits.
     #[tactic(auto, unfolding(crate::specs::Parts::text_content))]

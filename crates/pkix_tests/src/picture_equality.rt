@@ -4,8 +4,8 @@ ghost use Rattle.std.specs.Prelude.{◌≡◌, ◌≢◌, ◌↔◌, IsTrue, IsO
 use crate::equality::Cloned;
 use der_view::{
     Advice, Arcs, Armour, Block, Characters, Class, Content, Element, ElementFault, Encoding,
-    Family, Fault, Flaw, Found, Header, Kind, Mark, Name, Options, Place, Plan, Point, Presence,
-    Reading, RowFacts, Secrecy, Sentence, Shown, Source, Structure, Tag, Way,
+    Family, Fault, Flaw, Found, Header, Kind, Mark, Name, Options, PictureLine, Place, Plan, Point,
+    Presence, Reading, RowFacts, Secrecy, Sentence, Shown, Source, Structure, Tag, Way,
 };
 
 /// The clone of characters is the same, and never fails.
@@ -38,6 +38,13 @@ pub fn cloned_shown(value: &Shown) -> Cloned<Shown>
 
 /// The clone of what is printed of a row is the same, and never fails.
 pub fn cloned_row<'a>(value: &RowFacts<'a>) -> Cloned<RowFacts<'a>>
+    ensures { IsOkAnd result (λ cloned. cloned ≡ value.now) }
+{
+    value.clone()
+}
+
+/// The clone of what a line is of is the same, and never fails.
+pub fn cloned_line(value: &PictureLine) -> Cloned<PictureLine>
     ensures { IsOkAnd result (λ cloned. cloned ≡ value.now) }
 {
     value.clone()

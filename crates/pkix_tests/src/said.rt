@@ -1,5 +1,5 @@
 //! What is said of an input, and of texts that are almost PEM.
-use der_view::{Output, draw};
+use der_view::{Output, PictureLine, draw};
 use std::convert::Infallible;
 
 /// What is written, as far as there is room.
@@ -17,6 +17,11 @@ impl Output for Page {
     ghost nothing = { λ _. tt };
 
     ghost joined = { λ _ _ _ _ _ _ _. tt };
+
+    fn line(&mut self, _of: PictureLine, text: &[u8]) -> Result<(), Infallible> {
+        self.push(text)?;
+        self.push(b"\n")
+    }
 
     fn push(&mut self, bytes: &[u8]) -> Result<(), Infallible> {
         for byte in bytes {

@@ -7,7 +7,6 @@ pub mod HexTextLemmas
 pub mod NameLemmas
 pub mod NumberLemmas
 pub mod PictureLemmas
-pub mod PictureLineLemmas
 pub mod PlaceLemmas
 pub mod PointLemmas
 pub mod PrivateKeyLemmas

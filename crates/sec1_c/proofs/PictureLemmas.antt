@@ -3,13 +3,13 @@ use Rattle.std.proofs.Common.{◌≡◌, ℕ, zero, suc, ◌+◌, ◌-◌, ◌^�
 use Rattle.std.proofs.Common.{sym, ap₂, Bool, true, false, length, take, drop, take_all, take_at, min, inl, inr}
 use Rattle.std.proofs.Common.{if◌then◌else◌, subst}
 use Rattle.std.proofs.Common.{length-append, length-drop}
-use Rattle.std.proofs.Math.Seq.{drop-drop, take-nil}
+use Rattle.std.proofs.Math.Seq.{drop-append_seam, drop-drop, take-nil}
 use borrow.Rule.Slice.PartMut.{put_mid}
 use Rattle.std.proofs.lemmas.Bool.{cases_lt}
 use Rattle.std.proofs.lemmas.List.{drop_all, length-take}
 use mir.Val.{bool_byte}
 use Rattle.sec1_c.specs.Outputs.{Writes}
-use Rattle.sec1_c.specs.Pictures.{AreStored, Fills, IsDrawn}
+use Rattle.sec1_c.specs.Pictures.{AreStored, Fills, IsDrawn, IsStored}
 
 -- ---- a slice
 
@@ -103,6 +103,19 @@ drawn text old new bytes first memory key result stored is_key len written size 
         told,
       );
       short = λ short. absurd (omega (arith, short, same, within));
+    }
+
+-- some text is stored
+pub stored_so : (bytes old new : List ℕ) (result len is_key : ℕ) → Writes bytes old new result len
+    → length bytes ≤ length old → IsStored old new result len is_key
+stored_so bytes old new result len is_key writes within =
+    let done = writes.fits within in
+    record {
+      fits = λ ok. (
+        omega (arith, writes.len, within),
+        rw (done.1, writes.len) (drop-append_seam bytes (drop (length bytes) old)),
+      );
+      short = λ other. absurd (other done.0);
     }
 
 -- the number that says whether there is a key

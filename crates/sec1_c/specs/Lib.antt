@@ -21,6 +21,5 @@ pub mod Containers
 pub mod WrittenKeys
 pub mod PrivateKeys
 pub mod Pictures
-pub mod PictureLines
 pub mod PictureLaws
 pub mod PemBlocks

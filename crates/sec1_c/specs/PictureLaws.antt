@@ -1,37 +1,31 @@
 -- Items that are stored, one after the other.
-use Rattle.std.specs.Prelude.{◌≡◌, ℕ, false, List, [], ◌++◌}
-use Rattle.std.proofs.Common.{refl, subst, ◌∙◌, append-nil, append_assoc}
+use Rattle.std.specs.Prelude.{◌≡◌, ℕ, List, [], ◌++◌}
+use Rattle.std.specs.List.{flat_map}
+use Rattle.std.proofs.Common.{refl, ◌∙◌, append-nil, append_assoc}
 use Rattle.std.proofs.lemmas.Grind.{flat_map-append}
-use Rattle.der_view.specs.Facts.{row_of}
-use Rattle.der_view.specs.Rows.{Row}
-use Rattle.sec1_c.specs.PictureLines.{Grows, row_lines, rows_lines}
-use Rattle.sec1_c.specs.Pictures.{Fills}
-use Rattle.sec1_c.specs.declared.picture.lines.Lines.{Lines}
-use Rattle.sec1_c.specs.declared.picture.lines.PictureLine.{PictureLine}
+use Rattle.der_view.specs.Printing.{Told}
+use Rattle.der_view.specs.declared.output.PictureLine.{PictureLine}
+use Rattle.sec1_c.specs.Pictures.{Fills, Grows, listed}
+use Rattle.sec1_c.specs.declared.picture.filling.Filling.{Filling}
 
 -- none
 pub Fills-none : {A : Type 0} (a : List A) (count : ℕ) → Fills a count a count []
 Fills-none a count first before held = rw (append-nil before) held
 
--- some, and more
-pub Fills-both : {A : Type 0} {a b c : List A} {m n o : ℕ} (items more : List A)
-    → Fills a m b n items → Fills b n c o more → Fills a m c o (items ++ more)
-Fills-both items more one two first before held =
-    rw (← append_assoc before items more) (two first (before ++ items) (one first before held))
+-- those of some lines, and of more
+pub Fills-flat : {A B : Type 0} {a b c : List A} {m n o : ℕ} (f : B → List A)
+    (first second : List B) → Fills a m b n (flat_map f first) → Fills b n c o (flat_map f second)
+    → Fills a m c o (flat_map f (first ++ second))
+Fills-flat f first second one two start before held =
+    rw (flat_map-append f first second, ← append_assoc before (flat_map f first) _)
+    (two start (before ++ flat_map f first) (one start before held))
 
-pub Grows-none : (a : Lines) → Grows a a []
-Grows-none a = record { place = refl; fills = Fills-none a.lines.now a.count }
+pub Grows-none : (a : Filling PictureLine) → Grows a a (listed [])
+Grows-none a = record { place = refl; fills = Fills-none a.slice.now a.count }
 
-pub Grows-both : (a b c : Lines) (lines more : List PictureLine) → Grows a b lines → Grows b c more
-    → Grows a c (lines ++ more)
-Grows-both a b c lines more one two =
-    record { place = two.place ∙ one.place; fills = Fills-both lines more one.fills two.fills }
-
--- the lines of some rows by a plan, and of more
-pub Grows-rows : (a b c : Lines) (rows more : List Row) → b.plan ≡ a.plan
-    → Grows a b (rows_lines a.plan rows) → Grows b c (rows_lines b.plan more)
-    → Grows a c (rows_lines a.plan (rows ++ more))
-Grows-rows a b c rows more same one two =
-    rw (flat_map-append (λ row. row_lines (row_of a.plan false row)) rows more)
-    (Grows-both a b c (rows_lines a.plan rows) (rows_lines a.plan more) one
-    (subst (λ plan. Grows b c (rows_lines plan more)) same two))
+pub Grows-both : (a b c : Filling PictureLine) (first second : List Told) → Grows a b (listed first)
+    → Grows b c (listed second) → Grows a c (listed (first ++ second))
+Grows-both a b c first second one two = record {
+  place = two.place ∙ one.place;
+  fills = Fills-flat _ first second one.fills two.fills;
+}

@@ -1,7 +1,12 @@
 -- What is told of the picture of an input.
-use Rattle.std.specs.Prelude.{◌≡◌, ◌≢◌, ◌≤◌, ◌<◌, ◌-◌, ◌^◌, ◌++◌, ℕ, List, length, drop, min}
-use Rattle.std.specs.Prelude.{take, if◌then◌else◌}
+use Rattle.std.specs.Prelude.{◌≡◌, ◌≢◌, ◌≤◌, ◌<◌, ◌-◌, ◌^◌, ◌==◌, ◌++◌, [], ◌∷◌, ℕ, List, length}
+use Rattle.std.specs.Prelude.{drop, min, take, if◌then◌else◌}
+use Rattle.std.specs.List.{flat_map}
 use Rattle.der_view.specs.Drawings.{has_key}
+use Rattle.der_view.specs.Printing.{Told}
+use Rattle.der_view.specs.declared.output.PictureLine.{PictureLine}
+use Rattle.der_view.specs.declared.output.TheConstants.{CONTENT}
+use Rattle.sec1_c.specs.declared.picture.filling.Filling.{Filling}
 
 -- the number of items, and a slice whose first elements are the items, as many as it has room for;
 -- the others are as they were
@@ -33,3 +38,19 @@ pub record IsDrawn (text : List ℕ) (key : ℕ) (old new : List ℕ) (result le
 pub record IsStored (old new : List ℕ) (result len is_key : ℕ) : Type 0 where
   pub fits : result ≡ 0 → (len ≤ length old) × (drop len new ≡ drop len old)
   pub short : result ≢ 0 → (result ≡ 7) × (new ≡ old) × (is_key ≡ 0)
+
+-- what the lines of a picture are of, but those with contents
+abbrev pub listed : List Told → List PictureLine
+listed lines = flat_map (λ line. if line.0.kind == CONTENT then [] else line.0 ∷ []) lines
+
+-- the second has these too
+pub record Grows (a b : Filling PictureLine) (lines : List PictureLine) : Type 0 where
+  pub place : b.slice.ghost_name ≡ a.slice.ghost_name
+  pub fills : Fills a.slice.now a.count b.slice.now b.count lines
+
+-- Lines are stored, as many as there is room for, and their number. 0 is returned if all are
+-- stored, otherwise 7.
+pub record AreListed (lines old new : List PictureLine) (result count : ℕ) : Type 0 where
+  pub stored : AreStored old new count lines
+  pub fits : length lines ≤ length old → result ≡ 0
+  pub short : length old < length lines → result ≡ 7

@@ -1,22 +1,19 @@
 //! Pictures of any input, DER or a text that encodes some: `sec1_picture_draw`,
 //! `sec1_picture_write` and `sec1_picture_lines`.
-ghost use Rattle.std.specs.Prelude.{◌≡◌, ◌<◌, ◌≤◌, ◌+◌, ◌*◌, ◌-◌, ◌/◌, ◌^◌, ◌==◌, length, min};
-ghost use Rattle.std.specs.Prelude.{◌↔◌, IsTrue, not};
-ghost use Rattle.der_view.specs.Drawings.{has_key, picture_text};
-ghost use Rattle.der_view.specs.Sources.{source_len, source_view, text_len};
-ghost use Rattle.sec1_c.specs.PictureLines.{AreListed, IsDecodedAt, picture_lines};
-ghost use Rattle.sec1_c.specs.Pictures.{IsDrawn, IsStored, key_number};
+ghost use Rattle.std.specs.Prelude.{◌≡◌, ◌<◌, ◌≤◌, ◌+◌, ◌*◌, ◌-◌, ◌^◌, ◌==◌, length, min};
+ghost use Rattle.std.specs.Prelude.{◌↔◌, IsTrue, false, not};
+ghost use Rattle.der_view.specs.Drawings.{IsDecoded, picture_lines, picture_text};
+ghost use Rattle.der_view.specs.Sources.{text_len};
+ghost use Rattle.sec1_c.specs.Pictures.{AreListed, IsDrawn, IsStored, key_number, listed};
 
-mod lines;
-mod text;
+mod filling;
 
 use crate::buffer::write_bytes;
 use crate::status::{OK, kind_number};
-use der_view::{Options, Source, Sources, plan_of, room_len, show};
-use lines::Lines;
-pub use lines::PictureLine;
+pub use der_view::PictureLine;
+use der_view::{Options, draw, room_len, show};
+use filling::Filling;
 use sec1::der::ErrorKind;
-use text::Text;
 
 /// Writes the picture of an input at the beginning of `text`, and stores its length and whether
 /// some part of the input is a key (RFC 5915 section 3), as 1 or 0. With `all` other than 0 every
@@ -91,22 +88,22 @@ pub extern "C" fn sec1_picture_write(
         file,
     };
     let (copy, room) = room.split_at_mut(text.len());
-    let mut writer = Text::new(copy);
+    let mut writer = Filling::new(copy);
     let has_key = match show(&mut writer, input, room, &options) {
         Ok(has_key) => has_key,
         Err(never) => match never {},
     };
-    if text.len() < writer.len() {
-        *len = writer.len();
+    if text.len() < writer.count() {
+        *len = writer.count();
         return kind_number(ErrorKind::Buffer);
     }
     *is_key = usize::from(has_key);
-    write_bytes(writer.as_bytes(), text, len)
+    write_bytes(writer.items(), text, len)
 }
 
 /// Stores what each line of the picture of an input is of, and their number: of the picture that
-/// `sec1_picture_draw` writes with 0 for `all`. What is decoded is written into `room`, one part
-/// after the other.
+/// `sec1_picture_draw` writes with 0 for `all`. What is decoded stands at the beginning of `room`
+/// then, of one part after the other.
 ///
 /// # Errors
 ///
@@ -120,10 +117,10 @@ pub extern "C" fn sec1_picture_lines(
     count: &mut usize,
 ) -> u32
     ensures exact { min (2 * text_len input.now + 2) (2 ^ 64 - 1) ≤ length room.old
-        → AreListed (picture_lines (length room.old / 2 - 1) input.now) lines.old lines.new result
+        → AreListed (listed (picture_lines false input.now)) lines.old lines.new result
         count.new }
     ensures decoded { min (2 * text_len input.now + 2) (2 ^ 64 - 1) ≤ length room.old
-        → IsDecodedAt (length room.old / 2 - 1) input.now room.new }
+        → IsDecoded input.now room.new }
     ensures buffer { length room.old < min (2 * text_len input.now + 2) (2 ^ 64 - 1)
         → (result ≡ 7) × (count.new ≡ 0) × (lines.new ≡ lines.old) }
 {
@@ -132,16 +129,13 @@ pub extern "C" fn sec1_picture_lines(
         return kind_number(ErrorKind::Buffer);
     }
     let most = lines.len();
-    let (digits, bytes) = room.split_at_mut(room.len() / 2 - 1);
-    let mut lines = Lines::new(lines, plan_of(input));
-    let mut sources = Sources::new(input);
-    let mut used = 0;
-    while let Some(source) = sources.next_source() {
-        let rest = &mut bytes[used..used + source_len(&source) + 2];
-        used += lines.push_source(&source, digits.len() + used, digits, rest);
+    let mut filling = Filling::new(lines);
+    match draw(&mut filling, input, room, false) {
+        Ok(_) => {}
+        Err(never) => match never {},
     }
-    *count = lines.count();
-    if lines.count() <= most {
+    *count = filling.count();
+    if filling.count() <= most {
         OK
     } else {
         kind_number(ErrorKind::Buffer)
@@ -154,15 +148,4 @@ fn is_room(input: &[u8], len: usize) -> bool
     ensures { IsTrue result ↔ (min (2 * text_len input.now + 2) (2 ^ 64 - 1) ≤ len) }
 {
     input.len().saturating_mul(2).saturating_add(2) <= len || room_len(input) <= len
-}
-
-/// Returns the number of characters of a part that may encode bytes.
-fn source_len(source: &Source) -> usize
-    ensures { result ≡ source_len (source_view source.now) }
-{
-    match source {
-        Source::Pem { block, .. } => block.body.len(),
-        Source::Text(text) => text.len(),
-        Source::Der(_) | Source::Wide(_) => 0,
-    }
 }

@@ -5,7 +5,7 @@ use Rattle.std.specs.Prelude.{⊤}
 use Rattle.std.specs.Io.KnownBytes.{Appends}
 use Rattle.der_view.specs.Characters.{escaped_all}
 use Rattle.der_view.specs.Drawings.{has_key, picture_text}
-use Rattle.der_view.specs.Shows.{are_plain}
+use Rattle.der_view.specs.Printing.{are_plain}
 use Rattle.sec1_dump.specs.declared.output.Failure.{Failure}
 use Rattle.sec1_dump.specs.declared.output.Failure.TheVariants.{Memory, Output}
 use Rattle.sec1_dump.specs.declared.output.Style.{Style}

@@ -1,7 +1,7 @@
 //! Texts that are almost PEM or base64.
 ghost use Rattle.std.specs.Prelude.{◌≡◌, ◌≤◌, ◌+◌, length, IfSome, option_map};
 ghost use Rattle.der_view.specs.Almost.{armour_flaw, armour_of, armour_view, begin_armour};
-ghost use Rattle.der_view.specs.Almost.{body_flaw, is_end_of, line_after};
+ghost use Rattle.der_view.specs.Almost.{body_flaw, flaw_words, is_end_of, line_after};
 ghost use Rattle.der_view.specs.Parts.{IsIn, almost_content, mended_content};
 ghost use Rattle.der_view.specs.Encoded.{mended_bytes};
 
@@ -29,6 +29,26 @@ pub enum Flaw {
     Indented,
     /// Other characters than those of base64 are in it.
     Foreign,
+}
+
+/// What is said of such a text.
+static FLAWS: [&str; 7] = [
+    "",
+    ", with \\n for line ends",
+    ", in base64url",
+    ", with no line BEGIN",
+    ", with no line ends",
+    ", indented or quoted",
+    ", with other characters in it",
+];
+
+impl Flaw {
+    /// Returns what is said of a text with this flaw.
+    pub fn words(self) -> &'static str
+        ensures { result.now ≡ flaw_words self }
+    {
+        FLAWS[self as usize]
+    }
 }
 
 /// What is between the dashes of PEM that no line begins with, or before those of END.

@@ -14,8 +14,8 @@ ghost use Rattle.der_view.specs.Rows.{Row};
 ghost use Rattle.der_view.specs.Sources.{Der, has_begin, is_text, source_view};
 
 use der_view::{
-    Name, Plan, Secrecy, Source, Sources, draw, is_key, laws, lines_are_short, plan_of, room_len,
-    write_rows,
+    Name, Options, Plan, Secrecy, Source, Sources, draw, is_key, laws, lines_are_short, plan_of,
+    room_len, write_rows,
 };
 use sec1::{EcPrivateKey, Error};
 use std::alloc::Global;
@@ -160,7 +160,7 @@ pub fn rows(alloc: Global, input: &[u8]) -> io::Result<Vec<u8>>
         ≡ rows_text (plan_of input.now) false (picture false input.now)) }
 {
     let mut text = Vec::new(alloc);
-    write_rows(&mut text, plan_of(input), input, false)?;
+    write_rows(&mut text, plan_of(input), input, &Options::plain(false))?;
     Ok(text)
 }
 

@@ -7,12 +7,12 @@ pub returns-in-Decoded : goal.returns-in-Decoded
 returns-in-Decoded g c =
     let it =
     rw c.in-Decoded.is
-    at (drawn_is c.args.options.now.all (source_view c.args.source.now) c.find-found.result _ c.find-found.ensures) in
+    at (drawn_is c.args.options.now.all c.args.before (source_view c.args.source.now) c.args.found.now _ c.requires) in
     record {
       text = λ plain.
           then_on g.W.Output.appends g.met.W.Output.joined _ _ _ _ _ _ c.show_bytes.result it.0
           (rw c.in-Decoded.is at (c.in_ok-write_head.ensures plain))
-          (rw (c.reading_with-reading.ensures, c.reading.ensures) at (c.show_bytes.ensures.text plain));
+          (rw c.reading.ensures at (c.show_bytes.ensures.text plain));
       key = rw it.1 c.show_bytes.ensures.key;
     }
 
@@ -20,7 +20,7 @@ pub returns-in_ok-show_note-in-Said : goal.returns-in_ok-show_note-in-Said
 returns-in_ok-show_note-in-Said g c =
     let it =
     rw c.in-Said.is
-    at (drawn_is c.args.options.now.all (source_view c.args.source.now) c.find-found.result _ c.find-found.ensures) in
+    at (drawn_is c.args.options.now.all c.args.before (source_view c.args.source.now) c.args.found.now _ c.requires) in
     record {
       text = λ plain.
           rw it.0

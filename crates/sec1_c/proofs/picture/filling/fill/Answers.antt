@@ -1,6 +1,6 @@
 use Rattle.std.proofs.Common.{arith, refl}
 use Rattle.sec1_c.proofs.PictureLemmas.{appended}
-use Rattle.sec1_c.proofs.picture.text.fill.Goals as goal
+use Rattle.sec1_c.proofs.picture.filling.fill.Goals as goal
 
 pub returns : goal.returns
 returns g c =
