@@ -55,7 +55,7 @@ def test_kits(tell):
 
 
 # Other numbers of bytes to be wiped, less than calls use.
-DEPTHS = {"what is wiped": None, "less": "53248, 6144", "less by others": "61440, 4096"}
+DEPTHS = {"what is wiped": None, "less": "45056, 4096", "less by others": "53248, 2048"}
 
 
 @pytest.mark.parametrize("depths", DEPTHS.values(), ids=DEPTHS)

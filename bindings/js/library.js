@@ -16,7 +16,7 @@ const DRAWN = 1048576;
 /** Where the stack begins, which grows towards 0. Then how many bytes of it are used at most by
  * calls that draw or decode PEM, and by all others: tests/dist/stack.py computes whether they are
  * enough. */
-const [STACK, DEEP, FLAT] = [65536, 61440, 6144];
+const [STACK, DEEP, FLAT] = [65536, 53248, 4096];
 /** What a line of a picture is: enum sec1_line of sec1.h. */
 export const Kind = Object.freeze({ HEADING: 0, ROW: 1, MARK: 2, WORDS: 3, COMMAND: 4 });
 /** How many numbers a line has: its kind, and of a row its offset, the lengths of its header and of

@@ -157,7 +157,7 @@ FAULTS = {"stored_examples": [
 ], "memory": [
     ("library.js", "memory.fill(0, STORED, end);", "memory.fill(0, STORED + 65536, end);"),
     ("library.js", "memory.fill(0, STACK - depth, STACK);", ""),
-    ("library.js", "[65536, 61440, 6144]", "[65536, 6144, 6144]"),
+    ("library.js", "[65536, 53248, 4096]", "[65536, 4096, 4096]"),
     ("library.js", "  if (memory.length > KEPT) renew();\n", ""),
 ], "values": [
     ("letters.js", "\\\\p{C}", ""), ("letters.js", "\\\\p{Default_Ignorable_Code_Point}", ""),
