@@ -27,7 +27,6 @@ LEVELS = {
     "der_view::line::Line::push_expected": 11,
     # a row has room for six marks
     "der_view::printer::write_marks": 7,
-    "sec1_c::picture::lines::Lines::push_marks": 7,
     # the rows of the table of the forms' words
     "der_view::sentences::form_in": 25,
     # the characters of a sentence, of which the longest has 83

@@ -1,7 +1,8 @@
 //! Where a picture is written.
-ghost use Rattle.std.specs.Prelude.{◌++◌, ◌≡◌, [], ◌∷◌, List, OnOk};
+ghost use Rattle.std.specs.Prelude.{◌++◌, ◌≡◌, [], ◌∷◌, List, ℕ, OnOk};
 ghost use Rattle.std.specs.Io.KnownBytes.{Appends};
 ghost use Rattle.std.proofs.KnownBytes.{Appends-nil, Appends-trans};
+ghost use Rattle.der_view.specs.Lines.{IsLine};
 ghost use Rattle.der_view.specs.Printing.{Told, line_of, lines_text};
 ghost use Rattle.der_view.specs.PrintingLaws.{text_joined};
 
@@ -75,12 +76,16 @@ pub trait Output {
     // The second is the first after these lines.
     ghost appends: { Self → Self → List Told → Type 0 };
 
+    // The second is the first after these bytes.
+    ghost takes: { Self → Self → List ℕ → Type 0 };
+
     /// Writes a line, which has at most 100 characters of ASCII that print, and its end.
     ///
     /// # Errors
     ///
     /// An error of the writer.
     fn line(&mut self, of: PictureLine, text: &[u8]) -> Result<(), Self::Error>
+        requires { IsLine text.now }
         ensures { OnOk result (appends self.old self.new ((of, text.now) ∷ [])) };
 
     /// Writes these bytes of JSON.
@@ -88,12 +93,16 @@ pub trait Output {
     /// # Errors
     ///
     /// An error of the writer.
-    fn push(&mut self, bytes: &[u8]) -> Result<(), Self::Error>;
+    fn push(&mut self, bytes: &[u8]) -> Result<(), Self::Error>
+        ensures { OnOk result (takes self.old self.new bytes.now) };
 
     ghost nothing: { (a : Self) → appends a a [] };
 
     ghost joined: { (a b c : Self) (first second : List Told) → appends a b first
         → appends b c second → appends a c (first ++ second) };
+
+    ghost taken: { (a b c : Self) (first second : List ℕ) → takes a b first → takes b c second
+        → takes a c (first ++ second) };
 }
 
 impl<W: io::Write> Output for W {
@@ -105,6 +114,10 @@ impl<W: io::Write> Output for W {
 
     ghost joined = { λ a b c first second one two. text_joined _ _ first second
         (Appends-trans (W.contents a) (W.contents b) (W.contents c) _ _ one two) };
+
+    ghost takes = { λ a b bytes. Appends (W.contents a) (W.contents b) bytes };
+
+    ghost taken = { λ a b c. Appends-trans (W.contents a) (W.contents b) (W.contents c) };
 
     fn line(&mut self, _of: PictureLine, text: &[u8]) -> io::Result<()> {
         self.write_all(text)?;

@@ -63,7 +63,7 @@ impl<'a> Options<'a> {
     }
 }
 
-/// Writes the rows of bytes by a plan, as the options ask.
+/// Writes the rows of bytes by a plan, as the options ask: `offset` and `file` don't count.
 ///
 /// # Errors
 ///

@@ -18,6 +18,10 @@ impl Output for Page {
 
     ghost joined = { λ _ _ _ _ _ _ _. tt };
 
+    ghost takes = { λ _ _ _. Unit {0} };
+
+    ghost taken = { λ _ _ _ _ _ _ _. tt };
+
     fn line(&mut self, _of: PictureLine, text: &[u8]) -> Result<(), Infallible> {
         self.push(text)?;
         self.push(b"\n")

@@ -12,13 +12,18 @@ use Rattle.sec1_c.specs.declared.picture.filling.Filling.{Filling}
 pub Fills-none : {A : Type 0} (a : List A) (count : ℕ) → Fills a count a count []
 Fills-none a count first before held = rw (append-nil before) held
 
+-- some, and more
+pub Fills-both : {A : Type 0} {a b c : List A} {m n o : ℕ} (first second : List A)
+    → Fills a m b n first → Fills b n c o second → Fills a m c o (first ++ second)
+Fills-both first second one two items before held =
+    rw (← append_assoc before first second) (two items (before ++ first) (one items before held))
+
 -- those of some lines, and of more
 pub Fills-flat : {A B : Type 0} {a b c : List A} {m n o : ℕ} (f : B → List A)
     (first second : List B) → Fills a m b n (flat_map f first) → Fills b n c o (flat_map f second)
     → Fills a m c o (flat_map f (first ++ second))
-Fills-flat f first second one two start before held =
-    rw (flat_map-append f first second, ← append_assoc before (flat_map f first) _)
-    (two start (before ++ flat_map f first) (one start before held))
+Fills-flat f first second one two =
+    rw (flat_map-append f first second) (Fills-both (flat_map f first) (flat_map f second) one two)
 
 pub Grows-none : (a : Filling PictureLine) → Grows a a (listed [])
 Grows-none a = record { place = refl; fills = Fills-none a.slice.now a.count }

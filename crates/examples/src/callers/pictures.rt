@@ -1,11 +1,11 @@
 //! Pictures of any input, by `der_view`: its sources, its text, its rows, and what is a key.
 ghost use Rattle.std.specs.Prelude.{◌≡◌, ◌≤◌, ◌+◌, ◌∷◌, [], List, ℕ, Bool, true, false, length};
-ghost use Rattle.std.specs.Prelude.{IfOk, IsSomeAnd};
+ghost use Rattle.std.specs.Prelude.{◌++◌, IfOk, IsSomeAnd, OnOk};
 ghost use Rattle.std.specs.List.{All};
 ghost use Rattle.sec1.specs.Keys.{IsKeyOf, Key};
 ghost use Rattle.der_view.specs.Drawings.{has_key, is_key_of, picture_text};
 ghost use Rattle.der_view.specs.Headers.{max_content_len};
-ghost use Rattle.der_view.specs.Lines.{IsLine};
+ghost use Rattle.der_view.specs.Lines.{IsLine, shown};
 ghost use Rattle.der_view.specs.Masks.{AreAlike};
 ghost use Rattle.der_view.specs.Pictures.{picture, plan_of};
 ghost use Rattle.der_view.specs.Printing.{rows_lines, rows_text};
@@ -14,8 +14,8 @@ ghost use Rattle.der_view.specs.Rows.{Row};
 ghost use Rattle.der_view.specs.Sources.{Der, has_begin, is_text, source_view};
 
 use der_view::{
-    Name, Options, Plan, Secrecy, Source, Sources, draw, is_key, laws, lines_are_short, plan_of,
-    room_len, write_rows,
+    Line, Name, Options, Output, PictureLine, Plan, Secrecy, Source, Sources, draw, is_key, laws,
+    lines_are_short, plan_of, room_len, write_rows,
 };
 use sec1::{EcPrivateKey, Error};
 use std::alloc::Global;
@@ -184,4 +184,42 @@ pub fn short_lines(input: &[u8], all: bool)
     ensures { All IsLine (rows_lines (plan_of input.now) all (picture all input.now)) }
 {
     lines_are_short(plan_of(input), all);
+}
+
+/// Writes bytes in two pieces, to any output. It takes them as one.
+///
+/// # Errors
+///
+/// The first error of the writer.
+pub fn pushed_twice<W: Output>(writer: &mut W, first: &[u8], second: &[u8]) -> Result<(), W::Error>
+    ensures { OnOk result (W.takes writer.old writer.new (first.now ++ second.now)) }
+{
+    writer.push(first)?;
+    writer.push(second)
+}
+
+/// Appends bytes to a text.
+///
+/// # Errors
+///
+/// Out of memory.
+pub fn pushed(text: &mut Vec<u8>, bytes: &[u8]) -> io::Result<()>
+    ensures { OnOk result (text.new.items ≡ text.old.items ++ bytes.now) }
+{
+    Output::push(text, bytes)
+}
+
+/// Writes a line, as it is shown, to any output.
+///
+/// # Errors
+///
+/// The first error of the writer.
+pub fn line_of_words<W: Output>(
+    writer: &mut W,
+    of: PictureLine,
+    line: &Line,
+) -> Result<(), W::Error>
+    ensures { OnOk result (W.appends writer.old writer.new ((of, shown line.now) ∷ [])) }
+{
+    writer.line(of, line.finish().as_bytes())
 }

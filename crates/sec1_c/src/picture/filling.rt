@@ -3,7 +3,8 @@
 ghost use Rattle.std.specs.Prelude.{◌≡◌, ◌≤◌, [], length, take};
 ghost use Rattle.der_view.specs.Printing.{lines_text};
 ghost use Rattle.sec1_c.specs.Pictures.{AreStored, Fills, Grows, listed};
-ghost use Rattle.sec1_c.specs.PictureLaws.{Fills-flat, Fills-none, Grows-both, Grows-none};
+ghost use Rattle.sec1_c.specs.PictureLaws.{Fills-both, Fills-flat, Fills-none, Grows-both};
+ghost use Rattle.sec1_c.specs.PictureLaws.{Grows-none};
 
 use der_view::{CONTENT, Output, PictureLine};
 use std::convert::Infallible;
@@ -61,6 +62,10 @@ impl Output for Filling<'_, u8> {
 
     ghost joined = { λ a b c first second. Fills-flat _ first second };
 
+    ghost takes = { λ a b bytes. Fills a.slice.now a.count b.slice.now b.count bytes };
+
+    ghost taken = { λ a b c first second. Fills-both first second };
+
     fn line(&mut self, _of: PictureLine, text: &[u8]) -> Result<(), Infallible> {
         self.count = fill(self.slice, self.count, text);
         self.count = fill(self.slice, self.count, b"\n");
@@ -81,6 +86,11 @@ impl Output for Filling<'_, PictureLine> {
     ghost nothing = { λ a. Grows-none a };
 
     ghost joined = { λ a b c first second. Grows-both a b c first second };
+
+    // no line is of JSON
+    ghost takes = { λ a b bytes. Grows a b [] };
+
+    ghost taken = { λ a b c first second. Grows-both a b c [] [] };
 
     fn line(&mut self, of: PictureLine, _text: &[u8]) -> Result<(), Infallible> {
         if of.kind != CONTENT {
