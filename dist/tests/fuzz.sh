@@ -24,7 +24,7 @@ if ! built "$work/empty.c" 2>"$work/said"; then
 fi
 found_nothing() { # SECONDS
     mkdir -p "$work/grown"
-    "$work/fuzz" -max_total_time="$1" -timeout=10 -max_len=700 -print_final_stats=1 \
+    "$work/fuzz" -max_total_time="$1" -timeout=3600 -max_len=700 -print_final_stats=1 \
         -artifact_prefix="$work/" "${grown:-$work/grown}" tests/corpus
 }
 if [[ $library == *.c ]]; then
