@@ -1,15 +1,9 @@
-#!/usr/bin/env python3
-"""What crates/replay is stored to read and to print, by what it is about.
-
-    tests/stored.py NAME KIND                     prints the lines of one kind: NAME is stdin or
-                                                  stdout, KIND is keys, certificates or calls
-    tests/stored.py --write KIND STDIN STDOUT     stores the lines of two files in their place
-
-Each line of the input has one of the output, but for those that begin with `#`, which say what the
-key below them is.
+"""What crates/replay is stored to read and to print, by what it is about: `keys`, `certificates` or
+`calls`. Each line of the input has one of the output, but for those that begin with `#`, which say
+what the key below them is.
 """
+
 import pathlib
-import sys
 
 CRATE = pathlib.Path(__file__).resolve().parent.parent / "crates/replay"
 KINDS = ("keys", "certificates", "calls")
@@ -46,23 +40,9 @@ def stored(name, kind):
     return [said for _, said in pairs(kind)]
 
 
-def write(kind, asked, printed):
-    """Stores other lines of a kind."""
-    texts = {it: [stored("stdin", it), stored("stdout", it)] for it in KINDS}
-    texts[kind] = [asked, printed]
-    for place, name in enumerate(("stdin", "stdout")):
-        lines = [line for it in KINDS for line in texts[it][place]]
-        (CRATE / name).write_text("".join(f"{line}\n" for line in lines))
-
-
-def main(words):
-    """Prints lines, or stores them."""
-    if words[0] == "--write":
-        files = (pathlib.Path(it).read_text().splitlines() for it in words[2:])
-        write(words[1], *files)
-    else:
-        print(*stored(*words), sep="\n")
-
-
-if __name__ == "__main__":
-    main(sys.argv[1:])
+def write(kind, *lines):
+    """Stores other lines of a kind, those that are read and those that are printed."""
+    names = ("stdin", "stdout")
+    texts = {it: [stored(name, it) for name in names] for it in KINDS} | {kind: lines}
+    for name, *parts in zip(names, *texts.values()):
+        (CRATE / name).write_text("".join(f"{line}\n" for part in parts for line in part))
