@@ -1,5 +1,5 @@
-"""What the sources of the crates say: their calls with their contracts, types and tests. Needs
-Python 3.8 or later."""
+"""The files of the repository, and the calls of its crates: the contract of each, and what is said
+above it. Needs Python 3.8 or later."""
 
 import re
 import subprocess
