@@ -3,10 +3,9 @@ above it. Needs Python 3.8 or later."""
 
 import re
 import subprocess
-from collections import defaultdict
+from collections import defaultdict, namedtuple
 from functools import lru_cache
 from pathlib import Path
-from typing import NamedTuple
 
 TOP = Path(__file__).resolve().parent.parent
 
@@ -56,19 +55,9 @@ def braced(text, start):
     raise ValueError("a brace that isn't closed")
 
 
-class Call(NamedTuple):
-    """A function: its contract, as it stands at a line of its source, its clauses in their order,
-    what its trait has it give, and what is said above it."""
-
-    path: str
-    line: int
-    contract: str
-    signature: str
-    clauses: list
-    gives: str
-    said: str
-
-
+# A function: its contract, as it stands at a line of its source, its clauses in their order, what
+# its trait has it give, and what is said above it.
+Call = namedtuple("Call", "path line contract signature clauses gives said")
 # A comment of documentation, and what may stand between it and what it is of.
 COMMENT = re.compile(
     r"((?:^ *///(?!/).*\n)+)(?:\s|//(?!/).*\n|#\[(?:[^\[\]]|\[[^\]]*\])*\])*", re.M
