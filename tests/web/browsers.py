@@ -23,7 +23,7 @@ TEXT = "document.querySelector('textarea')"
 # Hosts that a browser asks by itself: for updates, lists and times.
 OWN = ("mozilla.org", "mozilla.com", "mozilla.net", "firefox.com", "google.com", "gvt1.com",
        "googleapis.com", "google-analytics.com", "digicert.com", "mozgcp.net")
-PATIENCE = 600
+PATIENCE = 3600
 # With a number in it, what isn't there is waited for until the browser was found idle so many times,
 # one behind the other, or has used so many seconds of processor time; so a busy machine changes
 # nothing. A timer of the page is awaited by that too.

@@ -43,14 +43,15 @@ def tries(check, browser, room, file=None):
 def forget(browser):
     """Clears what a check or a fault has kept, so that it isn't found again. A page that is being
     left can't run anything, so it is tried again."""
-    for left in reversed(range(10)):
+    end, looks = time.monotonic() + browsers.PATIENCE, browsers.Looks(browser)
+    while True:
         try:
             return browser.run("(localStorage.clear(), sessionStorage.clear(), window.name = '', "
                                "indexedDB.deleteDatabase('last'), 0)")
         except browsers.Failed:
-            if not left:
+            if time.monotonic() > end or looks.are_enough():
                 raise
-            time.sleep(1)
+            time.sleep(0.1)
 
 
 def stored_examples(page, room):
@@ -727,7 +728,7 @@ def large(page, room):
         if page.browser.name != "webkit":
             page.browser.size(1280, 300)
             page.browser.size(1280, 1000)
-            time.sleep(0.3)
+            page.browser.wait(f"{BOX}[1]", "the rows fill a box that has grown")
             compare_sight(page, wanted)
             page.browser.size(1280, 800)
         last = columns_of(lines[-1])
@@ -750,15 +751,19 @@ def compare_sight(page, wanted, selected=None):
     compare_box(page, selected)
 
 
+# Whether the rows fill their box, from its top on and to its bottom, and the selected one is in it.
+BOX = (
+    "(() => { const box = document.getElementById('list').getBoundingClientRect();"
+    "const rows = [...document.querySelectorAll('#list .row')];"
+    "const at = (row) => row.getBoundingClientRect();"
+    "const current = document.querySelector('#list [aria-selected=true]');"
+    "return [at(rows[0]).top <= box.top + 1, at(rows.at(-1)).bottom >= box.bottom - 1,"
+    "current && at(current).top >= box.top - 1 && at(current).bottom <= box.bottom + 1]; })()")
+
+
 def compare_box(page, selected=None):
     """Compares where rows lie with the box that they have to fill."""
-    box = page.run(
-        "(() => { const box = document.getElementById('list').getBoundingClientRect();"
-        "const rows = [...document.querySelectorAll('#list .row')];"
-        "const at = (row) => row.getBoundingClientRect();"
-        "const current = document.querySelector('#list [aria-selected=true]');"
-        "return [at(rows[0]).top <= box.top + 1, at(rows.at(-1)).bottom >= box.bottom - 1,"
-        "current && at(current).top >= box.top - 1 && at(current).bottom <= box.bottom + 1]; })()")
+    box = page.run(BOX)
     want(box[:2], [True, True], "the rows fill the box")
     if selected is not None:
         want([page.run(SELECTED), box[2]], [[selected], True], "the selected row")

@@ -305,7 +305,7 @@ def copy(folder):
         shutil.copy(TOP / name, folder / name)
     shutil.copytree(TOP / "web/src", folder / "web/src")
     made.folder = folder
-    browsers.IDLE, browsers.PATIENCE = 20, plant.HOUR
+    browsers.IDLE = 20
     return folder
 
 
