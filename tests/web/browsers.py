@@ -3,6 +3,7 @@ keys and the clipboard: the one by its DevTools protocol over a pipe, the other 
 WebKitGTK is driven by scripts that make the events of a person.
 """
 import base64
+import contextlib
 import json
 import os
 import pathlib
@@ -24,9 +25,9 @@ TEXT = "document.querySelector('textarea')"
 OWN = ("mozilla.org", "mozilla.com", "mozilla.net", "firefox.com", "google.com", "gvt1.com",
        "googleapis.com", "google-analytics.com", "digicert.com", "mozgcp.net")
 PATIENCE = 3600
-# With a number in it, what isn't there is waited for until the browser was found idle so many times,
-# one behind the other, or has used so many seconds of processor time; so a busy machine changes
-# nothing. A timer of the page is awaited by that too.
+# With a number in it, what isn't there is waited for until the browser was found idle so many
+# times, one behind the other, or has used so many seconds of processor time; so a busy machine
+# changes nothing. A timer of the page is awaited by that too.
 IDLE, MOST = None, 60
 # Each how many seconds a browser is looked at.
 LOOK = 0.1
@@ -36,46 +37,38 @@ class Failed(Exception):
     """What a browser was asked for hasn't come."""
 
 
-class Looks:
+class Patience:
     """Looks at the processes of a browser, while something of it is waited for."""
 
     def __init__(self, browser):
-        self.session, self.idle, self.last = browser.process.pid, 0, time.monotonic()
-        self.begin = None
+        self.session, self.idle, self.most = str(browser.process.pid), 0, None
+        self.next = time.monotonic() + LOOK
+        self.end = time.monotonic() + PATIENCE
 
-    def processes(self):
-        """Returns the folders of the browser's processes, with what each has used of processor
-        time."""
-        found = []
-        for it in pathlib.Path("/proc").glob("[0-9]*"):
-            try:
-                words = (it / "stat").read_text().rpartition(")")[2].split()
-            except OSError:
-                continue
-            if int(words[3]) == self.session:
-                found.append((it, sum(map(int, words[11:13])) / os.sysconf("SC_CLK_TCK")))
-        return found
-
-    def are_enough(self):
-        """Returns whether what isn't there won't come: no thread has run or waited for a processor
-        or a disk in several looks, or the browser has run for long."""
-        if not IDLE or time.monotonic() - self.last < LOOK:
-            return False
-        self.last, now = time.monotonic(), self.processes()
-        used = sum(it for _, it in now)
-        self.begin = used if self.begin is None else self.begin
-        is_idle = not any(state_of(it) in "RD" for folder, _ in now
-                          for it in (folder / "task").glob("*/stat"))
+    def is_over(self):
+        """Returns whether what isn't there won't come: an hour has passed, no thread has run or
+        waited for a processor or a disk in several looks, or the browser has run for long."""
+        now = time.monotonic()
+        if not IDLE or now < self.next:
+            return now > self.end
+        self.next = now + LOOK
+        folders = [it for it in pathlib.Path("/proc").glob("[0-9]*")
+                   if stat_of(it)[3] == self.session]
+        used = sum(int(it) for folder in folders for it in stat_of(folder)[11:13])
+        self.most = self.most or used + MOST * os.sysconf("SC_CLK_TCK")
+        is_idle = all(stat_of(it)[0] not in "RD" for folder in folders
+                      for it in (folder / "task").glob("*"))
         self.idle = self.idle + 1 if is_idle else 0
-        return self.idle >= IDLE or used - self.begin > MOST
+        return self.idle >= IDLE or used > self.most
 
 
-def state_of(file):
-    """Returns the letter of a thread's state, or of one that has ended."""
-    try:
-        return file.read_text().rpartition(")")[2].split()[0]
-    except (OSError, IndexError):
-        return "X"
+def stat_of(folder):
+    """Returns what is said of a process or a thread: its state, and numbers; X of one that has
+    ended."""
+    with contextlib.suppress(OSError):
+        if words := (folder / "stat").read_text().rpartition(")")[2].split():
+            return words
+    return ["X"] + ["0"] * 12
 
 
 class Proxy(socketserver.ThreadingTCPServer):
@@ -84,62 +77,87 @@ class Proxy(socketserver.ThreadingTCPServer):
     allow_reuse_address = daemon_threads = True
 
     def __init__(self):
-        self.asked = []
-        proxy = self
-
-        class Handler(socketserver.StreamRequestHandler):
-            def handle(self):
-                words = self.rfile.readline(4096).decode("latin-1").split()
-                url = words[1] if len(words) > 1 else ""
-                url = url if "//" in url else "//" + url
-                host = urllib.parse.urlsplit(url).hostname or "?"
-                if not host.endswith(OWN):
-                    proxy.asked.append(host)
-
-        super().__init__(("127.0.0.1", 0), Handler)
+        super().__init__(("127.0.0.1", 0), Asked)
+        self.asked, self.address = [], "127.0.0.1:%d" % self.server_address[1]
         threading.Thread(target=self.serve_forever, daemon=True).start()
 
 
-class Browser:
-    """What both have: pages by number, of which the first is the one that is tested."""
+class Asked(socketserver.StreamRequestHandler):
+    """A request to the proxy."""
 
-    # Whether it answers no more.
-    is_stuck = False
+    def handle(self):
+        """Keeps the host that is asked for."""
+        words = self.rfile.readline(4096).decode("latin-1").split()
+        url = words[1] if len(words) > 1 else ""
+        host = urllib.parse.urlsplit(url if "//" in url else "//" + url).hostname or "?"
+        if not host.endswith(OWN):
+            self.server.asked.append(host)
+
+
+class Browser:
+    """What all have: pages by number, of which the first is the one that is tested."""
+
+    # Whether it answers no more, and whether scripts do what a person would.
+    is_stuck = is_scripted = False
 
     def __init__(self, room):
         self.room = pathlib.Path(tempfile.mkdtemp(prefix=self.name, dir=room))
         self.proxy = Proxy()
         self.start()
+        self.open("about:blank")
+        # The names that each window has.
+        self.names = self.run("Object.getOwnPropertyNames(window)")
 
-    def wait(self, expression, what=None):
-        """Waits until this is true in the page."""
-        end, looks = time.monotonic() + PATIENCE, Looks(self)
-        while not self.run(expression):
-            if time.monotonic() > end or looks.are_enough():
+    @classmethod
+    def is_there(cls):
+        """Returns whether it is installed."""
+        return shutil.which(cls.name) is not None
+
+    def begin(self, words, **how):
+        """Begins its process; what it says is kept in its folder."""
+        # WebKit's own sandbox can't be made by every user.
+        variables = {"HOME": str(self.room), "WEBKIT_DISABLE_SANDBOX_THIS_IS_DANGEROUS": "1"}
+        with open(self.room / "said", "wb") as said:
+            how = {"stdin": subprocess.DEVNULL, "stdout": said} | how
+            self.process = subprocess.Popen(words, stderr=said, env=os.environ | variables,
+                                            start_new_session=True, **how)
+
+    def wait(self, expression, what=None, value=True):
+        """Waits until an expression has this value in the page."""
+        patience = Patience(self)
+        while self.run(expression) != value:
+            if patience.is_over():
                 raise Failed(what or expression)
             time.sleep(0.02)
 
+    @contextlib.contextmanager
+    def elsewhere(self, text):
+        """Turns to another window, where the focus is in a field with this text."""
+        self.turn_to(1)
+        self.run(f"{TEXT}.value = {json.dumps(text)}, {TEXT}.focus()")
+        yield
+        self.turn_to(0)
+
     def write_clipboard(self, text):
         """Puts a text on the clipboard, as one copies it in another window."""
-        self.turn_to(1)
-        self.run(f"{TEXT}.value = {json.dumps(text)}")
-        self.run(f"{TEXT}.focus()")
-        self.press("a", "selectAll")
-        self.press("c", "copy")
-        self.turn_to(0)
+        with self.elsewhere(text):
+            self.press("a", "selectAll")
+            self.press("c", "copy")
 
     def read_clipboard(self):
         """Returns what is on the clipboard, as one pastes it in another window."""
-        self.turn_to(1)
-        self.run(f"{TEXT}.value = ''")
-        self.run(f"{TEXT}.focus()")
-        self.press("v", "paste")
-        found = self.run(f"{TEXT}.value")
-        self.turn_to(0)
-        return found
+        with self.elsewhere(""):
+            self.press("v", "paste")
+            return self.run(f"{TEXT}.value")
 
-    def paste(self):
-        self.press("v", "paste")
+    def complaints(self):
+        """Returns what the page has asked for beside itself, and what it was refused."""
+        return [f"asked for {host}" for host in self.proxy.asked]
+
+    def end(self):
+        """Waits until its process has ended."""
+        self.process.wait()
+        self.proxy.shutdown()
 
     def drop(self, *paths):
         """Drops files onto the page, where only a script can make the events."""
@@ -157,6 +175,14 @@ class Browser:
             "if (kind === 'dragover' && isRefused) break; } })()")
 
 
+# Keys that aren't a letter, as DevTools and as WebDriver name them.
+KEYS = {"Enter": (13, "\ue007"), " ": (32, " "), "Tab": (9, "\ue004"), "PageUp": (33, "\ue00e"),
+        "PageDown": (34, "\ue00f"), "End": (35, "\ue010"), "Home": (36, "\ue011"),
+        "ArrowLeft": (37, "\ue012"), "ArrowUp": (38, "\ue013"), "ArrowRight": (39, "\ue014"),
+        "ArrowDown": (40, "\ue015"), "Backspace": (8, "\ue003"), "Escape": (27, "\ue00c")}
+CONTROL = "\ue009"
+
+
 class Chromium(Browser):
     name = "chromium"
 
@@ -171,16 +197,12 @@ class Chromium(Browser):
             os.dup2(1003, 3)
             os.dup2(1004, 4)
 
-        words = [
+        self.begin([
             "chromium", "--headless", "--no-sandbox", "--disable-gpu", "--remote-debugging-pipe",
             "--disable-background-networking", "--disable-component-update", "--no-first-run",
             "--disable-sync", "--disable-default-apps", "--force-color-profile=srgb",
-            f"--proxy-server=127.0.0.1:{self.proxy.server_address[1]}",
-            "--proxy-bypass-list=<-loopback>", f"--user-data-dir={self.room}", "about:blank"]
-        with open(self.room / "said", "wb") as said:
-            self.process = subprocess.Popen(
-                words, stdin=subprocess.DEVNULL, stdout=said, stderr=said, preexec_fn=hand_over,
-                close_fds=False, env=os.environ | {"HOME": str(self.room)}, start_new_session=True)
+            f"--proxy-server={self.proxy.address}", "--proxy-bypass-list=<-loopback>",
+            f"--user-data-dir={self.room}", "about:blank"], preexec_fn=hand_over, close_fds=False)
         os.close(ask)
         os.close(answer)
         self.number, self.left, self.events = 0, b"", []
@@ -201,8 +223,8 @@ class Chromium(Browser):
         if self.page and not method.startswith(("Target.", "Browser.")):
             said["sessionId"] = self.page
         os.write(self.asks, json.dumps(said).encode() + b"\0")
-        end, looks = time.monotonic() + PATIENCE, Looks(self)
-        while time.monotonic() < end:
+        patience = Patience(self)
+        while True:
             while b"\0" in self.left:
                 line, self.left = self.left.split(b"\0", 1)
                 told = json.loads(line)
@@ -211,16 +233,12 @@ class Chromium(Browser):
                         raise Failed(f"{method}: {told['error']['message']}")
                     return told["result"]
                 self.events.append(told)
-            if select.select([self.answers], [], [], LOOK)[0]:
-                more = os.read(self.answers, 1 << 20)
-                if not more:
-                    self.is_stuck = True
-                    raise Failed("chromium has ended")
-                self.left += more
-            elif looks.are_enough():
-                break
-        self.is_stuck = True
-        raise Failed(method)
+            has_more = select.select([self.answers], [], [], LOOK)[0]
+            more = os.read(self.answers, 1 << 20) if has_more else b""
+            if has_more and not more or not has_more and patience.is_over():
+                self.is_stuck = True
+                raise Failed(f"{method}: chromium doesn't answer")
+            self.left += more
 
     def turn_to(self, page):
         target, self.page = self.sessions[page]
@@ -242,18 +260,13 @@ class Chromium(Browser):
 
     def press(self, key, command=None):
         """Presses a key; a command is what its combination with Ctrl does."""
-        codes = {"Enter": 13, " ": 32, "Tab": 9, "PageUp": 33, "PageDown": 34, "End": 35,
-                 "Home": 36, "ArrowLeft": 37, "ArrowUp": 38, "ArrowRight": 39, "ArrowDown": 40,
-                 "Backspace": 8, "Escape": 27}
-        given = {"key": key, "windowsVirtualKeyCode": codes.get(key, ord(key[0].upper())),
+        code = KEYS[key][0] if key in KEYS else ord(key.upper())
+        given = {"key": key, "windowsVirtualKeyCode": code, "modifiers": 2 if command else 0,
                  "code": key if len(key) > 1 else f"Key{key.upper()}"}
-        if command:
-            given |= {"modifiers": 2, "commands": [command]}
-        elif key == "Enter" or len(key) == 1:
-            given["text"] = "\r" if key == "Enter" else key
-        self.ask("Input.dispatchKeyEvent", type="keyDown", **given)
-        given.pop("text", None)
-        given.pop("commands", None)
+        down = {"commands": [command]} if command else {}
+        if not command and (key == "Enter" or len(key) == 1):
+            down = {"text": "\r" if key == "Enter" else key}
+        self.ask("Input.dispatchKeyEvent", type="keyDown", **given, **down)
         self.ask("Input.dispatchKeyEvent", type="keyUp", **given)
 
     def click(self, selector):
@@ -279,9 +292,9 @@ class Chromium(Browser):
         for kind in ("dragEnter", "dragOver", "drop"):
             self.ask("Input.dispatchDragEvent", type=kind, x=200, y=60, data=data)
 
-    def size(self, width, height, scale=1):
+    def size(self, width=1280, height=800):
         self.ask("Emulation.setDeviceMetricsOverride", width=width, height=height,
-                 deviceScaleFactor=scale, mobile=False)
+                 deviceScaleFactor=1, mobile=False)
 
     def darken(self, is_dark, is_forced=False):
         """Has the page drawn in the dark, or with a few colours that the system forces on it."""
@@ -289,21 +302,11 @@ class Chromium(Browser):
             {"name": "prefers-color-scheme", "value": "dark" if is_dark else "light"},
             {"name": "forced-colors", "value": "active" if is_forced else "none"}])
 
-    def shot(self, path):
-        told = self.ask("Page.captureScreenshot", format="png")
-        pathlib.Path(path).write_bytes(base64.b64decode(told["data"]))
-
-    def begin_with(self, script):
-        """Has each page run a script before its own."""
-        self.ask("Page.addScriptToEvaluateOnNewDocument", source=script)
-
     def complaints(self):
-        """Returns what the page has asked for beside itself, and what it was refused."""
         self.run("0")
-        found = [f"asked for {host}" for host in self.proxy.asked]
-        page = self.sessions[0][1]
+        found = super().complaints()
         for told in self.events:
-            if told.get("sessionId") != page:
+            if told.get("sessionId") != self.sessions[0][1]:
                 continue
             if told["method"] == "Network.requestWillBeSent":
                 url = told["params"]["request"]["url"]
@@ -319,11 +322,11 @@ class Chromium(Browser):
     def close(self):
         os.close(self.asks)
         self.process.terminate()
-        self.process.wait()
+        self.end()
         os.close(self.answers)
-        self.proxy.shutdown()
 
 
+# Marionette sets those by which a browser asks for less by itself.
 PREFERENCES = """
 user_pref("marionette.port", 0);
 user_pref("network.proxy.type", 1);
@@ -333,18 +336,7 @@ user_pref("network.proxy.ssl", "127.0.0.1");
 user_pref("network.proxy.ssl_port", {port});
 user_pref("network.proxy.no_proxies_on", "");
 user_pref("network.proxy.allow_hijacking_localhost", true);
-user_pref("network.captive-portal-service.enabled", false);
-user_pref("network.connectivity-service.enabled", false);
-user_pref("browser.newtabpage.enabled", false);
-user_pref("datareporting.policy.dataSubmissionEnabled", false);
-user_pref("toolkit.telemetry.reportingpolicy.firstRun", false);
-user_pref("app.update.disabledForTesting", true);
 """
-KEYS = {"Enter": "\ue007", "Tab": "\ue004", "PageUp": "\ue00e", "PageDown": "\ue00f",
-        "End": "\ue010", "Home": "\ue011", "ArrowLeft": "\ue012", "ArrowUp": "\ue013",
-        "ArrowRight": "\ue014", "ArrowDown": "\ue015",
-        "Backspace": "\ue003", "Escape": "\ue00c"}
-CONTROL = "\ue009"
 # The messages of the console that are of a policy, or of an error in a page.
 CONSOLE = """
 return Services.console.getMessageArray().filter((it) => it instanceof Ci.nsIScriptError
@@ -359,19 +351,15 @@ class Firefox(Browser):
     def start(self):
         port = self.proxy.server_address[1]
         (self.room / "user.js").write_text(PREFERENCES.replace("{port}", str(port)))
-        with open(self.room / "said", "wb") as said:
-            self.process = subprocess.Popen(
-                ["firefox-esr", "--headless", "--no-remote", "--marionette",
-                 "--remote-allow-system-access", "--profile", str(self.room)],
-                stdin=subprocess.DEVNULL, stdout=said, stderr=said,
-                env=os.environ | {"HOME": str(self.room)}, start_new_session=True)
-        file, end = self.room / "MarionetteActivePort", time.monotonic() + PATIENCE
+        self.begin(["firefox-esr", "--headless", "--no-remote", "--marionette",
+                    "--remote-allow-system-access", "--profile", str(self.room)])
+        file, patience = self.room / "MarionetteActivePort", Patience(self)
         while not file.exists() or not file.read_text().strip():
-            if time.monotonic() > end or self.process.poll() is not None:
+            if patience.is_over() or self.process.poll() is not None:
                 raise Failed("firefox-esr hasn't started")
             time.sleep(0.05)
         self.socket = socket.create_connection(("127.0.0.1", int(file.read_text())), PATIENCE)
-        self.stream, self.number = self.socket.makefile("rb"), 0
+        self.stream = self.socket.makefile("rb")
         self.read()
         self.ask("WebDriver:NewSession", capabilities={"alwaysMatch": {
             "unhandledPromptBehavior": "accept"}})
@@ -391,15 +379,12 @@ class Firefox(Browser):
         return json.loads(self.stream.read(int(digits)))
 
     def ask(self, command, **given):
-        self.number += 1
-        said = json.dumps([0, self.number, command, given]).encode()
+        said = json.dumps([0, 0, command, given]).encode()
         self.socket.sendall(b"%d:%s" % (len(said), said))
-        while True:
-            _, number, error, result = self.read()
-            if number == self.number:
-                if error:
-                    raise Failed(f"{command}: {error['message']}")
-                return result
+        *_, error, result = self.read()
+        if error:
+            raise Failed(f"{command}: {error['message']}")
+        return result
 
     def turn_to(self, page):
         self.ask("WebDriver:SwitchToWindow", handle=self.handles[page], focus=True)
@@ -416,7 +401,7 @@ class Firefox(Browser):
         return next(iter(found.values()))
 
     def press(self, key, command=None):
-        keys = ([CONTROL] if command else []) + [KEYS.get(key, key)]
+        keys = ([CONTROL] if command else []) + [KEYS[key][1] if key in KEYS else key]
         strokes = [{"type": "keyDown", "value": it} for it in keys]
         strokes += [{"type": "keyUp", "value": it} for it in reversed(keys)]
         self.ask("WebDriver:PerformActions", actions=[
@@ -429,7 +414,7 @@ class Firefox(Browser):
         self.ask("WebDriver:ElementSendKeys", id=self.element("#file"),
                  text="\n".join(map(str, paths)))
 
-    def size(self, width, height, scale=1):
+    def size(self, width=1280, height=800):
         self.ask("WebDriver:SetWindowRect", width=width, height=height)
 
     def in_chrome(self, script):
@@ -445,24 +430,19 @@ class Firefox(Browser):
                 ("layout.css.prefers-color-scheme.content-override", int(not is_dark))):
             self.in_chrome(f"Services.prefs.setIntPref('{name}', {number});")
 
-    def shot(self, path):
-        told = self.ask("WebDriver:TakeScreenshot", full=False)["value"]
-        pathlib.Path(path).write_bytes(base64.b64decode(told))
-
     def complaints(self):
-        return [f"asked for {host}" for host in self.proxy.asked] + self.in_chrome(CONSOLE)
+        return super().complaints() + self.in_chrome(CONSOLE)
 
     def close(self):
         try:
             self.ask("Marionette:Quit", flags=["eForceQuit"])
         except (Failed, OSError):
             self.process.kill()
-        self.process.wait()
-        self.proxy.shutdown()
+        self.end()
 
 
 class WebKit(Browser):
-    name = "webkit"
+    name, is_scripted = "webkit", True
     # What its window is made with: Debian's Python, which has the modules for it.
     PYTHON = "/usr/bin/python3"
 
@@ -470,21 +450,12 @@ class WebKit(Browser):
     def is_there(cls):
         """Returns whether there is what its window needs."""
         words = [cls.PYTHON, "-c", "import gi; gi.require_version('WebKit2', '4.1')"]
-        try:
-            found = subprocess.run(words, stderr=subprocess.DEVNULL, check=False).returncode == 0
-        except OSError:
-            found = False
-        return found and all(map(shutil.which, ("xvfb-run", "xauth")))
+        return all(map(shutil.which, ("xvfb-run", "xauth", cls.PYTHON))) and subprocess.run(
+            words, stderr=subprocess.DEVNULL, check=False).returncode == 0
 
     def start(self):
-        proxy = f"http://127.0.0.1:{self.proxy.server_address[1]}"
-        words = ["xvfb-run", "-a", self.PYTHON, "-B", HERE / "webkit.py", proxy]
-        # Its own sandbox can't be made by every user.
-        more = {"HOME": str(self.room), "WEBKIT_DISABLE_SANDBOX_THIS_IS_DANGEROUS": "1"}
-        with open(self.room / "said", "wb") as said:
-            self.process = subprocess.Popen(
-                words, stdin=subprocess.PIPE, stdout=subprocess.PIPE, stderr=said,
-                env=os.environ | more, start_new_session=True)
+        self.begin(["xvfb-run", "-a", self.PYTHON, "-B", HERE / "webkit.py",
+                    f"http://{self.proxy.address}"], stdin=subprocess.PIPE, stdout=subprocess.PIPE)
 
     def ask(self, **given):
         self.process.stdin.write(json.dumps(given).encode() + b"\n")
@@ -513,16 +484,15 @@ class WebKit(Browser):
     def choose(self, *paths):
         self.drop(*paths)
 
-    def size(self, width, height, scale=1):
+    def size(self, width=1280, height=800):
         """Its window has one size, and is light."""
 
     def darken(self, is_dark, is_forced=False):
         """See size."""
 
-    def complaints(self):
-        return [f"asked for {host}" for host in self.proxy.asked]
-
     def close(self):
         self.process.stdin.close()
-        self.process.wait()
-        self.proxy.shutdown()
+        self.end()
+
+
+KINDS = {it.name: it for it in (Chromium, Firefox, WebKit)}

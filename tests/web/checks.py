@@ -1,8 +1,9 @@
-"""What is tried of the page, each with one that was opened anew. A check returns how many cases it
-has compared, or raises Wrong.
+"""What is tried of the page, each check with one that was opened anew. A check counts its cases by
+the page, and raises Wrong at the first that isn't as it has to be.
 """
 import base64
 import hashlib
+import itertools
 import json
 import re
 import time
@@ -10,13 +11,15 @@ import time
 import browsers
 import inputs
 import made
-from expected import HEADING, MARK, ROW, columns_of, drawn, view
-from page import FOCUSED, SAID, SELECTED, Page, Wrong, private_in, want, wanted_rows
+import programs
+from expected import after, drawn, view
+from inputs import CERTIFICATE, EMPTY, KEY, SECRETS, TWO_BLOCKS, element, pem
+from page import FOCUSED, SAID, SELECTED, Page, Wrong, about, private_in, row_at
 
-# What the page is told to copy, where the clipboard itself isn't looked at.
+# What the page copies is kept in it, where the clipboard itself isn't looked at.
 KEEPS = """navigator.clipboard.writeText = async (text) => {
-  document.documentElement.dataset.copied = text; };"""
-LARGE = list(inputs.large())
+  document.documentElement.dataset.copied = text; }, 0"""
+SHOW = "$('#list .row button').click()"
 
 
 def tries(check, browser, room, file=None):
@@ -28,13 +31,13 @@ def tries(check, browser, room, file=None):
         file.write_text(made.page(before), encoding="utf-8")
     try:
         browser.proxy.asked.clear()
-        count = check(Page(browser, file), room)
-        complaints = [] if check is needs else browser.complaints()
-        if complaints:
-            raise Wrong("; ".join(complaints))
-        return count, ""
+        page = Page(browser, file, room)
+        check(page)
+        if check is not needs:
+            page.want(browser.complaints(), [], "what the browser says")
+        return page.cases, ""
     except (Wrong, browsers.Failed) as reason:
-        return 0, str(reason) or "it failed"
+        return 0, str(reason)
     finally:
         if not browser.is_stuck:
             forget(browser)
@@ -43,332 +46,272 @@ def tries(check, browser, room, file=None):
 def forget(browser):
     """Clears what a check or a fault has kept, so that it isn't found again. A page that is being
     left can't run anything, so it is tried again."""
-    end, looks = time.monotonic() + browsers.PATIENCE, browsers.Looks(browser)
+    patience = browsers.Patience(browser)
     while True:
         try:
             return browser.run("(localStorage.clear(), sessionStorage.clear(), window.name = '', "
                                "indexedDB.deleteDatabase('last'), 0)")
         except browsers.Failed:
-            if time.monotonic() > end or looks.are_enough():
+            if patience.is_over():
                 raise
             time.sleep(0.1)
 
 
-def stored_examples(page, room):
+def stored_examples(page):
     """The inputs of the pictures drawn by hand: dropped, chosen and pasted, and copied."""
-    number = 0
-    for number, (name, data) in enumerate(inputs.drawn()):
-        path = room / f"example-{number}"
-        path.write_bytes(data)
-        ways = [lambda: page.drop(path), lambda: page.choose(path)]
-        if all(byte < 0x80 for byte in data) and data[:1] == b"-":
-            ways = [lambda: page.paste(data.decode())]
-        ways[number % len(ways)]()
-        try:
+    for number, (name, data, *_) in enumerate(programs.drawn_by_hand()):
+        if data.startswith(b"-") and data.isascii():
+            page.paste(data.decode())
+        else:
+            give = page.choose if number % 2 else page.drop
+            give(page.store(f"example-{number}", data))
+        with about(name):
             page.compare(data)
-            want(page.copied("#copy"), drawn(data), "what is copied")
-        except Wrong as reason:
-            raise Wrong(f"{name}: {reason}")
-    return number + 1
+            page.want(page.copied("#copy"), drawn(data), "what is copied")
 
 
-def other_ways(page, room):
+def other_ways(page):
     """Hexadecimal and base64 that are pasted, text that is typed, and files that are no key."""
-    tried = 0
-    for name, text in inputs.pasted():
-        page.run(f"document.getElementById('{'typed' if tried % 2 else 'copy'}').focus()")
+    for number, (name, text) in enumerate(inputs.PASTED.items()):
+        page.run(f"$('#{'typed' if number % 2 else 'copy'}').focus()")
         page.paste(text)
-        try:
+        with about(name):
             page.compare(text.encode())
-        except Wrong as reason:
-            raise Wrong(f"{name}: {reason}")
-        left = page.run("document.getElementById('typed').value")
-        want(left, "", "what is left of a paste in its field")
-        tried += 1
+        page.see("$('#typed').value", "", "what is left of a paste in its field")
     page.clear()
-    page.run("document.getElementById('typed').focus()")
-    page.press(*"0500")
-    page.browser.wait("document.querySelectorAll('#list .row').length === 1")
-    page.browser.wait(f"JSON.stringify({SAID}) === "
-                      + json.dumps(json.dumps(said_of(b"0500"), separators=(",", ":"))))
+    page.type("0500")
+    page.wait("$$('#list .row').length", value=1)
+    page.wait(SAID, value=view(b"0500").said)
     page.compare(b"0500")
-    want(page.run("document.activeElement.id"), "typed", "the focus after a digit")
+    page.see("document.activeElement.id", "typed", "the focus after a digit")
     page.press(*["Backspace"] * 4)
-    page.browser.wait("document.getElementById('name').hidden", "an emptied field's picture")
-    page.press(*"05")
-    page.wait_for("Text")
-    page.paste("0500")
-    want(page.run("document.getElementById('typed').value"), "", "typed text beside a paste")
-    page.run("document.getElementById('typed').focus()")
-    page.press(*"05")
-    page.wait_for("Text")
-    path = room / "beside"
-    path.write_bytes(inputs.KEY)
-    page.drop(path)
-    want(page.run("document.getElementById('typed').value"), "", "typed text beside a file")
-    page.run("document.getElementById('typed').focus()")
-    page.press(*"05")
-    page.wait_for("Text")
-    page.clear()
-    want(page.run("document.getElementById('typed').value"), "", "typed text after Clear")
-    return tried + 6
-
-
-def said_of(given):
-    return [line.words.strip() for line in view(given)[0] if line.kind not in (ROW, MARK)]
+    page.wait("$('#name').hidden", "an emptied field's picture")
+    for what, act in (("beside a paste", lambda: page.paste("0500")),
+                      ("beside a file", lambda: page.drop(page.store("beside", KEY))),
+                      ("after Clear", page.clear)):
+        page.type("05")
+        page.wait_for("Text")
+        act()
+        page.see("$('#typed').value", "", f"typed text {what}")
 
 
 # ---- the table by keys
 
-def keys(page, room):
+def keys(page):
     """The table is walked by keys: the focus, and the row that is selected."""
-    data = inputs.certificate()
-    rows = [line for line in page.give(room, "certificate", data)[0] if line.kind == ROW]
-    want(page.run(FOCUSED), "0", "the focus after a file was chosen")
-    table, tried = Tree([line.depth for line in rows]), 1
-    steps = (["ArrowDown"] * 7 + ["ArrowUp"] * 2 + ["End", "ArrowDown", "Home", "ArrowUp"]
-             + ["ArrowRight"] * 3 + ["ArrowDown"] * 2 + ["ArrowLeft"] * 3
-             + ["ArrowDown", "ArrowUp", "ArrowRight", "ArrowRight"]
-             + ["End", "ArrowLeft", "ArrowLeft", "ArrowLeft", "ArrowLeft", "ArrowRight", "Home"]
-             # Two that are folded, one behind the other.
-             + ["ArrowDown", "ArrowDown", "ArrowLeft", "ArrowDown", "ArrowDown", "ArrowLeft",
-                "ArrowDown", "End", "Home", "ArrowDown", "ArrowDown", "ArrowRight"]
-             + ["ArrowDown"] * 3 + ["ArrowRight", "Home"])
-    for key in steps:
+    rows = page.give("certificate", CERTIFICATE).rows
+    page.see(FOCUSED, "0", "the focus after a file was chosen")
+    table = Tree(rows)
+    letters = {"D": "ArrowDown", "U": "ArrowUp", "L": "ArrowLeft", "R": "ArrowRight",
+               "E": "End", "H": "Home"}
+    # Then two are folded, one behind the other.
+    for letter in "DDDDDDDUUEDHURRRDDLLLDURRELLLLRH" "DDLDDLDEHDDRDDDRH":
+        key = letters[letter]
         page.press(key)
         table.press(key)
         compare_table(page, table, key)
-        tried += 1
-    levels = [row[4] for row in page.rows()]
-    want(levels, [rows[at].depth + 1 for at in table.seen], "the levels")
-    roles = page.run("[...document.querySelectorAll('[role]')].map((it) => "
-                     "it.getAttribute('role'))")
-    want(set(roles), {"status", "search", "treegrid", "rowgroup", "row", "columnheader",
-                      "gridcell"}, "roles")
-    if page.browser.name != "webkit":
+    page.want([row.level for row in page.rows()], [rows[at].depth + 1 for at in table.seen],
+              "the levels")
+    roles = page.run("$$('[role]').map((it) => it.getAttribute('role'))")
+    page.want(set(roles), {"status", "search", "treegrid", "rowgroup", "row", "columnheader",
+                           "gridcell"}, "roles")
+    if not page.browser.is_scripted:
         page.press("Tab")
-        want(page.run("document.activeElement.closest('#list .row') === null"), True,
-             "the table is left by one Tab")
-    return tried + 3 + combined(page, room) + over_parts(page, room)
+        page.see("document.activeElement.closest('#list .row')", None,
+                 "the table is left by one Tab")
+    combined(page)
+    over_parts(page)
 
 
 class Tree:
-    """What the keys of a tree do with rows of these depths."""
+    """What the keys of a tree do with rows."""
 
-    def __init__(self, depths):
-        self.depths, self.at, self.folded = depths, 0, set()
+    def __init__(self, rows):
+        self.rows, self.at, self.folded = rows, 0, set()
 
-    def after(self, at):
-        return next((it for it in range(at + 1, len(self.depths))
-                     if self.depths[it] <= self.depths[at]), len(self.depths))
+    def has_inside(self, at):
+        """Returns whether there are rows inside of one."""
+        return after(self.rows, at) > at + 1
 
     @property
     def seen(self):
+        """The places of the rows that aren't folded away."""
         seen, at = [], 0
-        while at < len(self.depths):
+        while at < len(self.rows):
             seen.append(at)
-            at = self.after(at) if at in self.folded else at + 1
+            at = after(self.rows, at) if at in self.folded else at + 1
         return seen
 
     def press(self, key):
+        """Does what a key does."""
         seen, at = self.seen, self.at
-        has_more = self.after(at) > at + 1
-        place = seen.index(at)
-        if key == "ArrowLeft" and has_more and at not in self.folded:
+        if key == "ArrowLeft" and self.has_inside(at) and at not in self.folded:
             self.folded.add(at)
         elif key == "ArrowLeft":
             self.at = next((it for it in range(at, -1, -1)
-                            if self.depths[it] < self.depths[at]), at)
+                            if self.rows[it].depth < self.rows[at].depth), at)
         elif key == "ArrowRight" and at in self.folded:
             self.folded.remove(at)
         elif key == "ArrowRight":
-            self.at = at + 1 if has_more else at
+            self.at = at + self.has_inside(at)
         else:
             step = {"ArrowDown": 1, "ArrowUp": -1, "End": len(seen), "Home": -len(seen)}[key]
-            self.at = seen[min(max(place + step, 0), len(seen) - 1)]
+            self.at = seen[min(max(seen.index(at) + step, 0), len(seen) - 1)]
 
 
 def compare_table(page, table, key):
-    want(page.run(FOCUSED), str(table.at), f"the focus after {key}")
+    """Compares the rows with those of a tree."""
+    page.see(FOCUSED, str(table.at), f"the focus after {key}")
     rows = page.rows()
-    want([row[0] for row in rows if row[5]], [table.at], f"what is selected after {key}")
-    want([row[0] for row in rows], table.seen, f"which rows there are after {key}")
-    folds = page.run("[...document.querySelectorAll('#list .row')].map((it) => "
-                     "it.getAttribute('aria-expanded'))")
-    wanted = [None if table.after(at) == at + 1 else "false" if at in table.folded else "true"
+    page.want([row.index for row in rows if row.selected], [table.at],
+              f"what is selected after {key}")
+    page.want([row.index for row in rows], table.seen, f"which rows there are after {key}")
+    wanted = [str(at not in table.folded).lower() if table.has_inside(at) else None
               for at in table.seen]
-    want(folds, wanted, f"which rows are folded after {key}")
+    page.see("$$('#list .row').map((it) => it.getAttribute('aria-expanded'))", wanted,
+             f"which rows are folded after {key}")
 
 
-def combined(page, room):
+def combined(page):
     """Keys with Ctrl, and a letter, move nothing. A click selects, and one on the mark folds."""
-    page.run("document.querySelector('#list [aria-selected=true]').focus()")
-    page.browser.click('#list .row[data-index="2"] .element')
-    want(page.run(SELECTED), [2], "what a click selects")
-    if page.browser.name != "webkit":
+    page.run("$('#list [aria-selected=true]').focus()")
+    page.click(f"{row_at(2)} .element")
+    page.see(SELECTED, [2], "what a click selects")
+    if not page.browser.is_scripted:
         page.browser.press("ArrowDown", "none")
-        want(page.run(SELECTED), [2], "what is selected after Ctrl and an arrow")
-    page.browser.click('#list .row[data-index="2"] .fold')
-    want(page.run("document.querySelector('#list .row[data-index=\"3\"]') === null"), True,
-         "what a click on the mark folds")
-    page.browser.click('#list .row[data-index="2"] .fold')
-    page.browser.click('#dump span[data-row="5"]')
-    want(page.run(SELECTED), [5], "the row of a byte that is clicked")
-    page.browser.click('#list .row[data-index="4"] .element')
+        page.see(SELECTED, [2], "what is selected after Ctrl and an arrow")
+    page.click(f"{row_at(2)} .fold")
+    page.see(f"$('{row_at(3)}')", None, "what a click on the mark folds")
+    page.click(f"{row_at(2)} .fold")
+    page.click('#dump span[data-row="5"]')
+    page.see(SELECTED, [5], "the row of a byte that is clicked")
+    page.click(f"{row_at(4)} .element")
     page.press("ArrowUp", "ArrowUp", "ArrowLeft")
-    want(page.run(SELECTED), [2], "the row that is folded")
-    page.browser.click('#dump span[data-row="3"]')
-    want(page.run(SELECTED), [3], "the row of a byte that was folded")
-    lines, _ = page.give(room, "behind", inputs.certificate() + inputs.KEY)
-    last = sum(line.kind == ROW for line in lines) - 1
+    page.see(SELECTED, [2], "the row that is folded")
+    page.click('#dump span[data-row="3"]')
+    page.see(SELECTED, [3], "the row of a byte that was folded")
+    rows = page.give("behind", CERTIFICATE + KEY).rows
     page.press("End", "ArrowLeft")
-    want(page.run(SELECTED), [last], "what is outside of a row behind the root")
-    return 7
+    page.see(SELECTED, [len(rows) - 1], "what is outside of a row behind the root")
 
 
-def over_parts(page, room):
+def over_parts(page):
     """Arrows stay in a part, and headings are rows."""
-    lines, _ = page.give(room, "two.pem", dict(inputs.pasted())["two blocks"].encode())
-    items = [line for line in lines if line.kind in (ROW, HEADING)]
-    second = next(at for at, line in enumerate(items) if line.kind == HEADING and at)
+    items = page.give("two.pem", TWO_BLOCKS.encode()).items
+    second = next(item.index for item in items if item.level == 0 and item.index)
     page.press("End")
-    want(page.run(FOCUSED), str(len(items) - 1), "the focus on the last part's end")
-    found = page.run("document.getElementById('where').textContent")
-    if not found.startswith(items[second].words):
-        raise Wrong(f"where the row is: {found}")
-    page.run(f"document.querySelector('#list .row[data-index=\"{second + 1}\"] .element').click()")
-    page.press("ArrowLeft", "ArrowLeft")
-    want(page.run(SELECTED), [second + 1], "what is outside of a part's root")
-    page.press("ArrowUp")
-    want(page.run(SELECTED), [second], "the heading")
-    page.press("ArrowRight")
-    want(page.run(SELECTED), [second], "what is inside of a heading")
-    want(page.text("#where"), items[second].words, "where the heading is")
-    page.press("ArrowUp", "ArrowRight")
-    want(page.run(SELECTED), [second - 1], "what is inside of the last row of a part")
-    return 6
+    page.see(FOCUSED, str(len(items) - 1), "the focus on the last part's end")
+    heading = items[second].columns[0]
+    page.want(page.text("#where")[:len(heading)], heading, "where the row is")
+    page.select(second + 1)
+    for pressed, selected, what in (
+            (["ArrowLeft"] * 2, second + 1, "what is outside of a part's root"),
+            (["ArrowUp"], second, "the heading"),
+            (["ArrowRight"], second, "what is inside of a heading"),
+            (["ArrowUp", "ArrowRight"], second - 1, "what is inside of the last row of a part")):
+        page.press(*pressed)
+        page.see(SELECTED, [selected], what)
+        if selected == second:
+            page.want(page.text("#where"), heading, "where the heading is")
 
 
 # ---- private bytes
 
-def private_bytes(page, room):
+def private_bytes(page):
     """Private bytes are hidden until they are shown, row by row, by a key and by the button."""
-    page.run(f"(() => {{ {KEEPS} }})()") if page.browser.name == "webkit" else None
-    tried = 0
-    for name, data, secrets in inputs.secrets():
-        path = room / name
-        path.write_bytes(data)
-        page.choose(path)
+    page.run(KEEPS)
+    by_key = itertools.cycle((False, True))
+    for name, data, secrets in SECRETS:
+        page.choose(page.store(name, data))
         page.unseen(secrets, name)
-        lines, parts = page.compare(data)
-        rows = [line for line in lines if line.kind == ROW]
-        for at, line in enumerate(rows):
+        given = page.compare(data)
+        for line in given.rows:
             if line.hidden:
-                tried += 1
-                turn(page, lines, parts[-1 if name == "crlf.pem" else 0], rows, at, tried % 2 == 0)
+                turn(page, given, line, next(by_key))
         page.unseen(secrets, f"{name}, where rows were shown and hidden")
         page.clear()
-        want(page.text("#dump") + page.text("#list") + page.text("#value"), "", "what is left")
+        page.want(page.text("#dump") + page.text("#list") + page.text("#value"), "", "what is left")
         page.unseen(secrets, f"{name}, after Clear")
-    return tried
 
 
-def turn(page, lines, data, rows, at, by_key):
+def turn(page, given, line, by_key):
     """Shows the private bytes of a row, and hides them again."""
-    line = rows[at]
-    row = f'#list .row[data-index="{at}"]'
-    for shown in ([line], []):
+    row, field = row_at(given.rows.index(line)), line.columns[4]
+    for word, shown, wanted in (("hide", [line], field.replace(", not shown", "")),
+                                ("show", [], field)):
         if by_key:
-            page.run(f"document.querySelector('{row}').focus()")
-            page.browser.click(f"{row} .element")
+            page.run(f"$('{row}').focus()")
+            page.click(f"{row} .element")
             page.press("Enter")
         else:
-            page.browser.click(f"{row} button")
-        page.browser.wait(f"document.querySelector('{row} button').textContent === "
-                          f"'{'hide' if shown else 'show'}'")
-        page.compare_bytes(lines, data, line, shown)
-        if page.run("document.querySelectorAll('#list button').length") != sum(
-                row.hidden for row in rows):
-            raise Wrong("a button is missing")
-        field = page.run(f"document.querySelector('{row} .field').firstChild.nodeValue")
-        wanted = columns_of(line)[4]
-        want(field, wanted.replace(", not shown", "") if shown else wanted, "the field's name")
-        want(page.run(f"document.querySelector('{row} button').getAttribute('aria-label')"),
-             f"{'hide' if shown else 'show'} the private bytes", "what the button says")
-        hidden = page.text("#where").endswith(", hidden")
-        want(hidden, not shown, "whether it is said to be hidden")
+            page.click(f"{row} button")
+        page.wait(f"$('{row} button').textContent", value=word)
+        page.compare_bytes(given, line, shown)
+        page.see(f"""[$$('#list button').length, $('{row} .field').firstChild.nodeValue,
+                 $('{row} button').getAttribute('aria-label')]""",
+                 [sum(it.hidden for it in given.rows), wanted, f"{word} the private bytes"],
+                 "how many buttons there are, the field's name, and what the button says")
+        page.want(page.text("#where").endswith(", hidden"), not shown,
+                  "whether it is said to be hidden")
 
 
-def everywhere(page, room):
+def everywhere(page):
     """After each input and each key no private byte is anywhere in the document, in what a browser
     keeps, or on the clipboard; and the second of two keys is veiled where the first one's were
     shown."""
-    before = page.run("[history.length, window.name, document.title, location.href, "
-                      "document.cookie]")
-    page.run("navigator.clipboard.writeText('')") if page.browser.name == "webkit" else None
-    tried = 0
-    for name, data, secrets in inputs.secrets():
-        others = [it for it in inputs.secrets() if it[0] != name and it[2] != secrets]
-        page.give(room, name, data)
+    page.run(KEEPS)
+    kept = "[history.length, window.name, document.title, location.href, document.cookie]"
+    before = page.run(kept)
+    for number, (name, data, secrets) in enumerate(SECRETS):
+        page.give(name, data)
         page.unseen(secrets, name)
         for key in ("ArrowDown", "ArrowDown", "ArrowLeft", "ArrowRight", "End", "PageUp",
                     "PageDown", "Home", "a"):
             page.press(key)
             page.unseen(secrets, f"{name}, after {key}")
-            tried += 1
-        page.run("document.querySelector('#list .row button').click()")
-        page.browser.wait("document.querySelector('#list .row button').textContent === 'hide'")
+        page.run(SHOW)
+        page.wait("$('#list .row button').textContent", value="hide")
         page.unseen(secrets[1:], f"{name}, where one row is shown")
         # Another file, with its private content at the same row.
         second = bytes(7 * byte % 256 for byte in secrets[0])
         changed = data.replace(secrets[0], second)
         if changed != data:
-            page.give(room, f"second-{name}", changed)
+            page.give(f"second-{name}", changed)
             page.unseen([second, *secrets], f"{name}, behind one that was shown")
-            tried += 1
-        page.give(room, *others[tried % len(others)][:2])
-        page.unseen(others[tried % len(others)][2], "the next one")
-        page.run("document.querySelector('#list .row button').click()")
+        others = [it for it in SECRETS if it[0] != name and it[2] != secrets]
+        other, data, secrets = others[number % len(others)]
+        page.give(other, data)
+        page.unseen(secrets, "the next one")
+        page.run(SHOW)
         page.clear()
-        page.unseen(others[tried % len(others)][2], "after Clear")
-        tried += 3
-    want(page.run("[history.length, window.name, document.title, location.href, document.cookie]"),
-         before, "what the browser keeps")
-    want(page.run("(async () => [localStorage.length, sessionStorage.length, history.state, "
-                  "(await indexedDB.databases?.() ?? []).length])()"), [0, 0, None, 0],
-         "what is stored")
-    return tried + 2
+        page.unseen(secrets, "after Clear")
+    page.see(kept, before, "what the browser keeps")
+    page.see("(async () => [localStorage.length, sessionStorage.length, history.state, "
+             "(await indexedDB.databases?.() ?? []).length])()", [0, 0, None, 0], "what is stored")
 
 
-def clipboards(page, room):
+def clipboards(page):
     """What is copied has no private byte that isn't shown."""
-    tried = 0
-    for name, data, secrets in inputs.secrets():
-        page.give(room, name, data)
-        want(page.copied("#copy"), drawn(data), "what is copied")
-        page.run("document.querySelector('#list .row button').click()")
-        page.browser.wait("document.getElementById('value').textContent !== ''")
-        want(private_in(page.copied("#copy"), secrets), None, f"{name}: what is copied")
-        line = next(line for line in view(data)[0] if line.hidden)
+    for name, data, secrets in SECRETS:
+        page.give(name, data)
+        page.want(page.copied("#copy"), drawn(data), "what is copied")
+        page.run(SHOW)
+        page.wait("$('#value').textContent !== ''")
+        page.want(private_in(page.copied("#copy"), secrets), None, f"{name}: what is copied")
         if name == "key.der":
-            want(page.copied("#copy-bytes").lower(), secrets[0].hex(), "the bytes that are copied")
-        page.run("document.querySelector('#list .row button').click()")
-        want(page.run("[...document.querySelectorAll('#copy-value, #copy-bytes')].map((it) => "
-                      "it.checkVisibility())"), [False, False], f"buttons at {line.offset}")
-        tried += 4
-        if not page.run("document.getElementById('all').hidden"):
-            page.browser.click("#all")
-            page.browser.wait("document.getElementById('all').getAttribute('aria-pressed') === "
-                              "'true' && document.querySelector('#said p') !== null")
-            if private_in(page.copied("#copy"), secrets, 8):
-                raise Wrong(f"{name}: private bytes in the copy of all rows")
-            if private_in(page.everywhere(), secrets, 8):
-                raise Wrong(f"{name}: private bytes where all rows are shown")
-            tried += 2
-    return tried
+            page.want(page.copied("#copy-bytes").lower(), secrets[0].hex(),
+                      "the bytes that are copied")
+        page.run(SHOW)
+        page.see("$$('#copy-value, #copy-bytes').map((it) => it.checkVisibility())",
+                 [False, False], f"{name}: buttons of what is hidden")
+        if not page.run("$('#all').hidden"):
+            page.turn_all(True)
+            page.want(private_in(page.copied("#copy"), secrets, 8), None,
+                      f"{name}: private bytes in the copy of all rows")
+            page.unseen(secrets, f"{name}, where all rows are shown", 8)
 
 
-def policy(page, room):
+def policy(page):
     """What the page says that the browser may do, and keep."""
     text = page.file.read_text(encoding="utf-8")
     script, style = (re.search(f"<{name}>(.*?)</{name.split()[0]}>", text, re.S)[1] for name in (
@@ -378,723 +321,589 @@ def policy(page, room):
     wanted = (f"default-src 'none'; script-src 'sha256-{digests[0]}' 'wasm-unsafe-eval'; "
               f"worker-src blob:; style-src 'sha256-{digests[1]}'; base-uri 'none'; "
               "form-action 'none'")
-    want(re.findall(r'Content-Security-Policy" content="([^"]*)"', text), [wanted], "the policy")
-    if not text.index("Content-Security-Policy") < text.index("<style"):
-        raise Wrong("the policy comes late")
-    want(re.findall(r"<meta name=\"referrer\" content=\"([^\"]*)\"", text), ["no-referrer"],
-         "what is said to others")
+    page.want(re.findall(r'Content-Security-Policy" content="([^"]*)"', text), [wanted],
+              "the policy")
+    page.want(text.index("Content-Security-Policy") < text.index("<style"), True,
+              "the policy comes early")
+    page.want(re.findall(r"<meta name=\"referrer\" content=\"([^\"]*)\"", text), ["no-referrer"],
+              "what is said to others")
     for name in ("typed", "wanted"):
-        found = page.run(f"['autocomplete', 'spellcheck'].map((it) => "
-                         f"document.getElementById('{name}').getAttribute(it))")
-        want(found, ["off", "false"], f"what the browser does with #{name}")
+        page.see(f"['autocomplete', 'spellcheck'].map((it) => $('#{name}').getAttribute(it))",
+                 ["off", "false"], f"what the browser does with #{name}")
     for name in ("src=", "href=", "http:", "https:", "<iframe", "<form", "<link"):
-        if name in text.replace(script, ""):
-            raise Wrong(f"{name} is in the page")
-    want(text.count("<script"), 1, "how many scripts there are")
-    return 7
+        page.want(name in text.replace(script, ""), False, f"{name} is in the page")
+    page.want(text.count("<script"), 1, "how many scripts there are")
 
 
-def buffers(page, room):
+def buffers(page):
     """Each buffer that the page was given is overwritten, or given away, when it isn't needed."""
-    look = """(() => { document.documentElement.dispatchEvent(new Event('buffers'));
-      return JSON.parse(document.documentElement.dataset.buffers); })()"""
-    tried = 0
-    for name, data, secrets in inputs.secrets():
-        page.give(room, f"buffer-{tried}", data)
-        page.run("document.querySelector('#list .row button').click()")
-        if sum(page.run(look)) == 0:
-            raise Wrong("no buffer of the page is seen")
-        if tried % 2:
+    for number, (name, data, _) in enumerate(SECRETS):
+        page.give(f"buffer-{number}", data)
+        page.run(SHOW)
+        page.see("total(kept) > 0", True, "a buffer of the page is seen")
+        if number % 2:
             page.clear()
-            want(sum(page.run(look)), 0, f"{name}: bytes in buffers after Clear")
-            want(page.run("window.begun.every((it) => it.isEnded)"), True, "the worker is ended")
+            page.see("total(kept)", 0, f"{name}: bytes in buffers after Clear")
+            page.see("workers.every((it) => it.isEnded)", True, "the worker is ended")
         else:
-            page.run("document.documentElement.dispatchEvent(new Event('forget'))")
-            page.give(room, "other", bytes([5, 0]))
-            want(page.run("(document.documentElement.dispatchEvent(new Event('old')), "
-                          "document.documentElement.dataset.old)"), "0",
-                 f"{name}: bytes in buffers after the next file")
-        tried += 1
-    page.give(room, "left", inputs.KEY)
+            page.run("window.old = kept.splice(0), 0")
+            page.give("other", bytes([5, 0]))
+            page.see("total(old)", 0, f"{name}: bytes in buffers after the next file")
+    page.give("left", KEY)
     page.run("dispatchEvent(new Event('pagehide'))")
-    want(sum(page.run(look)), 0, "bytes in buffers where the page is left")
-    want(page.run("[document.getElementById('typed').value, "
-                  "document.getElementById('list').textContent]"), ["", ""], "what is left")
-    return tried + 2
+    page.see("total(kept)", 0, "bytes in buffers where the page is left")
+    page.see("[$('#typed').value, $('#list').textContent]", ["", ""], "what is left")
 
 
-def memory(page, room):
+def memory(page):
     """The module's memory has no byte of a key once a picture is drawn, and is small again."""
-    look = """new Promise((resolve) => { const [worker] = window.workers.slice(-1);
+    look = """new Promise((resolve) => { const worker = workers.at(-1);
       worker.addEventListener('message', ({ data }) => resolve(data.seen), { once: true });
       worker.postMessage({ look: true }); })"""
-    number = 0
-    for number, (name, data, _) in enumerate(inputs.secrets()):
-        page.give(room, f"memory-{number}", data)
+    given = {name: data for name, data, _ in SECRETS}
+    for name, data in [*given.items(), ("all", EMPTY), *inputs.LARGE.items()]:
+        page.give(name, data)
+        if name == "all":
+            page.run("$('#all').click()")
+            page.wait("$$('#list .row').length > 4")
         left, size = page.run(look)
-        want(left, -1, f"{name}: where a byte of the memory is another")
-        if number == 0:
-            want(size <= 4 << 20, True, f"a memory of {size} bytes")
-    page.give(room, "all", EMPTY)
-    page.run("document.getElementById('all').click()")
-    page.browser.wait("document.querySelectorAll('#list .row').length > 4")
-    want(page.run(look)[0], -1, "where a byte of the memory is another after all rows")
-    page.give(room, LARGE[0][0], LARGE[0][1])
-    left, size = page.run(look)
-    want([left, size <= 4 << 20], [-1, True], f"a memory of {size} bytes after a large one")
-    return number + 3
+        page.want(left, -1, f"{name}: where a byte of the memory is another")
+        if name in ["key.der", *inputs.LARGE]:
+            page.want(size <= 4 << 20, True, f"{name}: a memory of {size} bytes")
 
 
 # ---- what a person looks for
 
-# A key whose private key has no bytes: what is behind it has no rows until all are asked for.
-EMPTY = inputs.KEY[:6] + b"\0" + inputs.KEY[7:]
-
-NAMES_IN_CERTIFICATE = [
-    ("D\u00dcnit & S\u00f6hne", "D\u00dcnit & S\u00f6hne"),
-    ("\u0130\u017f\u4e2d\u6587 \u0440\u0443", "\u0130\u017f\u4e2d\u6587 \u0440\u0443"),
-    ("pay\u202epal", "pay\\u{202E}pal"), ("zero\u200bwidth", "zero\\u{200B}width"),
-    ("soft\u00adhyphen", "soft\\u{AD}hyphen"), ("hard\u00a0blank", "hard\\u{A0}blank"),
-    ("tag\U000e0041", "tag\\u{E0041}"), ("private\ue000", "private\\u{E000}"),
-    ("filler\u3164", "filler\\u{3164}"), ("line\u2028end", "line\\u{2028}end"),
-    ("\u0301mark", "\\u{301}mark"), ("cafe\u0301", "cafe\u0301"),
-    ("\u0939\u093f\u0928\u094d\u0926\u0940", "\u0939\u093f\u0928\u094d\u0926\u0940"),
-    ("a\\b \\u{DC}", "a\\\\b \\\\u{DC}"), ('"quoted"', '\\"quoted\\"'),
-    ("two  blanks", "two  blanks")]
+# Names, and how they are shown.
+NAMES = {
+    "D\u00dcnit & S\u00f6hne": "D\u00dcnit & S\u00f6hne",
+    "\u0130\u017f\u4e2d\u6587 \u0440\u0443": "\u0130\u017f\u4e2d\u6587 \u0440\u0443",
+    "pay\u202epal": "pay\\u{202E}pal", "zero\u200bwidth": "zero\\u{200B}width",
+    "soft\u00adhyphen": "soft\\u{AD}hyphen", "hard\u00a0blank": "hard\\u{A0}blank",
+    "tag\U000e0041": "tag\\u{E0041}", "private\ue000": "private\\u{E000}",
+    "filler\u3164": "filler\\u{3164}", "line\u2028end": "line\\u{2028}end",
+    "\u0301mark": "\\u{301}mark", "cafe\u0301": "cafe\u0301",
+    "\u0939\u093f\u0928\u094d\u0926\u0940": "\u0939\u093f\u0928\u094d\u0926\u0940",
+    "a\\b \\u{DC}": "a\\\\b \\\\u{DC}", '"quoted"': '\\"quoted\\"',
+    "two  blanks": "two  blanks"}
 
 
-def named(texts, tag=12, code="utf-8"):
-    """A certificate with these texts as common names of its issuer."""
-    whole = inputs.certificate()
+def named(*texts, tag=12, code="utf-8"):
+    """Returns a certificate with these texts as common names of its issuer."""
     names = b"".join(
-        inputs.element(0x31, inputs.element(0x30, bytes.fromhex("0603550403")
-                                            + inputs.element(tag, text.encode(code))))
+        element(0x31, element(0x30, bytes.fromhex("0603550403") + element(tag, text.encode(code))))
         for text in texts)
     # Its issuer stands behind the algorithm of the signature.
-    tbs, rest = whole[8:8 + 328], whole[336:]
-    issuer = inputs.element(0x30, names)
-    return inputs.element(0x30, inputs.element(0x30, tbs[:39] + issuer + tbs[39 + 57:]) + rest)
+    tbs = CERTIFICATE[8:47] + element(0x30, names) + CERTIFICATE[104:336]
+    return element(0x30, element(0x30, tbs) + CERTIFICATE[336:])
 
 
-def values(page, room):
+def names_in(page):
+    """Returns the columns of the rows that have a name."""
+    return [row.columns for row in page.rows() if row.columns[3].startswith("UTF8String")]
+
+
+def values(page):
     """Values as a person reads them: names with their letters, numbers, and copies of both."""
-    lines, _ = page.give(room, "names", named([text for text, _ in NAMES_IN_CERTIFICATE]))
-    found = [row[1][3] for row in page.rows() if row[1][3].startswith("UTF8String")]
-    wanted = [f'UTF8String "{shown}"' for _, shown in NAMES_IN_CERTIFICATE]
-    want(found[:len(wanted)], wanted, "the names")
+    data = named(*NAMES)
+    lines = page.give("names", data).rows
+    found = names_in(page)
+    wanted = [f'UTF8String "{shown}"' for shown in NAMES.values()]
+    page.want([it[3] for it in found][:len(wanted)], wanted, "the names")
     # None where the line has no room for it.
-    fields = [columns_of(line)[4] for line in lines if line.kind == ROW and "UTF8" in line.words]
-    want(set(fields), {"", "value"}, "the fields of the lines")
-    want([row[1][4] for row in page.rows() if row[1][3].startswith("UTF8String")], fields,
-         "the fields beside the names")
-    rows = page.rows()
-    tried = 2
-    data = named([text for text, _ in NAMES_IN_CERTIFICATE])
-    for row in rows:
-        words = row[1][3]
-        offset = int(row[1][0])
+    fields = [line.columns[4] for line in lines if "UTF8" in line.words]
+    page.want(set(fields), {"", "value"}, "the fields of the lines")
+    page.want([it[4] for it in found], fields, "the fields beside the names")
+    for row in page.rows():
+        words, offset = row.columns[3], int(row.columns[0])
         if not words.startswith(("UTF8String", "INTEGER, 20", "INTEGER 2", "UTCTime")):
             continue
-        page.run(f"document.querySelector('#list .row[data-index=\"{row[0]}\"] .element').click()")
+        page.select(row.index)
         shown = page.text("#value")
         content = data[offset + 2:][:data[offset + 1]]
         if words.startswith("UTF8String"):
             # In a row what ends it is escaped too.
-            want(shown, words[12:-1].replace('\\"', '"').replace("\\\\", "\\"), "a name's value")
+            page.want(shown, words[12:-1].replace('\\"', '"').replace("\\\\", "\\"),
+                      "a name's value")
         elif words.startswith("INTEGER, 20"):
             number = content.hex(":").upper()
-            want(shown, f"{number} ({int.from_bytes(content, 'big')})", "the serial number")
-            want(page.copied("#copy-value"), number, "a copied serial number")
-            want(page.copied("#copy-bytes"), content.hex().upper(), "its copied bytes")
-        elif words.startswith("INTEGER 2"):
-            want(shown, "2", "the version")
+            page.want(shown, f"{number} ({int.from_bytes(content, 'big')})", "the serial number")
+            page.want(page.copied("#copy-value"), number, "a copied serial number")
+            page.want(page.copied("#copy-bytes"), content.hex().upper(), "its copied bytes")
         else:
-            want(shown, words[8:], "a time")
-        tried += 1
-    tried += negative(page, room)
-    for tag, code in ((30, "utf-16-be"), (28, "utf-32-be"), (22, "latin-1")):
-        text = "M\u00fcller" if tag > 22 else "Mueller"
-        page.give(room, code, named([text], tag, code))
-        at = next(row[0] for row in page.rows() if row[1][0] == "58")
-        page.run(f"document.querySelector('#list .row[data-index=\"{at}\"] .element').click()")
-        want(page.text("#value"), text, f"a name in {code}")
-        tried += 1
-    # One that is cut off in its line, and one that isn't in it.
-    for long in ("Ein langer Name, " * 7, "Ein sehr langer Name, " * 20):
-        page.give(room, "long name", named([long]))
-        found = [row[1][3] for row in page.rows() if row[1][3].startswith("UTF8String")]
-        want(found[0], f'UTF8String "{long}"', "a long name")
-    return tried + 2
-
-
-def negative(page, room):
-    """Numbers with and without a sign, which stand in a certificate for its serial number."""
-    whole = inputs.certificate()
+            page.want(shown, words[8:], "the version, or a time")
+    # Numbers with and without a sign, in the place of the serial number.
     for content, shown in ((b"\xff", "-1"), (b"\x80", "-128"), (b"\0\x80", "128"),
                            (b"\0" + b"\xab" * 9, ":".join(["AB"] * 9)),
                            (b"\xab" * 9, str(int.from_bytes(b"\xab" * 9, "big", signed=True)))):
-        tbs = whole[8:13] + inputs.element(2, content) + whole[35:336]
-        page.give(room, "number", inputs.element(0x30, inputs.element(0x30, tbs) + whole[336:]))
-        page.run("document.querySelector('#list .row[data-index=\"4\"] .element').click()")
-        want(page.text("#value").split(" (")[0], shown, "a number")
-    return 5
+        tbs = CERTIFICATE[8:13] + element(2, content) + CERTIFICATE[35:336]
+        page.give("number", element(0x30, element(0x30, tbs) + CERTIFICATE[336:]))
+        page.select(4)
+        page.want(page.text("#value").split(" (")[0], shown, "a number")
+    for tag, code, text in ((30, "utf-16-be", "M\u00fcller"), (28, "utf-32-be", "M\u00fcller"),
+                            (22, "latin-1", "Mueller")):
+        page.give(code, named(text, tag=tag, code=code))
+        page.select(next(row.index for row in page.rows() if row.columns[0] == "58"))
+        page.want(page.text("#value"), text, f"a name in {code}")
+    # One that is cut off in its line, and one that isn't in it.
+    for long in ("Ein langer Name, " * 7, "Ein sehr langer Name, " * 20):
+        page.give("long name", named(long))
+        page.want(names_in(page)[0][3], f'UTF8String "{long}"', "a long name")
 
 
-def searching(page, room):
+def searching(page):
     """Rows are found by text, name, identifier and offset, also those that are folded."""
-    data = named(["Example", "M\u00fcller GmbH", "x" * 90 + "needle"])
-    lines, _ = page.give(room, "searched", data)
-    rows = [line for line in lines if line.kind == ROW]
-    places = {columns_of(line)[3]: at for at, line in enumerate(rows)}
-    m_place = next(at for words, at in places.items() if "ller" in words)
-    needle = next(at for words, at in places.items() if "xxxx" in words)
-    serial = next(at for at, line in enumerate(rows) if "serialNumber" in line.words)
-    curve = next(at for at, line in enumerate(rows) if "1.2.840.10045.3.1.7" in line.words)
-    wanted = [("m\u00fcller", m_place), ("serialnumber", serial), ("1.2.840.10045.3.1.7", curve),
-              ("SERIALNUMBER", serial), ("P-256", curve), ("needle", needle), ("0", 0),
-              (str(rows[5].offset), 5), (str(rows[4].offset + 3), 4)]
-    for text, place in wanted:
-        looked(page, text)
-        want(page.run(SELECTED), [place], f"what is found for {text}")
-    names = [at for at, line in enumerate(rows) if "commonName" in line.words]
-    looked(page, "commonname")
-    page.browser.click("#next")
-    found_at(page, names)
+    rows = page.give("searched", named("Example", "M\u00fcller GmbH", "x" * 90 + "needle")).rows
+    umlaut, needle, serial, curve = (
+        next(at for at, row in enumerate(rows) if text in row.words)
+        for text in ("ller", "xxxx", "serialNumber", "1.2.840.10045.3.1.7"))
+    for text, place in (
+            ("m\u00fcller", umlaut), ("serialnumber", serial), ("1.2.840.10045.3.1.7", curve),
+            ("SERIALNUMBER", serial), ("P-256", curve), ("needle", needle), ("0", 0),
+            (str(rows[5].offset), 5), (str(rows[4].offset + 3), 4)):
+        look_for(page, text)
+        page.see(SELECTED, [place], f"what is found for {text}")
+    names = [at for at, row in enumerate(rows) if "commonName" in row.words]
+    look_for(page, "commonname")
+    page.click("#next")
+    page.wait(f"{names}.includes({SELECTED}[0])", "nothing is found")
     for key, step in (("#next", 1), ("#before", -1)):
         at = page.run(SELECTED)[0]
-        page.browser.click(key)
-        page.browser.wait(f"{SELECTED}[0] !== {at}")
-        want(page.run(SELECTED), [names[(names.index(at) + step) % len(names)]], f"{key}")
-    looked(page, "no such row")
-    want(page.text("#found"), "No row has it", "what is said where nothing is found")
+        page.click(key)
+        page.wait(f"{SELECTED}[0] !== {at}")
+        page.see(SELECTED, [names[(names.index(at) + step) % len(names)]], key)
+    look_for(page, "no such row")
+    page.want(page.text("#found"), "No row has it", "what is said where nothing is found")
     # A row that is folded away.
-    page.browser.click('#list .row[data-index="0"] .fold')
-    want(page.run("document.querySelectorAll('#list .row').length"), 1, "the folded rows")
-    looked(page, "needle")
-    want(page.run(SELECTED), [needle], "a folded row that is found")
-    page.press("Escape") if page.browser.name != "webkit" else None
-    want(page.run(FOCUSED) if page.browser.name != "webkit" else str(needle), str(needle),
-         "the focus after Escape")
+    page.click(f"{row_at(0)} .fold")
+    page.see("$$('#list .row').length", 1, "the folded rows")
+    look_for(page, "needle")
+    page.see(SELECTED, [needle], "a folded row that is found")
+    page.press("Escape")
+    page.see(FOCUSED, str(needle), "the focus after Escape")
     page.press("/")
-    want(page.run("document.activeElement.id"), "wanted", "the focus after /")
+    page.see("document.activeElement.id", "wanted", "the focus after /")
     # A text that isn't in its line.
-    rows = [line for line in page.give(room, "long", named(["y" * 400 + "thread"]))[0]
-            if line.kind == ROW]
-    looked(page, "thread")
-    want(columns_of(rows[page.run(SELECTED)[0]])[3], "UTF8String, 406 bytes", "a long text")
-    return len(wanted) + 8
+    rows = page.give("long", named("y" * 400 + "thread")).rows
+    look_for(page, "thread")
+    page.want(rows[page.run(SELECTED)[0]].columns[3], "UTF8String, 406 bytes", "a long text")
 
 
-def looked(page, text):
+def look_for(page, text):
     """Looks for a text, and waits for what is found."""
-    page.run(f"(document.getElementById('wanted').value = {json.dumps(text)}, "
-             "document.getElementById('wanted').focus(), "
-             "document.getElementById('found').textContent = '')")
+    page.run(f"$('#wanted').value = {json.dumps(text)}, $('#wanted').focus(), "
+             "$('#found').textContent = ''")
     page.press("Enter")
-    page.browser.wait("document.getElementById('found').textContent !== ''",
-                      f"{text} isn't looked for")
+    page.wait("$('#found').textContent !== ''", f"{text} isn't looked for")
 
 
-def found_at(page, places):
-    page.browser.wait(f"{json.dumps(places)}.includes({SELECTED}[0])", "nothing is found")
-
-
-def all_rows(page, room):
+def all_rows(page):
     """The rows of what isn't drawn, with what is veiled still veiled, and back again."""
-    tried = 0
-    key = inputs.KEY
+    parts = pem("EC PRIVATE KEY", EMPTY) + pem("CERTIFICATE", CERTIFICATE)
     for name, data in (
-            ("empty", EMPTY), ("cut", key[:60]),
-            ("longer", key[:6] + b"\x21" + key[7:38] + b"\x63" + key[38:]),
-            ("behind", inputs.certificate() + key),
-            ("indefinite", b"\x30\x80" + key[2:39] + b"\xA0\x80" + key[41:51] + b"\0\0"
-             + key[51:60]),
-            ("text.pem", inputs.pem("EC PRIVATE KEY", EMPTY).encode()
-             + inputs.pem("CERTIFICATE", inputs.certificate()).encode())):
-        page.give(room, name, data)
-        lines, parts = view(data)
-        want(page.run("document.getElementById('all').checkVisibility()"), True, "the button")
-        if "--all" in page.run("document.body.innerText"):
-            raise Wrong("an option of the program is named")
-        page.browser.click("#all")
-        page.browser.wait("document.getElementById('all').getAttribute('aria-pressed') === 'true' "
-                          "&& document.querySelector('#said p') !== null")
-        wanted = all_of(data, lines, parts)
-        want([[row[1][0], row[1][1], row[3], row[4]] for row in page.rows() if len(row[1]) == 5],
-             wanted, f"{name}: all rows")
-        marks = {(row[1][0], mark) for row in page.rows() for mark in row[2]}
-        missing = {(row[1][0], mark) for row in wanted_rows(lines, len(parts))
-                   for mark in row[2] if "may be" not in mark and "after the" not in mark} - marks
-        want(missing, set(), f"{name}: marks that don't stay")
-        want([row[2] for row in page.rows() if len(set(row[2])) < len(row[2])], [],
-             f"{name}: marks that stand there twice")
-        last = page.run(SAID)[-1]
-        want(last, said_of(data)[-1], "what is said last")
+            ("empty", EMPTY), ("cut", KEY[:60]),
+            ("longer", KEY[:6] + b"\x21" + KEY[7:38] + b"\x63" + KEY[38:]),
+            ("behind", CERTIFICATE + KEY),
+            ("indefinite", b"\x30\x80" + KEY[2:39] + b"\xA0\x80" + KEY[41:51] + b"\0\0"
+             + KEY[51:60]),
+            ("text.pem", parts.encode())):
+        given = page.give(name, data)
+        page.see_shown("#all", True, "the button")
+        page.see("document.body.innerText.includes('--all')", False, "an option of the program")
+        page.turn_all(True)
+        rows = page.rows()
+        page.want([[*row.columns[:2], row.button, row.level] for row in rows
+                   if len(row.columns) == 5], all_of(data, given), f"{name}: all rows")
+        marks = {(row.columns[0], mark) for row in rows for mark in row.marks}
+        wanted = {(item.columns[0], mark) for item in given.items for mark in item.marks
+                  if "may be" not in mark and "after the" not in mark}
+        page.want(wanted - marks, set(), f"{name}: marks that don't stay")
+        page.want([row.marks for row in rows if len(set(row.marks)) < len(row.marks)], [],
+                  f"{name}: marks that stand there twice")
+        page.want(page.run(SAID)[-1], given.said[-1], "what is said last")
         # Behind a root nothing is drawn.
-        want(page.text("#copied"), "There are no more rows" * (name == "behind"), "what is said")
-        page.browser.click("#all")
-        page.browser.wait("document.getElementById('all').getAttribute('aria-pressed') === 'false' "
-                          "&& document.querySelector('#said p') !== null")
+        page.want(page.text("#copied"), "There are no more rows" * (name == "behind"),
+                  "what is said")
+        page.turn_all(False)
         page.compare(data)
-        tried += 3
-    page.give(room, "whole", inputs.KEY)
-    want(page.run("document.getElementById('all').checkVisibility()"), False,
-         "the button where all is drawn")
-    return tried + 1
+    page.give("whole", KEY)
+    page.see_shown("#all", False, "the button where all is drawn")
 
 
-def all_of(data, lines, parts):
+def all_of(data, given):
     """Returns offset, header, button and level of each row of the text with all contents."""
-    open_rows = {(line.part, line.offset, line.header, line.content) for line in lines
-                 if line.kind == ROW and not line.hidden}
+    open_rows = {(row.part, row.offset, row.header, row.content)
+                 for row in given.rows if not row.hidden}
     found, part = [], 0
     for words in drawn(data, True).splitlines():
         row = re.match(r" *(\d+)((?: [0-9A-F]{2})*) +(?:\d+|\?)  ( *)", words)
         if words.startswith("PEM at"):
             part += bool(found)
         elif row and not words.startswith(" " * 20):
-            found.append([part, row[1], row[2].strip(), len(row[3]) // 2])
+            found.append((part, int(row[1]), row[2].strip(), len(row[3]) // 2))
     rows = []
-    for at, (part, offset, header, depth) in enumerate(found):
-        after = found[at + 1] if at + 1 < len(found) and found[at + 1][0] == part else None
-        begin, size = int(offset), len(header.split())
-        end = int(after[1]) if after else len(parts[part])
-        key = (part, begin, size, end - begin - size)
-        hidden = key[3] > 0 and (key not in open_rows or size == 0)
-        rows.append([offset, header, "show" if hidden else None, depth + 1])
+    for (part, offset, header, depth), behind in itertools.zip_longest(found, found[1:]):
+        end = behind[1] if behind and behind[0] == part else len(given.parts[part])
+        size = len(header.split())
+        content = end - offset - size
+        hidden = content > 0 and (size == 0 or (part, offset, size, content) not in open_rows)
+        rows.append([str(offset), header, "show" if hidden else None, depth + 1])
     return rows
 
 
-def several_files(page, room):
+def several_files(page):
     """Files that are given together: each has its own picture, and nothing of another one's."""
-    given = [(name, data, secrets) for name, data, secrets in inputs.secrets()][:5]
+    given = SECRETS[:5]
     given.insert(2, ("none <b>.txt", b"hello", []))
-    paths = [room / name for name, *_ in given]
-    for path, (_, data, _) in zip(paths, given):
-        path.write_bytes(data)
-    page.browser.choose(*paths)
-    page.wait_for(given[0][0])
-    want(page.run("[...document.querySelectorAll('#files option')].map((it) => it.textContent)"),
-         [name for name, *_ in given], "the names of the files")
-    want(page.run("document.querySelector('#several').checkVisibility()"), True, "the list")
+    names = [name for name, *_ in given]
+    page.browser.choose(*(page.store(name, data) for name, data, _ in given))
+    page.wait_for(names[0])
+    page.see("$$('#files option').map((it) => it.textContent)", names, "the names of the files")
+    page.see_shown("#several", True, "the list")
     # Where files are dropped, the field isn't asked.
-    want(page.run("document.getElementById('file').multiple"), True, "the field takes several")
+    page.see("$('#file').multiple", True, "the field takes several")
     for at in (2, 4, 1, 0, 3, 5):
         name, data, secrets = given[at]
-        page.run(f"(document.getElementById('files').value = '{at}', "
-                 "document.getElementById('files').dispatchEvent(new Event('change')))")
+        page.run(f"$('#files').value = '{at}', $('#files').dispatchEvent(new Event('change'))")
         page.wait_for(name)
         page.compare(data)
         page.unseen([it for _, _, contents in given for it in contents], name)
         if secrets:
-            page.run("document.querySelector('#list .row button').click()")
-    want(page.run("document.querySelector('#name b')"), None, "a name as HTML")
-    page.choose(paths[0])
-    want(page.run("document.querySelector('#several').checkVisibility()"), False, "the list of one")
+            page.run(SHOW)
+    page.see("$('#name b')", None, "a name as HTML")
+    page.choose(page.room / names[0])
+    page.see_shown("#several", False, "the list of one")
     page.clear()
-    want(page.run("document.querySelectorAll('#files option').length"), 0, "the list after Clear")
-    return 11
+    page.see("$$('#files option').length", 0, "the list after Clear")
 
 
 # ---- what is large, and what lasts
 
-def large(page, room):
-    """A megabyte is drawn in a second, and its rows as they are scrolled to."""
-    for name, data, lines in LARGE:
-        path = room / name
-        path.write_bytes(data)
-        begin = time.monotonic()
-        page.choose(path)
-        page.browser.wait("document.querySelector('#list .row') !== null")
-        seconds = time.monotonic() - begin
-        print(f"{page.browser.name}: {name}, {len(data)} bytes: {seconds:.2f} s", flush=True)
-        wanted = list(wanted_rows(lines, 1))
+def large(page):
+    """A megabyte is drawn, and its rows as they are scrolled to."""
+    for name, data in inputs.LARGE.items():
+        wanted = page.give(name, data).items
         for key, at in (("End", len(wanted) - 1), ("PageUp", None), ("Home", 0), ("PageDown", None),
                         ("ArrowDown", None)):
-            before = page.run(SELECTED)
+            before = page.run(SELECTED)[0]
             page.press(key)
             compare_sight(page, wanted, at)
-            after = page.run(SELECTED)
-            if key.startswith("Page") and abs(after[0] - before[0]) < 5:
-                raise Wrong(f"{key} moves from {before} to {after}")
+            if key.startswith("Page"):
+                moved = page.run(SELECTED)[0] - before
+                page.want(abs(moved) >= 5, True, f"{key} moves by {moved}")
         for share in (0.5, 0.123, 1, 0):
-            page.run("(() => { const list = document.getElementById('list');"
+            page.run("(() => { const list = $('#list');"
                      f"list.scrollTop = {share} * (list.scrollHeight - list.clientHeight);"
                      "})()")
             at = min(int(share * len(wanted)), len(wanted) - 1)
-            page.browser.wait(f"document.querySelector('#list .row[data-index=\"{at}\"]') !== null",
-                              f"the rows at {share} of the list aren't made")
+            page.wait(f"$('{row_at(at)}') !== null", f"the rows at {share} of the list aren't made")
             compare_sight(page, wanted)
-        if page.browser.name != "webkit":
+        if not page.browser.is_scripted:
             page.browser.size(1280, 300)
             page.browser.size(1280, 1000)
-            page.browser.wait(f"{BOX}[1]", "the rows fill a box that has grown")
+            page.wait(f"{BOX}[1]", "the rows fill a box that has grown")
             compare_sight(page, wanted)
-            page.browser.size(1280, 800)
-        last = columns_of(lines[-1])
-        looked(page, last[0])
-        want(page.run(SELECTED), [len(wanted) - 1], "a row that is found out of sight")
-        looked(page, "sequence")
-        want(page.run(SELECTED), [0], "the first row, found from the last one on")
-        page.run("document.querySelector('#list .row[data-index=\"0\"] .fold').click()")
-        want([row[0] for row in page.rows()], [0], "the rows of a folded root")
-        page.run("document.querySelector('#list .row[data-index=\"0\"] .fold').click()")
-        want(len(page.rows()) > 10, True, "the rows of an unfolded root")
-    return 13 * len(LARGE)
+            page.browser.size()
+        look_for(page, wanted[-1].columns[0])
+        page.see(SELECTED, [len(wanted) - 1], "a row that is found out of sight")
+        look_for(page, "sequence")
+        page.see(SELECTED, [0], "the first row, found from the last one on")
+        fold = f"$('{row_at(0)} .fold').click()"
+        page.run(fold)
+        page.want([row.index for row in page.rows()], [0], "the rows of a folded root")
+        page.run(fold)
+        page.want(len(page.rows()) > 10, True, "the rows of an unfolded root")
 
 
 def compare_sight(page, wanted, selected=None):
     """Compares the rows that are made of a long picture, which fill the box."""
     found = page.rows()
-    first = found[0][0]
-    want([row[:5] for row in found], wanted[first:first + len(found)], "the rows in sight")
+    first = found[0].index
+    page.want([row[:5] for row in found], wanted[first:first + len(found)], "the rows in sight")
     compare_box(page, selected)
 
 
 # Whether the rows fill their box, from its top on and to its bottom, and the selected one is in it.
-BOX = (
-    "(() => { const box = document.getElementById('list').getBoundingClientRect();"
-    "const rows = [...document.querySelectorAll('#list .row')];"
-    "const at = (row) => row.getBoundingClientRect();"
-    "const current = document.querySelector('#list [aria-selected=true]');"
-    "return [at(rows[0]).top <= box.top + 1, at(rows.at(-1)).bottom >= box.bottom - 1,"
-    "current && at(current).top >= box.top - 1 && at(current).bottom <= box.bottom + 1]; })()")
+BOX = """(() => { const box = $('#list').getBoundingClientRect();
+  const rows = $$('#list .row');
+  const at = (row) => row.getBoundingClientRect();
+  const current = $('#list [aria-selected=true]');
+  return [at(rows[0]).top <= box.top + 1, at(rows.at(-1)).bottom >= box.bottom - 1,
+    current && at(current).top >= box.top - 1 && at(current).bottom <= box.bottom + 1]; })()"""
 
 
 def compare_box(page, selected=None):
     """Compares where rows lie with the box that they have to fill."""
     box = page.run(BOX)
-    want(box[:2], [True, True], "the rows fill the box")
+    page.want(box[:2], [True, True], "the rows fill the box")
     if selected is not None:
-        want([page.run(SELECTED), box[2]], [[selected], True], "the selected row")
+        page.want([page.run(SELECTED), box[2]], [[selected], True], "the selected row")
 
 
-def limits(page, room):
+def limits(page):
     """A file of 16,777,215 bytes is drawn, a longer one isn't, and long contents are veiled."""
-    for size in (16_777_215, 16_777_216):
-        content = b"\x5a\xa5\x33\xcc" * (size // 4)
-        data = (inputs.element(0x30, bytes([2, 1, 1]) + inputs.element(4, content))[:size])
-        path = room / f"{size}.der"
-        path.write_bytes(data)
-        page.browser.choose(path)
-        page.wait_for(path.name)
-        if size > 16_777_215:
-            want(page.run(SAID), ["more than 16,777,215 bytes"], "what is said of a long file")
-            want(page.run("document.querySelector('#panes').checkVisibility()"), False, "its rows")
-            continue
-        want(page.run("document.querySelectorAll('#list .row').length > 0"), True, "rows of 16 MB")
-        page.run("(document.getElementById('dump').scrollTop = 1e9, 0)")
-        page.browser.wait("[...document.querySelectorAll('#dump .at')].at(-1).textContent > "
-                          "16000000")
-        page.unseen([content[:32]], "16 MB of private bytes, at their end")
-        path.unlink()
+    content = b"\x5a\xa5\x33\xcc" * (16_777_215 // 4)
+    whole = element(0x30, bytes([2, 1, 1]) + element(4, content))
+    path = page.store("most.der", whole[:16_777_215])
+    page.choose(path)
+    page.see("$$('#list .row').length > 0", True, "rows of 16 MB")
+    page.run("$('#dump').scrollTop = 1e9")
+    page.wait("$$('#dump .at').at(-1).textContent > 16000000")
+    page.unseen([content[:32]], "16 MB of private bytes, at their end")
+    path.unlink()
+    page.choose(page.store("longer.der", whole[:16_777_216]))
+    page.see(SAID, ["more than 16,777,215 bytes"], "what is said of a long file")
+    page.see_shown("#panes", False, "its rows")
     # As many rows as an engine can't lay out at their height.
     count = 4_000_000
-    path = room / "rows.der"
-    path.write_bytes(inputs.element(0x30, bytes([10, 2, 85, 1]) * count))
+    path = page.store("rows.der", element(0x30, bytes([10, 2, 85, 1]) * count))
     page.choose(path)
     for key, at in (("End", count), ("PageUp", None), ("Home", 0), ("ArrowDown", 1)):
         page.press(key)
         compare_box(page, at)
     path.unlink()
-    name, data, secrets = next(it for it in inputs.secrets() if it[0] == "long.der")
-    page.give(room, name, data)
+    name, data, secrets = next(it for it in SECRETS if it[0] == "long.der")
+    page.give(name, data)
     for share in (0, 0.3, 0.6, 1):
-        page.run("(() => { const it = document.getElementById('dump');"
-                 f"it.scrollTop = {share} * it.scrollHeight; }})()")
+        page.run(f"$('#dump').scrollTop = {share} * $('#dump').scrollHeight")
         time.sleep(0.2)
         page.unseen(secrets, f"{name}, at {share}")
     # What is in sight of them stays where they are shown and hidden.
     page.press("End")
-    page.run("(document.getElementById('dump').scrollTop = 2000, 0)")
+    page.run("$('#dump').scrollTop = 2000")
     for word in ("hide", "show"):
         page.press("Enter")
-        want(page.run("[document.querySelector('#list button').textContent, "
-                      "document.getElementById('dump').scrollTop]"), [word, 2000], "the bytes")
-    return 15
+        page.see("[$('#list button').textContent, $('#dump').scrollTop]", [word, 2000], "the bytes")
 
 
-def stopping(page, room):
+def stopping(page):
     """What lasts says so, and is stopped; the page goes on while it is drawn."""
-    path = room / "nulls.der"
-    path.write_bytes(inputs.element(0x30, bytes([5, 0]) * 8_000_000))
-    page.browser.choose(path)
-    page.browser.wait("document.getElementById('busy').checkVisibility()", "nothing is said")
-    if not re.match(r"Drawing 16,000,00\d bytes: \d+ s", page.text("#doing")):
-        raise Wrong(f"what is said: {page.text('#doing')}")
-    page.browser.click("#stop")
-    page.browser.wait("document.querySelector('#said p') !== null")
-    want(page.run(SAID), ["Stopped: nothing is drawn."], "what is said of what was stopped")
-    want(page.run("document.getElementById('busy').checkVisibility()"), False, "the line")
-    page.give(room, "after", inputs.KEY)
-    page.compare(inputs.KEY)
+    path = page.store("nulls.der", element(0x30, bytes([5, 0]) * 8_000_000))
+
+    def begin():
+        page.browser.choose(path)
+        page.wait("$('#busy').checkVisibility()", "nothing is said")
+
+    begin()
+    said = page.text("#doing")
+    is_right = bool(re.match(r"Drawing 16,000,00\d bytes: \d+ s", said))
+    page.want(is_right, True, f"what is said: {said}")
+    page.click("#stop")
+    page.wait("$('#said p') !== null")
+    page.see(SAID, ["Stopped: nothing is drawn."], "what is said of what was stopped")
+    page.see_shown("#busy", False, "the line")
+    page.give("after", KEY)
+    page.compare(KEY)
     # Another input ends what lasts, and so does Clear.
-    page.browser.choose(path)
-    page.browser.wait("document.getElementById('busy').checkVisibility()")
-    page.give(room, "after", inputs.KEY)
-    page.compare(inputs.KEY)
-    page.browser.choose(path)
-    page.browser.wait("document.getElementById('busy').checkVisibility()")
+    begin()
+    page.give("after", KEY)
+    page.compare(KEY)
+    begin()
     page.clear()
-    want(page.run("document.getElementById('busy').checkVisibility()"), False, "the line")
+    page.see_shown("#busy", False, "the line")
     path.unlink()
-    return 6
 
 
 # ---- how it looks
 
+# Which texts differ too little from what is behind them, and by how much.
 CONTRAST = """(() => {
   const channel = (it) => it <= 0.04045 ? it / 12.92 : ((it + 0.055) / 1.055) ** 2.4;
-  const parse = (text) => { const it = text.match(/[\\d.]+/g).map(Number);
-    return [it[0], it[1], it[2], it[3] ?? 1]; };
   const light = ([r, g, b]) => 0.2126 * channel(r / 255) + 0.7152 * channel(g / 255)
     + 0.0722 * channel(b / 255);
-  const ground = (it) => {
-    if (!it) return [255, 255, 255];
-    const [r, g, b, a] = parse(getComputedStyle(it).backgroundColor);
-    if (a === 1) return [r, g, b];
-    const below = ground(it.parentElement);
-    return [r, g, b].map((one, at) => one * a + below[at] * (1 - a)); };
-  const least = [99, ''];
-  const take = (it, color, name) => {
-    const under = ground(it);
-    const [r, g, b, a] = parse(color);
-    const over = [r, g, b].map((one, at) => one * a + under[at] * (1 - a));
-    const [one, two] = [light(over), light(under)].sort((a, b) => b - a);
-    const found = (one + 0.05) / (two + 0.05);
-    if (found < least[0]) least.splice(0, 2, found, name);
+  const over = (color, below) => {
+    const [r, g, b, a = 1] = color.match(/[\\d.]+/g).map(Number);
+    return [r, g, b].map((one, at) => one * a + below[at] * (1 - a));
   };
-  for (const it of document.body.querySelectorAll('*')) {
-    if (it.closest('script, style') || !it.checkVisibility()) continue;
+  const ground = (it) => it ? over(getComputedStyle(it).backgroundColor, ground(it.parentElement))
+    : [255, 255, 255];
+  const contrast = (it, part) => {
+    const below = ground(it);
+    const above = over(getComputedStyle(it, part).color, below);
+    const [less, more] = [light(above), light(below)].sort((a, b) => a - b);
+    return (more + 0.05) / (less + 0.05);
+  };
+  return $$('body *').filter((it) => it.checkVisibility()).flatMap((it) => {
     const hasText = [...it.childNodes].some((at) => at.nodeType === 3 && at.nodeValue.trim());
-    const name = `${it.tagName} ${it.id} ${it.className} ${it.textContent.slice(0, 20)}`;
-    if (hasText) take(it, getComputedStyle(it).color, name);
-    if (it.placeholder) take(it, getComputedStyle(it, '::placeholder').color, `in ${name}`);
-    if (it.matches('.fold')) take(it, getComputedStyle(it, '::before').color, `in ${name}`);
-  }
-  return least;
+    const parts = [[hasText, null], [it.placeholder, '::placeholder'],
+      [it.matches('.fold'), '::before']];
+    return parts.filter(([isThere]) => isThere).map(([, part]) => [contrast(it, part),
+      `${it.tagName} ${it.id} ${it.className}`, it.textContent.slice(0, 20), part]);
+  }).filter(([found]) => found < 4.5);
 })()"""
 # What is out of sight though it has a text, and which buttons are small.
-HIDDEN = """[...document.querySelectorAll('#said p, #list .row > *, #dump .bytes span, #where,'
-  + ' #name, .columns > *')].filter((it) => it.textContent.trim()).filter((it) => {
+HIDDEN = """$$(`#said p, #list .row > *, #dump .bytes span, #where, #name,
+  .columns > *`).filter((it) => {
   const { left, right, width, height } = it.getBoundingClientRect();
   const style = getComputedStyle(it);
-  return !it.checkVisibility({ opacityProperty: true, visibilityProperty: true }) || right <= 0
-    || left >= innerWidth || !width || !height || style.opacity < 1 || style.textIndent !== '0px'
-    || parseFloat(style.fontSize) < 11; }).map((it) => it.textContent.slice(0, 30))"""
-SMALL = """[...document.querySelectorAll('button, .fold, select, .ways label')]
-  .filter((it) => it.checkVisibility()).filter((it) => {
-    const { width, height } = it.getBoundingClientRect();
-    return width < 23.9 || height < (it.matches('.fold') ? 18 : 23.9); })
-  .map((it) => `${it.textContent} ${it.className}`)"""
+  return it.textContent.trim() && (right <= 0 || left >= innerWidth || !width || !height
+    || !it.checkVisibility({ opacityProperty: true, visibilityProperty: true })
+    || style.opacity < 1 || style.textIndent !== '0px' || parseFloat(style.fontSize) < 11);
+}).map((it) => it.textContent.slice(0, 30))"""
+SMALL = """$$('button, .fold, select, .ways label').filter((it) => {
+  const { width, height } = it.getBoundingClientRect();
+  return it.checkVisibility() && (width < 23.9 || height < (it.matches('.fold') ? 18 : 23.9));
+}).map((it) => `${it.textContent} ${it.className}`)"""
 
 
-def style(page, room):
+def style(page):
     """All is in sight, its colours differ enough, and what is pressed is large enough, in the light
     and in the dark."""
-    tried = 0
-    page.browser.size(1280, 800)
     looks = [(False, False), (True, False)] + [(False, True)] * (page.browser.name == "chromium")
     for is_dark, is_forced in looks:
         page.browser.darken(is_dark, is_forced)
-        for name, data in (("key.der", inputs.KEY), ("two.pem", dict(
-                inputs.pasted())["two blocks"].encode()), ("damaged", inputs.KEY[:60])):
-            page.give(room, name, data)
+        for name, data in (("key.der", KEY), ("two.pem", TWO_BLOCKS.encode()),
+                           ("damaged", KEY[:60])):
+            page.give(name, data)
             for step in ("Home", "ArrowDown", "ArrowDown", "Enter", "End"):
                 page.press(step)
-                least, what = page.run(CONTRAST)
-                if least < 4.5:
-                    raise Wrong(f"a contrast of {least:.2f} {'in the dark' * is_dark}: {what}")
-                want(page.run(HIDDEN), [], "what isn't in sight")
-                want(page.run(SMALL), [], "what is small")
-                tried += 3
+                page.see(CONTRAST, [], f"contrasts {'in the dark' * is_dark}")
+                page.see(HIDDEN, [], "what isn't in sight")
+                page.see(SMALL, [], "what is small")
         page.clear()
-        least, what = page.run(CONTRAST)
-        if least < 4.5:
-            raise Wrong(f"a contrast of {least:.2f}: {what}")
-    return tried + 2
+        page.see(CONTRAST, [], f"contrasts of an empty page {'in the dark' * is_dark}")
 
 
-def focus(page, room):
+def focus(page):
     """Where the focus is, is seen."""
-    page.browser.size(1280, 800)
-    page.give(room, "several", EMPTY)
+    page.give("several", EMPTY)
     # Before Tab leads out of the page.
-    page.browser.click("#list .row .element")
+    page.click("#list .row .element")
     page.press("ArrowDown")
-    want(page.run("[getComputedStyle(document.activeElement).outlineStyle, "
-                  "document.activeElement.className]"), ["solid", "row"], "the focus of a row")
+    page.see("[getComputedStyle(document.activeElement).outlineStyle, "
+             "document.activeElement.className]", ["solid", "row"], "the focus of a row")
     # The button by Tab and Enter, which turns once, and keeps the focus.
     page.press("End", "Tab")
-    page.press("Enter")
-    want(page.run("[document.activeElement.tagName, document.activeElement.textContent]"),
-         ["BUTTON", "hide"], "the button after Enter")
-    page.press(" ")
-    want(page.run("[document.activeElement.tagName, document.activeElement.textContent]"),
-         ["BUTTON", "show"], "the button after a blank")
-    page.run("document.getElementById('file').focus()")
+    for key, word in (("Enter", "hide"), (" ", "show")):
+        page.press(key)
+        page.see("[document.activeElement.tagName, document.activeElement.textContent]",
+                 ["BUTTON", word], f"the button after {key!r}")
+    page.run("$('#file').focus()")
     seen = set()
-    for number in range(16):
-        if number:
-            page.press("Tab")
-        found = page.run("""(() => { const it = document.activeElement;
-          const ring = it.id === 'file' ? it.parentElement : it;
-          const style = getComputedStyle(ring);
+    for _ in range(16):
+        name, line, width, color = page.run("""(() => { const it = document.activeElement;
+          const style = getComputedStyle(it.id === 'file' ? it.parentElement : it);
           return [it.id || it.className || it.tagName, style.outlineStyle,
             parseFloat(style.outlineWidth), style.outlineColor]; })()""")
-        if found[0] in ("BODY", "HTML", ""):
+        if name in ("BODY", "HTML"):
             break
-        if found[1] in ("none", "") or found[2] < 2 or re.match(r"rgba.*, 0\)", found[3]):
-            raise Wrong(f"the focus isn't seen: {found}")
-        seen.add(found[0])
-    for name in ("typed", "clear", "copy", "all", "wanted", "before", "next", "row"):
-        if name not in seen:
-            raise Wrong(f"Tab doesn't lead to {name}: {seen}")
-    return len(seen) + 3
+        is_seen = line != "none" and width >= 2 and not re.match(r"rgba.*, 0\)", color)
+        page.want(is_seen, True, f"the focus of {name} is seen: {line}, {width}, {color}")
+        seen.add(name)
+        page.press("Tab")
+    page.want({"typed", "clear", "copy", "all", "wanted", "before", "next", "row"} - seen, set(),
+              "where Tab doesn't lead to")
 
 
-def narrow(page, room):
+def narrow(page):
     """In a narrow window nothing is beside it, and the bytes have half as many in a line."""
-    page.browser.size(1280, 800)
-    page.give(room, "narrow", inputs.certificate())
-    lines = """[...document.querySelectorAll('#dump .bytes')].slice(0, 2).map((it) =>
-      it.querySelectorAll('span:not(.at)').length)"""
-    want(page.run(lines), [16, 16], "bytes in a line")
-    tried = 1
+    page.give("narrow", CERTIFICATE)
+    lines = "$$('#dump .bytes').slice(0, 2).map((it) => $$('span:not(.at)', it).length)"
+    page.see(lines, [16, 16], "bytes in a line")
     for width in (600, 390, 320):
         page.browser.size(width, 844)
         if page.run("innerWidth") > 640:
             continue
-        page.browser.wait(f"JSON.stringify({lines}) === '[8,8]'", "the lines of a narrow window")
-        want(page.run("document.documentElement.scrollWidth <= innerWidth"), True,
-             f"all is in a window of {width} pixels")
-        want(page.run(HIDDEN.replace(" .columns > *", " .title")), [], "what isn't in sight")
-        want(page.run(SMALL), [], "what is small")
+        page.wait(lines, "the lines of a narrow window", [8, 8])
+        page.see("document.documentElement.scrollWidth <= innerWidth", True,
+                 f"all is in a window of {width} pixels")
+        page.see(HIDDEN.replace(".columns > *", ".title"), [], "what isn't in sight")
+        page.see(SMALL, [], "what is small")
         page.press("End", "ArrowDown")
-        tried += 4
-    page.browser.size(1280, 800)
-    page.browser.wait(f"JSON.stringify({lines}) === '[16,16]'", "the lines of a wide window")
+    page.browser.size()
+    page.wait(lines, "the lines of a wide window", [16, 16])
     # The head of the table stays, and the selected row's bytes are in sight.
     page.browser.size(1280, 480)
     page.press("End")
-    want(page.run("(() => { const { top, height } = document.querySelector('.columns')"
-                  ".getBoundingClientRect(); return top >= 0 && top < 200 && height > 10; })()"),
-         True, "the head of the table")
-    want(page.run("(() => { const box = document.getElementById('dump').getBoundingClientRect();"
-                  "const it = document.querySelector('#dump .head').getBoundingClientRect();"
-                  "return it.top >= box.top - 1 && it.bottom <= box.bottom + 1; })()"), True,
-         "the bytes of the selected row")
-    page.browser.size(1280, 800)
-    return tried + 3
+    page.see("(() => { const { top, height } = $('.columns').getBoundingClientRect();"
+             "return top >= 0 && top < 200 && height > 10; })()", True, "the head of the table")
+    page.see("(() => { const box = $('#dump').getBoundingClientRect();"
+             "const it = $('#dump .head').getBoundingClientRect();"
+             "return it.top >= box.top - 1 && it.bottom <= box.bottom + 1; })()", True,
+             "the bytes of the selected row")
 
 
-def told(page, room):
+def told(page):
     """What a screen reader is told: of the table, its rows, and the selected one."""
-    tried = 0
-    for name, data in (("certificate", inputs.certificate()), ("key", inputs.KEY),
+    for name, data in (("certificate", CERTIFICATE), ("key", KEY),
                        ("one.der", bytes.fromhex("300402020101")),
-                       ("empty.der", bytes.fromhex("30 05 020101 0400".replace(" ", "")))):
-        lines, _ = page.give(room, name, data)
-        rows = [line for line in lines if line.kind == ROW]
-        want(page.run("document.getElementById('table').getAttribute('aria-rowcount')"),
-             str(len(rows) + 1), "how many rows are told")
-        want(page.run("[...document.querySelectorAll('#list .row')].map((it) => "
-                      "Number(it.getAttribute('aria-rowindex')))"),
-             list(range(2, len(rows) + 2)), "the numbers of the rows")
+                       ("empty.der", bytes.fromhex("30050201010400"))):
+        rows = page.give(name, data).rows
+        page.see("$('#table').getAttribute('aria-rowcount')", str(len(rows) + 1),
+                 "how many rows are told")
+        page.see("$$('#list .row').map((it) => Number(it.getAttribute('aria-rowindex')))",
+                 list(range(2, len(rows) + 2)), "the numbers of the rows")
         for at, line in enumerate(rows):
-            want(page.text("#where"), where_of(rows, at), "where the row is")
+            content = rows[after(rows, at) - 1].end - line.start
+            sizes = [f"{it} byte{'' if it == 1 else 's'}" for it in (line.header, content)]
+            page.want(page.text("#where"), f"Offset {line.offset}: header {sizes[0]}, content "
+                      f"{sizes[1]}{', hidden' * line.hidden}", "where the row is")
             page.press("ArrowDown")
-            tried += 1
-    want(page.run("[...document.querySelectorAll('#list button')].length"), 0,
-         "a button of no bytes")
-    return tried + 8
+    page.see("$$('#list button').length", 0, "a button of no bytes")
 
 
-def where_of(rows, at):
-    """Returns what is said of a selected row."""
-    line, end = rows[at], at + 1
-    while end < len(rows) and rows[end].depth > line.depth:
-        end += 1
-    content = rows[end - 1].offset + rows[end - 1].header + rows[end - 1].content \
-        - line.offset - line.header
-    count = [f"{it} byte{'' if it == 1 else 's'}" for it in (line.header, content)]
-    return (f"Offset {line.offset}: header {count[0]}, content {count[1]}"
-            f"{', hidden' if line.hidden else ''}")
-
-
-def messages(page, room):
+def messages(page):
     """What is said where the browser refuses, a file can't be read, or a command is copied."""
-    pem = dict(inputs.pasted())["two blocks"]
-    page.paste(pem)
-    command = [line for line in page.run(SAID) if line.startswith("openssl")]
-    want(page.copied("#said .command button"), command[0], "the command that is copied")
+    page.paste(TWO_BLOCKS)
+    command = next(line for line in page.run(SAID) if line.startswith("openssl"))
+    page.want(page.copied("#said .command button"), command, "the command that is copied")
     page.press("Home")
-    page.give(room, "next", inputs.KEY)
-    want(page.text("#copied"), "", "what is said of the last copy")
-    page.run("(navigator.clipboard.writeText = async () => { throw new Error('no'); }, 0)")
-    page.browser.click("#copy")
-    page.browser.wait("document.getElementById('copied').textContent !== ''")
-    want(page.text("#copied"), "The browser doesn\u2019t allow it", "where nothing is copied")
-    page.run("(File.prototype.arrayBuffer = async () => { throw new Error('no'); }, 0)")
-    path = room / "unread <b>.der"
-    path.write_bytes(inputs.KEY)
-    page.browser.choose(path)
-    page.browser.wait("document.querySelector('#said p') !== null && "
-                      "document.querySelector('#said p').textContent.includes('unread')",
-                      "nothing is said of a file that can't be read")
-    want(page.run(SAID), ["unread <b>.der can\u2019t be read."], "what is said of it")
-    want(page.run("document.querySelector('#said b')"), None, "a name as HTML")
-    want(page.run("document.querySelectorAll('#list .row').length"), 0, "rows of it")
-    footer = page.text("footer")
+    page.give("next", KEY)
+    page.want(page.text("#copied"), "", "what is said of the last copy")
+    page.run("navigator.clipboard.writeText = async () => { throw new Error('no'); }, 0")
+    page.click("#copy")
+    page.wait("$('#copied').textContent !== ''")
+    page.want(page.text("#copied"), "The browser doesn\u2019t allow it", "where nothing is copied")
+    page.run("File.prototype.arrayBuffer = async () => { throw new Error('no'); }, 0")
+    page.browser.choose(page.store("unread <b>.der", KEY))
+    page.wait("$('#said p') !== null && $('#said p').textContent.includes('unread')",
+              "nothing is said of a file that can't be read")
+    page.see(SAID, ["unread <b>.der can\u2019t be read."], "what is said of it")
+    page.see("$('#said b')", None, "a name as HTML")
+    page.see("$$('#list .row').length", 0, "rows of it")
     for wanted in ("Bridgeacacia", "0.", "web", "sec1.wasm"):
-        if wanted not in footer:
-            raise Wrong(f"{wanted} isn't below the page")
-    return 9
+        page.want(wanted in page.text("footer"), True, f"{wanted} is below the page")
 
 
-def stored_files(page, room):
+def stored_files(page):
     """Keys, damaged keys and certificates, as the library draws them."""
-    page.run(f"(() => {{ {KEEPS} }})()")
-    tried = 0
     for name, data in inputs.stored():
-        path = room / "stored"
-        path.write_bytes(data)
-        page.clear() if tried else None
-        page.choose(path)
-        try:
-            lines, _ = page.compare(data)
-            want(len(page.rows()), sum(line.kind == ROW for line in lines), "how many rows")
-        except Wrong as reason:
-            raise Wrong(f"{name}: {data.hex()[:80]}: {reason}")
-        tried += 1
-    return tried
+        page.choose(page.store("stored", data))
+        with about(f"{name}: {data.hex()[:80]}"):
+            given = page.compare(data)
+            page.want(len(page.rows()), len(given.rows), "how many rows")
+        page.clear()
 
 
-def needs(page, room):
+def needs(page):
     """Where the page can't run it says why."""
-    cases = [
-        ("if (!globalThis.document) delete globalThis.WebAssembly;\n", None,
-         "Nothing can be drawn: this engine has no WebAssembly."),
-        ("if (globalThis.document) delete globalThis.Worker;\n", None,
-         "Nothing can be drawn: this browser has no workers."),
-        ("if (!globalThis.document) {\n  WebAssembly.compile = async () => { throw new TypeError();"
-         " };\n}\n", None,
-         "Nothing can be drawn: the module in this page is damaged, or this engine doesn't know "
-         "WebAssembly 2.0."),
-        # Who forbids it says so: the package, or in WebKit the engine.
-        ("", " 'wasm-unsafe-eval'", "'wasm-unsafe-eval'"),
-        ("(", None, "This browser hasn\u2019t run the page\u2019s script, so nothing can be drawn. "
-         "It needs JavaScript, workers and WebAssembly 2.0.")]
-    for before, removed, words in cases:
-        file = room / "needs.html"
-        text = made.page(before=before)
-        file.write_text(text.replace(removed, "", 1) if removed else text, encoding="utf-8")
+    for before, removed, words in (
+            ("if (!globalThis.document) delete globalThis.WebAssembly;\n", "",
+             "Nothing can be drawn: this engine has no WebAssembly."),
+            ("if (globalThis.document) delete globalThis.Worker;\n", "",
+             "Nothing can be drawn: this browser has no workers."),
+            ("if (!globalThis.document) {\n  WebAssembly.compile = async () => "
+             "{ throw new TypeError(); };\n}\n", "",
+             "Nothing can be drawn: the module in this page is damaged, or this engine doesn't "
+             "know WebAssembly 2.0."),
+            # Who forbids it says so: the package, or in WebKit the engine.
+            ("", " 'wasm-unsafe-eval'", "'wasm-unsafe-eval'"),
+            ("(", "", "This browser hasn\u2019t run the page\u2019s script, so nothing can be "
+             "drawn. It needs JavaScript, workers and WebAssembly 2.0.")):
+        file = page.room / "needs.html"
+        file.write_text(made.page(before).replace(removed, "", 1), encoding="utf-8")
         page.browser.open(file.as_uri())
-        page.browser.wait("document.querySelector('#said p') !== null && "
-                          "document.querySelector('#said p').textContent.includes('can')",
-                          "nothing is said")
+        page.wait("$('#said p') !== null && $('#said p').textContent.includes('can')",
+                  "nothing is said")
         found = " ".join(page.text("#said p").split())
-        if not (words in found if removed else words == found):
-            raise Wrong(f"what is said: {found}")
+        is_right = words in found if removed else words == found
+        page.want(is_right, True, f"what is said: {found}")
     page.browser.open(page.file.as_uri())
-    return len(cases)
+
+
+CHECKS = [stored_examples, other_ways, keys, private_bytes, everywhere, clipboards, policy, buffers,
+          memory, values, searching, all_rows, several_files, large, limits, stopping, style, focus,
+          narrow, told, messages, needs, stored_files]
+# Those that need the clipboard, or of keys more than the events, aren't tried in WebKitGTK.
+BY_A_PERSON = [stored_examples, other_ways, clipboards, values, searching, limits, style, focus,
+               narrow, messages]

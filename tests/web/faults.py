@@ -281,7 +281,6 @@ FAULTS = {"stored_examples": [
     ("picture.js", "    return marks;\n", "    return [];\n"),
 ]}
 
-KINDS = {it.name: it for it in (browsers.Chromium, browsers.Firefox)}
 # Those that run, by name.
 running = {}
 
@@ -314,7 +313,7 @@ def run(sources, key, file=None):
     fault why it doesn't."""
     name = tool(key)
     if name not in running:
-        running[name] = KINDS[name](sources)
+        running[name] = browsers.KINDS[name](sources)
     browser = running[name]
     wrong = checks.tries(getattr(checks, key.partition(" in ")[0]), browser, sources)[1]
     has_ended = browser.process.poll() is not None

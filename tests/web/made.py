@@ -1,16 +1,35 @@
 """The page as web/make makes it, with another script in front of its own."""
-import importlib.machinery
-import importlib.util
 import pathlib
+import runpy
 
-# Has the memory of each instance of the module in sight, and what it was at first.
+# Keeps in sight the workers that begin, each buffer that the page reads, makes of a text, copies or
+# is given by its worker, and the memory of each instance of the module, and what it was at first.
 WATCHES = """if (globalThis.document) {
+  // What is given back can't be seen any more.
+  delete ArrayBuffer.prototype.transfer;
+  Object.assign(window, { workers: [], kept: [] });
+  const keep = async (made) => { const it = await made; window.kept.push(it.buffer ?? it); };
+  for (const [owner, name] of [[Blob.prototype, 'arrayBuffer'], [TextEncoder.prototype, 'encode'],
+    [Object.getPrototypeOf(Uint8Array.prototype), 'slice']]) {
+    const plain = owner[name];
+    owner[name] = function watched(...given) {
+      const made = plain.apply(this, given);
+      keep(made);
+      return made;
+    };
+  }
+  window.total = (buffers) => buffers.filter((it) => it.byteLength).reduce((sum, it) =>
+    new Uint8Array(it).reduce((one, other) => one + other, sum), 0);
   const { Worker } = window;
-  window.workers = [];
   window.Worker = class extends Worker {
     constructor(...given) {
       super(...given);
       window.workers.push(this);
+      const { terminate } = this;
+      this.terminate = () => { this.isEnded = true; terminate.call(this); };
+      this.addEventListener('message', ({ data }) => {
+        Object.values(data).filter(ArrayBuffer.isView).forEach(keep);
+      });
     }
   };
 } else {
@@ -32,62 +51,16 @@ WATCHES = """if (globalThis.document) {
   });
 }
 """
-# Keeps each buffer that the page reads, makes of a text, copies, or is given by its worker.
-KEEPS = """if (globalThis.document) {
-  // What is given back can't be seen any more.
-  delete ArrayBuffer.prototype.transfer;
-  window.begun = [];
-  let [kept, old] = [[], []];
-  const keep = (it) => { kept.push(it); return it; };
-  const { arrayBuffer } = Blob.prototype;
-  Blob.prototype.arrayBuffer = async function read() { return keep(await arrayBuffer.call(this)); };
-  const { encode } = TextEncoder.prototype;
-  TextEncoder.prototype.encode = function made(text) {
-    const bytes = encode.call(this, text);
-    keep(bytes.buffer);
-    return bytes;
-  };
-  const shared = Object.getPrototypeOf(Uint8Array.prototype);
-  const { slice } = shared;
-  shared.slice = function copied(...given) {
-    const bytes = slice.apply(this, given);
-    keep(bytes.buffer);
-    return bytes;
-  };
-  const { Worker } = window;
-  window.Worker = class extends Worker {
-    constructor(...given) {
-      super(...given);
-      window.begun.push(this);
-      const { terminate } = this;
-      this.terminate = () => { this.isEnded = true; terminate.call(this); };
-      this.addEventListener('message', ({ data }) => {
-        for (const it of Object.values(data)) if (ArrayBuffer.isView(it)) keep(it.buffer);
-      });
-    }
-  };
-  const sum = (it) => it.byteLength ? new Uint8Array(it).reduce((one, other) => one + other, 0) : 0;
-  const root = document.documentElement;
-  root.addEventListener('buffers', () => { root.dataset.buffers = JSON.stringify(kept.map(sum)); });
-  root.addEventListener('forget', () => { old = kept.splice(0); });
-  root.addEventListener('old', () => {
-    root.dataset.old = String(old.map(sum).reduce((one, other) => one + other, 0));
-  });
-}
-"""
 # Lets nothing be written to a console, of the page or of its worker.
 CONSOLE = """for (const name of Object.keys(console)) {
   console[name] = () => { throw new Error('a console is written to'); };
 }
 """
-BEFORE = {"memory": WATCHES, "buffers": KEEPS, "everywhere": CONSOLE}
+BEFORE = {"memory": WATCHES, "buffers": WATCHES, "everywhere": CONSOLE}
 # A folder like the repository's, of which the page is made.
 folder = pathlib.Path(__file__).resolve().parent.parent.parent
 
 
 def page(before=""):
     """Returns the page, whose script begins with another one."""
-    loader = importlib.machinery.SourceFileLoader("make", str(folder / "web/make"))
-    make = importlib.util.module_from_spec(importlib.util.spec_from_loader("make", loader))
-    loader.exec_module(make)
-    return make.page(before=before)
+    return runpy.run_path(str(folder / "web/make"))["page"](before=before)

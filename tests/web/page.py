@@ -1,28 +1,30 @@
 """The page in a browser, what is read of it, and what it is compared with."""
 import base64
+import contextlib
 import html
 import json
 import re
+from collections import namedtuple
 
-from expected import HEADING, MARK, ROW, columns_of, view
+from expected import after, view
 
 VEIL = "\u00b7\u00b7"
-# The rows that are made: index, texts of the columns, marks, the button, level, whether selected.
-ROWS = """[...document.querySelectorAll('#list .row')].map((row) => [Number(row.dataset.index),
-  [...row.querySelectorAll('[role=gridcell]:not(.mark)')].map((cell) => [...cell.childNodes]
+# In expressions `$` finds the first element of a selector, and `$$` all of them.
+FINDS = ("(($, $$) => (EXPRESSION))((selector) => document.querySelector(selector), "
+         "(selector, root = document) => [...root.querySelectorAll(selector)])")
+# The rows that are made: the parts of an item, and whether it is selected.
+Row = namedtuple("Row", "index columns marks button level selected")
+ROWS = """$$('#list .row').map((row) => [Number(row.dataset.index),
+  $$('[role=gridcell]:not(.mark)', row).map((cell) => [...cell.childNodes]
     .filter((it) => it.nodeType === 3).map((it) => it.nodeValue).join('')),
-  [...row.querySelectorAll('.mark')].map((it) => it.textContent),
-  row.querySelector('button')?.textContent ?? null,
+  $$('.mark', row).map((it) => it.textContent), row.querySelector('button')?.textContent ?? null,
   Number(row.getAttribute('aria-level')), row.getAttribute('aria-selected') === 'true'])"""
-SAID = """[...document.querySelectorAll('#said p')].map((it) => it.matches('.command')
+SAID = """$$('#said p').map((it) => it.matches('.command')
   ? it.querySelector('code').textContent : it.textContent)"""
-BYTES = """[...document.querySelectorAll('#dump .bytes')].map((line) => [
-  Number(line.querySelector('.at').textContent),
-  [...line.querySelectorAll('span:not(.at)')].map((it) =>
-    [it.textContent.trim(), it.className])])"""
+BYTES = """$$('#dump .bytes').map((line) => [Number(line.querySelector('.at').textContent),
+  $$('span:not(.at)', line).map((it) => [it.textContent.trim(), it.className])])"""
 FOCUSED = "document.activeElement.dataset?.index ?? document.activeElement.tagName"
-SELECTED = """[...document.querySelectorAll('#list [aria-selected=true]')].map((it) =>
-  Number(it.dataset.index))"""
+SELECTED = "$$('#list [aria-selected=true]').map((it) => Number(it.dataset.index))"
 # All that a script can find of what the page shows or keeps.
 EVERYWHERE = """(async () => {
   const root = document.documentElement.cloneNode(true);
@@ -32,7 +34,7 @@ EVERYWHERE = """(async () => {
   for (const it of root.querySelectorAll('*')) {
     for (const { name, value } of it.attributes) (values[name] ??= []).push(value);
   }
-  const fields = [...document.querySelectorAll('input:not([type=file]), textarea, option')];
+  const fields = $$('input:not([type=file]), textarea, option');
   const stores = [localStorage, sessionStorage].map((it) => JSON.stringify(it));
   const databases = await (indexedDB.databases?.() ?? []);
   const own = Object.getOwnPropertyNames(window).filter((it) => !PLAIN.includes(it));
@@ -49,17 +51,19 @@ EVERYWHERE = """(async () => {
     ...performance.getEntries().map((it) => it.name),
     String(document.getSelection())].join('\\n\\u0001\\n');
 })()"""
-# The names that each window has.
-NAMES = "Object.getOwnPropertyNames(window)"
 
 
 class Wrong(Exception):
     """The page isn't as it has to be."""
 
 
-def want(found, wanted, what):
-    if found != wanted:
-        raise Wrong(f"{what}: {str(found)[:300]!r} isn't {str(wanted)[:300]!r}")
+@contextlib.contextmanager
+def about(name):
+    """Says of which input it is what is wrong."""
+    try:
+        yield
+    except Wrong as reason:
+        raise Wrong(f"{name}: {reason}") from None
 
 
 def forms(content, count=4):
@@ -80,17 +84,11 @@ def forms(content, count=4):
 
 
 def private_in(text, contents, count=4):
-    """Returns how four private bytes in a row are in a text, or None."""
-    bare = html.unescape(re.sub(r"<[^>]*>", "", text))
-    texts = {"hexadecimal": "", "numbers": "", "escapes": "", "characters": "", "base64": "",
-             "a number": ""}
-    for it in (text, bare):
-        texts["hexadecimal"] += re.sub(r"0[xX]|[\s:,;-]|\\x", "", it).lower() + "|"
-        texts["numbers"] += re.sub(r"[\s,;.]+", ",", it) + ",|"
-        texts["escapes"] += it.lower() + "|"
-        texts["characters"] += it + "|"
-        texts["base64"] += re.sub(r"\s", "", it) + "|"
-        texts["a number"] += it + "|"
+    """Returns how so many private bytes in a row are in a text, or None."""
+    both = f"{text},|{html.unescape(re.sub(r'<[^>]*>', '', text))},|"
+    texts = {"hexadecimal": re.sub(r"0[xX]|[\s:,;-]|\\x", "", both).lower(),
+             "numbers": re.sub(r"[\s,;.]+", ",", both), "escapes": both.lower(),
+             "characters": both, "base64": re.sub(r"\s", "", both), "a number": both}
     for content in contents:
         for kind, form in forms(content, count):
             if form in texts[kind]:
@@ -98,26 +96,59 @@ def private_in(text, contents, count=4):
     return None
 
 
-class Page:
-    """The page in a browser."""
+def row_at(index):
+    """Returns the selector of a row."""
+    return f'#list .row[data-index="{index}"]'
 
-    def __init__(self, browser, file):
-        self.browser, self.file = browser, file
-        if not hasattr(browser, "names"):
-            browser.open("about:blank")
-            browser.names = browser.run(NAMES)
-        browser.size(1280, 800)
+
+class Page:
+    """The page in a browser, opened anew, and the cases that were compared of it."""
+
+    def __init__(self, browser, file, room):
+        self.browser, self.file, self.room, self.cases = browser, file, room, 0
+        browser.size()
         browser.darken(False)
         browser.open(file.as_uri())
         # What stands there until the page's script has begun.
-        browser.wait("document.querySelector('#said p') === null", "the page doesn't begin")
+        self.wait("$('#said p') === null", "the page doesn't begin")
 
     def run(self, expression):
-        return self.browser.run(expression)
+        return self.browser.run(FINDS.replace("EXPRESSION", expression))
+
+    def wait(self, expression, what=None, value=True):
+        """Waits until an expression has a value in the page."""
+        self.browser.wait(FINDS.replace("EXPRESSION", expression), what or expression, value)
+
+    def want(self, found, wanted, what):
+        """Counts a case: whether what is found is what is wanted."""
+        if found != wanted:
+            raise Wrong(f"{what}: {str(found)[:300]!r} isn't {str(wanted)[:300]!r}")
+        self.cases += 1
+
+    def see(self, expression, wanted, what):
+        """Counts a case: whether an expression has this value in the page."""
+        self.want(self.run(expression), wanted, what)
+
+    def see_shown(self, selector, is_shown, what):
+        """Counts a case: whether an element is shown."""
+        self.see(f"$('{selector}').checkVisibility()", is_shown, what)
 
     def press(self, *keys):
         for key in keys:
             self.browser.press(key)
+
+    def click(self, selector):
+        self.browser.click(selector)
+
+    def select(self, index):
+        """Selects a row by a click that a script makes."""
+        self.run(f"$('{row_at(index)} .element').click()")
+
+    def store(self, name, data):
+        """Stores a file, and returns where."""
+        path = self.room / name
+        path.write_bytes(data)
+        return path
 
     def choose(self, path):
         self.browser.choose(path)
@@ -129,100 +160,75 @@ class Page:
 
     def paste(self, text):
         self.browser.write_clipboard(text)
-        self.browser.paste()
+        self.browser.press("v", "paste")
         self.wait_for("Text")
 
-    def give(self, room, name, data):
-        """Chooses a file of these bytes, and returns what is to be seen of it."""
-        path = room / name
-        path.write_bytes(data)
-        self.choose(path)
+    def type(self, text):
+        """Presses the keys of a text in the field."""
+        self.run("$('#typed').focus()")
+        self.press(*text)
+
+    def give(self, name, data):
+        """Chooses a file of these bytes, and returns how it is drawn."""
+        self.choose(self.store(name, data))
         return view(data)
 
     def wait_for(self, name):
-        self.browser.wait(f"document.getElementById('name').textContent === {json.dumps(name)} && "
-                          "document.querySelector('#said p') !== null", f"{name} isn't drawn")
+        self.wait("$('#said p') !== null && $('#name').textContent", f"{name} isn't drawn", name)
 
     def clear(self):
-        self.browser.click("#clear")
-        self.browser.wait("document.querySelector('#said p') === null")
+        self.click("#clear")
+        self.wait("$('#said p') === null")
+
+    def turn_all(self, is_all):
+        """Shows all rows, or those of the picture again."""
+        self.click("#all")
+        self.wait("$('#said p') !== null && $('#all').getAttribute('aria-pressed')",
+                  value=str(is_all).lower())
 
     def rows(self):
-        return self.run(ROWS)
+        return [Row(*it) for it in self.run(ROWS)]
 
     def text(self, selector):
-        return self.run(f"document.querySelector({json.dumps(selector)}).textContent")
+        return self.run(f"$('{selector}').textContent")
 
     def everywhere(self):
         """Returns all that a script can find of what the page shows or keeps."""
         return self.run(EVERYWHERE.replace("PLAIN", json.dumps(self.browser.names)))
 
-    def unseen(self, contents, what):
-        """Looks for private contents in all of the page."""
-        found = private_in(self.everywhere(), contents)
-        if found:
-            raise Wrong(f"{what}: private bytes as {found}")
+    def unseen(self, contents, what, count=4):
+        """Counts a case: so many private bytes in a row are nowhere in the page."""
+        self.want(private_in(self.everywhere(), contents, count), None, f"{what}: private bytes")
 
     def copied(self, selector):
         """Returns what a button puts on the clipboard."""
-        self.browser.click(selector)
-        self.browser.wait("document.getElementById('copied').textContent === 'copied'",
-                          f"{selector} copies nothing")
+        self.click(selector)
+        self.wait("$('#copied').textContent", f"{selector} copies nothing", "copied")
         return self.browser.read_clipboard()
 
     def compare(self, given):
         """Compares what is said, the rows, and the bytes beside them, of which none is shown."""
-        lines, parts = view(given)
-        others = [line.words.strip() for line in lines if line.kind not in (ROW, MARK)]
-        want(self.run(SAID), others, "what is said")
-        wanted = list(wanted_rows(lines, len(parts)))
-        want([row[:5] for row in self.rows()], wanted[:400], "the rows")
-        if wanted:
-            first = next(line for line in lines if line.kind == ROW)
-            self.compare_bytes(lines, parts[first.part], first)
-        return lines, parts
+        wanted = view(given)
+        self.see(SAID, wanted.said, "what is said")
+        self.want([row[:5] for row in self.rows()], wanted.items[:400], "the rows")
+        if wanted.rows:
+            self.compare_bytes(wanted, wanted.rows[0])
+        return wanted
 
-    def compare_bytes(self, lines, data, selected, shown=()):
-        """Compares the bytes with those of a part, of which these rows are shown."""
-        found = {}
-        for at, line in self.run(BYTES):
-            found |= {at + place: byte for place, byte in enumerate(line)}
-        wanted = {at: [digits, ""] for at, digits in enumerate(f"{byte:02X}" for byte in data)}
-        of_part = [line for line in lines if line.kind == ROW and line.part == selected.part]
-        for line in of_part:
-            start = line.offset + line.header
-            if line.hidden and line not in shown:
-                for at in range(start, start + line.content):
-                    wanted[at] = [VEIL, "veiled"]
-        place = of_part.index(selected)
-        end = place + 1
-        while end < len(of_part) and of_part[end].depth > selected.depth:
-            end += 1
-        for at in range(selected.offset, of_part[end - 1].offset + of_part[end - 1].header
-                        + of_part[end - 1].content):
-            part = "head" if at < selected.offset + selected.header else (
-                "body" if place + 1 == end else "inner")
-            if at >= selected.offset + selected.header + selected.content:
-                part = "inner"
-            elif at >= selected.offset + selected.header:
-                part = "body"
+    def compare_bytes(self, given, selected, shown=()):
+        """Compares the bytes with those of the selected row's part, of which these rows are
+        shown."""
+        found = {at + place: byte for at, line in self.run(BYTES)
+                 for place, byte in enumerate(line)}
+        data = given.parts[selected.part]
+        wanted = {at: [f"{byte:02X}", ""] for at, byte in enumerate(data)}
+        rows = [row for row in given.rows if row.part == selected.part]
+        for row in rows:
+            if row.hidden and row not in shown:
+                wanted |= {at: [VEIL, "veiled"] for at in range(row.start, row.end)}
+        last = rows[after(rows, rows.index(selected)) - 1]
+        for at in range(selected.offset, last.end):
+            part = "head" if at < selected.start else "body" if at < selected.end else "inner"
             wanted[at][1] = f"{part} {wanted[at][1]}".strip()
         wanted = {at: wanted[at] for at in found} if len(data) > 1024 else wanted
-        want(found, wanted, "the bytes")
-
-
-def wanted_rows(lines, parts):
-    """Yields the items of the table: the rows, and where there are several parts their headings."""
-    index = -1
-    for at, line in enumerate(lines):
-        if line.kind not in (ROW, HEADING) or line.kind == HEADING and parts == 1:
-            continue
-        index += 1
-        if line.kind == HEADING:
-            yield [index, [line.words], [], None, 0]
-            continue
-        after = at + 1
-        while after < len(lines) and lines[after].kind == MARK:
-            after += 1
-        marks = [mark.words.strip() for mark in lines[at + 1:after]]
-        yield [index, columns_of(line), marks, "show" if line.hidden else None, line.depth + 1]
+        self.want(found, wanted, "the bytes")
