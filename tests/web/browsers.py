@@ -34,7 +34,7 @@ LOOK = 0.1
 
 
 class Failed(Exception):
-    """What a browser was asked for hasn't come."""
+    """What a browser was asked for hasn't come, or isn't as it has to be."""
 
 
 class Patience:

@@ -1,5 +1,5 @@
 """What is tried of the page, each check with one that was opened anew. A check counts its cases by
-the page, and raises Wrong at the first that isn't as it has to be.
+the page, and raises Failed at the first that isn't as it has to be.
 """
 import base64
 import hashlib
@@ -8,13 +8,13 @@ import json
 import re
 import time
 
-import browsers
 import inputs
 import made
 import programs
+from browsers import Failed
 from expected import after, drawn, view
 from inputs import CERTIFICATE, EMPTY, KEY, SECRETS, TWO_BLOCKS, element, pem
-from page import FOCUSED, SAID, SELECTED, Page, Wrong, about, private_in, row_at
+from page import FOCUSED, SAID, SELECTED, Page, about, private_in, row_at
 
 # What the page copies is kept in it, where the clipboard itself isn't looked at.
 KEEPS = """navigator.clipboard.writeText = async (text) => {
@@ -36,25 +36,8 @@ def tries(check, browser, room, file=None):
         if check is not needs:
             page.want(browser.complaints(), [], "what the browser says")
         return page.cases, ""
-    except (Wrong, browsers.Failed) as reason:
+    except Failed as reason:
         return 0, str(reason)
-    finally:
-        if not browser.is_stuck:
-            forget(browser)
-
-
-def forget(browser):
-    """Clears what a check or a fault has kept, so that it isn't found again. A page that is being
-    left can't run anything, so it is tried again."""
-    patience = browsers.Patience(browser)
-    while True:
-        try:
-            return browser.run("(localStorage.clear(), sessionStorage.clear(), window.name = '', "
-                               "indexedDB.deleteDatabase('last'), 0)")
-        except browsers.Failed:
-            if patience.is_over():
-                raise
-            time.sleep(0.1)
 
 
 def stored_examples(page):
@@ -362,7 +345,7 @@ def memory(page):
       worker.postMessage({ look: true }); })"""
     given = {name: data for name, data, _ in SECRETS}
     for name, data in [*given.items(), ("all", EMPTY), *inputs.LARGE.items()]:
-        page.give(name, data)
+        page.choose(page.store(name, data))
         if name == "all":
             page.run("$('#all').click()")
             page.wait("$$('#list .row').length > 4")

@@ -6,6 +6,7 @@ import json
 import re
 from collections import namedtuple
 
+from browsers import Failed
 from expected import after, view
 
 VEIL = "\u00b7\u00b7"
@@ -53,17 +54,13 @@ EVERYWHERE = """(async () => {
 })()"""
 
 
-class Wrong(Exception):
-    """The page isn't as it has to be."""
-
-
 @contextlib.contextmanager
 def about(name):
     """Says of which input it is what is wrong."""
     try:
         yield
-    except Wrong as reason:
-        raise Wrong(f"{name}: {reason}") from None
+    except Failed as reason:
+        raise Failed(f"{name}: {reason}") from None
 
 
 def forms(content, count=4):
@@ -111,6 +108,9 @@ class Page:
         browser.open(file.as_uri())
         # What stands there until the page's script has begun.
         self.wait("$('#said p') === null", "the page doesn't begin")
+        # What a page before it has kept isn't to be found again.
+        self.run("localStorage.clear(), sessionStorage.clear(), window.name = '', "
+                 "indexedDB.deleteDatabase('last'), 0")
 
     def run(self, expression):
         return self.browser.run(FINDS.replace("EXPRESSION", expression))
@@ -122,7 +122,7 @@ class Page:
     def want(self, found, wanted, what):
         """Counts a case: whether what is found is what is wanted."""
         if found != wanted:
-            raise Wrong(f"{what}: {str(found)[:300]!r} isn't {str(wanted)[:300]!r}")
+            raise Failed(f"{what}: {str(found)[:300]!r} isn't {str(wanted)[:300]!r}")
         self.cases += 1
 
     def see(self, expression, wanted, what):
