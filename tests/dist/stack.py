@@ -7,6 +7,7 @@ call uses at most the parts of the functions on the longest way through those th
 function is called by a table, and those that call themselves, or each other, do so as often as
 LEVELS says. Prints the two greatest numbers, and ends with status 1 if more is used than is wiped.
 """
+import functools
 import pathlib
 import re
 import sys
@@ -68,7 +69,7 @@ class Stack:
     """What the functions of a module use of the stack."""
 
     def __init__(self, module):
-        self.names, self.frames, self.calls, self.known = module.names, {}, {}, {}
+        self.names, self.frames, self.calls = module.names, {}, {}
         for index, function in enumerate(module.functions):
             ops = list(module.ops(function))
             self.frames[index] = frame(ops, self.names[index])
@@ -84,31 +85,21 @@ class Stack:
             left += more
         return found
 
+    @functools.lru_cache(maxsize=None)
     def used(self, index):
         """Returns how many bytes a call of a function uses at most: of those that call each other
         each stands on the stack as often as it can."""
-        if index not in self.known:
-            cycle, own = self.own(index)
-            outside = set().union(*(self.calls[it] for it in cycle or {index})) - cycle
-            self.known[index] = own + max(map(self.used, outside), default=0)
-        return self.known[index]
-
-    def own(self, index):
-        """Returns the functions that call each other with one, and what these use at most."""
         cycle = {it for it in self.reached[index] if index in self.reached[it]}
-        return cycle, sum(self.levels(it) * self.frames[it] for it in cycle) or self.frames[index]
-
-    def name(self, index):
-        """Returns a function's name, without the types that it is for."""
-        return re.sub("::<#.*", "", self.names[index])
+        own = sum(self.levels(it) * self.frames[it] for it in cycle) or self.frames[index]
+        outside = set().union(*(self.calls[it] for it in cycle or {index})) - cycle
+        return own + max(map(self.used, outside), default=0)
 
     def levels(self, index):
-        """Returns how often a function that calls itself can stand on the stack."""
-        name = self.name(index)
+        """Returns how often a function that calls itself, or others that do, can stand on the
+        stack. The types that it is for don't count."""
+        name = re.sub("::<#.*", "", self.names[index])
         if name not in LEVELS:
             sys.exit(f"{name} calls itself")
-        if self.frames[index] and not LEVELS[name]:
-            sys.exit(f"{name} has a part of the stack, and calls itself")
         return LEVELS[name]
 
 
