@@ -5,6 +5,7 @@ The object is what the proof of crates/sec1_c built. The rest is of dist, whose 
 with that object by test_made.py.
 """
 
+import itertools
 import os
 import re
 import subprocess
@@ -128,24 +129,17 @@ def test_newer_instructions_are_found(tmp_path):
 
 # How many cases each has, for where clang is missing.
 TESTS = {"calls": 28, "million": 33}
+PROGRAMS = [*itertools.product(TESTS, ["clang", "gcc"]), ("openssl", "gcc")]
 
 
-@pytest.mark.parametrize("compiler", ["clang", "gcc"])
-@pytest.mark.parametrize("name", TESTS)
+@pytest.mark.parametrize("name, compiler", PROGRAMS)
 def test_program_by_a_compiler(installed, archive, tell, check, add, tmp_path, name, compiler):
     if compiler == "clang" and tell.lacks(1 + TESTS[name], *CLANG):
         return
-    source = DIST / f"tests/{name}.c"
-    build = [compiler, *STRICT, "-I", installed / "include", "-o", name, source, archive]
-    check(f"{compiler} compiles it", build)
+    build = [compiler, *STRICT, "-I", installed / "include", "-o", name, DIST / f"tests/{name}.c"]
+    # which openssl.c alone needs
+    check(f"{compiler} compiles it", [*build, archive, "-Wl,--as-needed", "-lcrypto"])
     add([tmp_path / name])
-
-
-def test_openssl(installed, archive, check, add, tmp_path):
-    source = DIST / "tests/openssl.c"
-    build = ["gcc", *STRICT, "-I", installed / "include", "-o", "openssl", source, archive]
-    check("it compiles", [*build, "-lcrypto"])
-    add([tmp_path / "openssl"])
 
 
 def test_header_by_standards(installed, archive, tell, add):
