@@ -5,7 +5,6 @@ network, and tested as it is installed.
 """
 
 import functools
-import glob
 import http.server
 import json
 import os
@@ -31,12 +30,14 @@ HOUR = 3600
 
 @pytest.fixture(scope="module", autouse=True)
 def target(tmp_path_factory):
-    """Has no tool use a network, and the library be that of dist; returns where cargo builds."""
+    """Has no tool use a network, and the library be that of dist; returns where cargo builds, once
+    for all tests, and without what only a debugger or a later build reads."""
     folder = tmp_path_factory.mktemp("target")
-    variables = f"""CARGO_NET_OFFLINE=true CARGO_TARGET_DIR={folder} PIP_NO_INDEX=1
-        PIP_DISABLE_PIP_VERSION_CHECK=1 PYTHONDONTWRITEBYTECODE=1 npm_config_offline=true
-        npm_config_cache={folder}/npm npm_config_update_notifier=false npm_config_fund=false
-        npm_config_audit=false WINEDEBUG=-all WINEPREFIX={folder}/wine"""
+    variables = f"""CARGO_NET_OFFLINE=true CARGO_TARGET_DIR={folder} CARGO_INCREMENTAL=0
+        CARGO_PROFILE_DEV_DEBUG=0 PIP_NO_INDEX=1 PIP_DISABLE_PIP_VERSION_CHECK=1
+        PYTHONDONTWRITEBYTECODE=1 npm_config_offline=true npm_config_cache={folder}/npm
+        npm_config_update_notifier=false npm_config_fund=false npm_config_audit=false
+        WINEDEBUG=-all WINEPREFIX={folder}/wine"""
     with pytest.MonkeyPatch.context() as patch:
         for name in ("SEC1_LIB_DIR", "SEC1_LIBRARY", "CC"):
             patch.delenv(name, raising=False)
@@ -51,26 +52,28 @@ def blocks(path, word):
     return re.findall(rf"^```{word}\n(.*?)^```$", text, re.M | re.S)
 
 
+# Makes a repository of the package $0, and of what its links lead to, and a clone without links.
+REPOSITORY = """mkdir $1/linked
+cp -a --parents bindings/$0 $1/linked
+rm -rf $1/linked/bindings/$0/target
+realpath --relative-to=. $(find bindings/$0 -type l) | xargs cp --parents -t $1/linked
+cd $1/linked
+git init -q
+git add -A
+git -c user.name=t -c user.email=t@example.com commit -q -m .
+git clone -q -c core.symlinks=false file://$PWD $1/unlinked"""
+
+
 def repository(folder, package):
     """Makes a repository of a package, and of what its links lead to, and returns its clone without
     links, as git makes it on Windows: each is a file that has a path."""
-    copy, where = folder / "linked", f"bindings/{package}"
-    ignored = shutil.ignore_patterns("target")
-    shutil.copytree(TOP / where, copy / where, symlinks=True, ignore=ignored)
-    for link in links(copy):
-        file = (TOP / os.path.relpath(link, copy)).resolve().relative_to(TOP)
-        (copy / file).parent.mkdir(parents=True, exist_ok=True)
-        shutil.copy(TOP / file, copy / file)
-    commit = "-c user.name=t -c user.email=t@example.com commit -q -m ."
-    clone = f"clone -q -c core.symlinks=false file://{copy} {folder}/unlinked"
-    for words in "init -q", "add -A", commit, clone:
-        lines_of("git", "-C", copy, *words.split())
+    lines_of("bash", "-euo", "pipefail", "-c", REPOSITORY, package, folder, cwd=TOP)
     return folder / "unlinked"
 
 
 def links(folder):
     """Returns the links in a folder."""
-    return [it for it in glob.glob(f"{folder}/**", recursive=True) if os.path.islink(it)]
+    return lines_of("find", folder, "-type", "l")
 
 
 @pytest.mark.parametrize("package", ["rust", "python", pytest.param("js", marks=needs("node"))])
@@ -89,44 +92,35 @@ def workspace(tmp_path_factory):
     return folder
 
 
+# How cargo finds the crate below.
+BELOW = "--config 'patch.crates-io.bridgeacacia-sec1-sys.path=\"../sec1-sys\"'"
 # One by one, since cargo 1.85 looks for the one below in the registry otherwise.
-PACK = """cargo package --locked --allow-dirty -p bridgeacacia-sec1-sys
-cargo package --allow-dirty -p bridgeacacia-sec1 \
-    --config 'patch.crates-io.bridgeacacia-sec1-sys.path="'$PWD'/sec1-sys"'"""
+PACK = f"""cargo package --locked --allow-dirty -p bridgeacacia-sec1-sys
+cargo package --allow-dirty -p bridgeacacia-sec1 {BELOW}"""
 
 
 @pytest.fixture(scope="module")
-def crates(workspace, target):
-    """Returns the folder of what is packed of both crates; each is built from what is listed."""
-    lines_of("bash", "-ec", PACK, cwd=workspace)
+def packed(workspace, target):
+    """Returns the folder of what is packed of both crates, each built from what is listed, with the
+    tests, which aren't packed."""
     folder = target / "crates"
-    folder.mkdir()
-    for name in ("sec1", "sec1-sys"):
-        package = f"bridgeacacia-{name}-{VERSION}"
-        lines_of("tar", "xzf", target / f"package/{package}.crate", "-C", folder)
-        (folder / package).rename(folder / name)
+    lines_of("bash", "-ec", PACK, cwd=workspace / "sec1")
+    for name in "sec1", "sec1-sys":
+        (folder / name).mkdir(parents=True)
+        crate = target / f"package/bridgeacacia-{name}-{VERSION}.crate"
+        lines_of("tar", "xzf", crate, "-C", folder / name, "--strip-components=1")
+    lines_of("cp", "-r", workspace / "sec1/tests", folder / "sec1")
+    lines_of("sed", "-i", "s/^autotests = false/autotests = true/", folder / "sec1/Cargo.toml")
     return folder
-
-
-@pytest.fixture(scope="module")
-def packed(crates, workspace):
-    """Returns the folder of the packed crate, with the tests, which aren't packed; and the option
-    by which cargo finds the crate below it."""
-    crate = crates / "sec1"
-    shutil.copytree(workspace / "sec1/tests", crate / "tests")
-    manifest = (crate / "Cargo.toml").read_text()
-    manifest = manifest.replace("autotests = false", "autotests = true")
-    (crate / "Cargo.toml").write_text(manifest)
-    return crate, f"--config 'patch.crates-io.bridgeacacia-sec1-sys.path=\"{crates}/sec1-sys\"'"
 
 
 FULL = "test -s LICENSE-MIT -a -s LICENSE-APACHE"
 
 
-def test_rust_is_packed(crates, check, target):
-    check("the licences of sec1", FULL, folder=crates / "sec1")
-    check("those of sec1-sys", f"{FULL} -a -f licences.txt", folder=crates / "sec1-sys")
-    check("no link is packed", "find . -type l", prints="", folder=crates)
+def test_rust_is_packed(packed, check, target):
+    check("the licences of sec1", FULL, folder=packed / "sec1")
+    check("those of sec1-sys", f"{FULL} -a -f licences.txt", folder=packed / "sec1-sys")
+    check("no link is packed", "find . -type l", prints="", folder=packed)
     names = f"for it in {target}/package/*.crate; do tar tzf $it; done"
     check("no test is packed", f"! ({names} | grep -E '/(tests|benches)/')")
 
@@ -142,24 +136,23 @@ PACKED = {
 # Debian's rustc-web does, with libstd-rust-web-dev:arm64.
 TRIPLE, RUSTC = "aarch64-unknown-linux-gnu", os.environ.get("AARCH64_RUSTC", "rustc")
 TOOLS = "qemu-aarch64", "aarch64-linux-gnu-gcc"
-if not lacking(RUSTC):
-    LIBRARIES = call([RUSTC, "--print", "target-libdir", "--target", TRIPLE]).stdout.strip()
-    if not lacking(*TOOLS) and glob.glob(f"{LIBRARIES}/libstd-*.rlib"):
-        PACKED["aarch64"] = (
-            f"export RUSTC={RUSTC} CARGO_TARGET_AARCH64_UNKNOWN_LINUX_GNU_LINKER={TOOLS[1]};"
-            "export CARGO_TARGET_AARCH64_UNKNOWN_LINUX_GNU_RUNNER='qemu-aarch64 -L "
-            f"/usr/aarch64-linux-gnu'; cargo test --features std,pem --tests --target {TRIPLE}"
-        )
+LIBRARIES = call(f"{RUSTC} --print target-libdir --target {TRIPLE}").stdout.strip()
+if not lacking(*TOOLS, f"{LIBRARIES}/libstd-*.rlib"):
+    PACKED["aarch64"] = (
+        f"RUSTC={RUSTC} CARGO_TARGET_AARCH64_UNKNOWN_LINUX_GNU_LINKER={TOOLS[1]}"
+        " CARGO_TARGET_AARCH64_UNKNOWN_LINUX_GNU_RUNNER='qemu-aarch64 -L /usr/aarch64-linux-gnu'"
+        f" cargo test --features std,pem --tests --target {TRIPLE}"
+    )
 
 
 @pytest.mark.parametrize("command", PACKED.values(), ids=PACKED)
 def test_rust_passes(packed, check, command):
-    check("the packed crate", f"{command} {packed[1]}", folder=packed[0])
+    check("the packed crate", f"{command} {BELOW}", folder=packed / "sec1")
 
 
 def test_rust_draws(packed, check, target):
-    build = f"cargo build --quiet --example view --features std,pem {packed[1]}"
-    check("the example is built", build, folder=packed[0])
+    build = f"cargo build --quiet --example view --features std,pem {BELOW}"
+    check("the example is built", build, folder=packed / "sec1")
     check("as a second reader", [*PROGRAMS, "--several", target / "debug/examples/view"])
 
 
@@ -174,41 +167,40 @@ export CARGO_CFG_TARGET_ARCH={0} CARGO_CFG_TARGET_POINTER_WIDTH={1} TARGET={0}gc
 CARGO_CFG_TARGET_ENDIAN=little CARGO_CFG_TARGET_OS=linux $1"""
 BUILD = "cargo build --locked -p bridgeacacia-sec1-sys"
 CLIPPY, DOC = "cargo clippy --locked", "RUSTDOCFLAGS='-D warnings' cargo doc --locked --no-deps"
-# A command in the workspace, what it prints, by which it is refused, and what it needs.
+OF_RUST = 'cargo::rustc-cfg=sec1_library="rust"'
+# A command in the workspace, how it ends if not just well, and what it needs.
 WORKSPACE = {
-    "traits": (
-        f"cargo test --manifest-path traits/Cargo.toml --all-features {DEBIAN}", None, None, TRAITS
+    "traits": (f"cargo test --manifest-path traits/Cargo.toml --all-features {DEBIAN}", {}, TRAITS),
+    "clippy": (f"{CLIPPY} --all-targets --features std,pem -- -D warnings", {}, "cargo-clippy"),
+    "clippy with alloc": (f"{CLIPPY} --features alloc -- -D warnings", {}, "cargo-clippy"),
+    "clippy without alloc": (f"{CLIPPY} -- -D warnings", {}, "cargo-clippy"),
+    "layout": ("cargo fmt --check", {}, "cargo-fmt"),
+    "documents": (f"{DOC} --features std,pem", {}, "cargo"),
+    "documents without std": (DOC, {}, "cargo"),
+    "every feature": ("cargo build --locked --all-features", {}, "cargo"),
+    "unsafe code": (
+        "grep -rl 'unsafe {' sec1/src sec1-sys/src", {"prints": "sec1/src/raw.rs"}, "cargo"
     ),
-    "clippy": (
-        f"{CLIPPY} --all-targets --features std,pem -- -D warnings", None, None, "cargo-clippy"
-    ),
-    "clippy with alloc": (f"{CLIPPY} --features alloc -- -D warnings", None, None, "cargo-clippy"),
-    "clippy without alloc": (f"{CLIPPY} -- -D warnings", None, None, "cargo-clippy"),
-    "layout": ("cargo fmt --check", None, None, "cargo-fmt"),
-    "documents": (f"{DOC} --features std,pem", None, None, "cargo"),
-    "documents without std": (DOC, None, None, "cargo"),
-    "every feature": ("cargo build --locked --all-features", None, None, "cargo"),
-    "unsafe code": ("grep -rl 'unsafe {' sec1/src sec1-sys/src", "sec1/src/raw.rs", None, "cargo"),
     "riscv64 has sec1.rs": (
-        SCRIPT.format("riscv64", 64) + " | grep -x 'cargo::rustc-cfg=sec1_library=\"rust\"'",
-        'cargo::rustc-cfg=sec1_library="rust"', None, "cargo",
+        f"{SCRIPT.format('riscv64', 64)} | grep -x '{OF_RUST}'", {"prints": OF_RUST}, "cargo"
     ),
     "a target of 32 bits": (
-        SCRIPT.format("riscv32", 32), None,
-        "libsec1 is for targets with pointers of 64 bits, not for riscv32", "cargo",
+        SCRIPT.format("riscv32", 32),
+        {"refused": "libsec1 is for targets with pointers of 64 bits, not for riscv32"}, "cargo",
     ),
     "another word for the library": (
-        "SEC1_LIBRARY=x cargo build --locked", None, "SEC1_LIBRARY is x, not", "cargo"
+        "SEC1_LIBRARY=x cargo build --locked", {"refused": "SEC1_LIBRARY is x, not"}, "cargo"
     ),
     "a folder without the library": (
-        f"SEC1_LIBRARY=installed SEC1_LIB_DIR=/none {BUILD}", None, "no libsec1.a in /none", "cargo"
+        f"SEC1_LIBRARY=installed SEC1_LIB_DIR=/none {BUILD}",
+        {"refused": "no libsec1.a in /none"}, "cargo",
     ),
 }  # fmt: skip
 
 
-@pytest.mark.parametrize("command, prints, refused", rows(WORKSPACE))
-def test_rust_workspace(workspace, check, command, prints, refused):
-    check("the workspace", command, prints, refused, folder=workspace)
+@pytest.mark.parametrize("command, ends", rows(WORKSPACE))
+def test_rust_workspace(workspace, check, command, ends):
+    check("the workspace", command, folder=workspace, **ends)
 
 
 def test_rust_over_an_installed_library(workspace, check, tmp_path):
@@ -266,38 +258,31 @@ def test_rust_by_git(check, tell, tmp_path):
     check("the program runs over it", "cargo run --quiet", prints=POINT, **what)
 
 
-PROFILES = """
-[profile.off]
-inherits = "release"
-lto = "off"
-[profile.thin]
-inherits = "release"
-lto = "thin"
-[profile.fat]
-inherits = "release"
-lto = "fat"
-codegen-units = 1
-[profile.small]
-inherits = "fat"
-opt-level = "z"
-panic = "abort"
-"""
-
-
 @pytest.fixture(scope="module")
 def by_path(tmp_path_factory, workspace):
     """Returns the folder of a program that has the line of README.md, with a path of its own."""
     line = blocks("bindings/rust/sec1/README.md", "toml")[0].replace("[dependencies]\n", "")
     path = f'path = "{workspace}/sec1", features = ["alloc"]'
     folder = tmp_path_factory.mktemp("by_path") / "program"
-    program(folder, re.sub('git = "[^"]*"', path, line) + PROFILES)
+    program(folder, re.sub('git = "[^"]*"', path, line))
     return folder
 
 
-@pytest.mark.parametrize("profile", ["dev", "off", "thin", "fat", "small"])
-def test_rust_by_path(check, by_path, profile):
-    command = f"cargo run --quiet --profile {profile}"
-    check("the program runs", command, prints=POINT, folder=by_path)
+# What is set of the profile `release`. Without any, the other one is taken.
+PROFILES = {
+    "dev": {},
+    "off": {"LTO": "off"},
+    "thin": {"LTO": "thin"},
+    "fat": {"LTO": "fat", "CODEGEN_UNITS": 1},
+    "small": {"LTO": "fat", "CODEGEN_UNITS": 1, "OPT_LEVEL": "z", "PANIC": "abort"},
+}
+
+
+@pytest.mark.parametrize("settings", PROFILES.values(), ids=PROFILES)
+def test_rust_by_path(check, by_path, settings):
+    command = f"cargo run --quiet {'--release' if settings else ''}"
+    variables = {f"CARGO_PROFILE_RELEASE_{it}": settings[it] for it in settings}
+    check("the program runs", command, prints=POINT, folder=by_path, **variables)
 
 
 # ---- Python
@@ -473,17 +458,16 @@ def pack(package, to):
 
 
 @pytest.fixture(scope="module")
-def tarball(clone, tmp_path_factory):
+def tarball(clone):
     """Returns what npm packs."""
-    return pack(clone.parent / "linked/bindings/js", tmp_path_factory.mktemp("tarball") / "made")
+    return pack(clone / "../linked/bindings/js", clone / "../made")
 
 
 @script(cases=8)
 def test_js_is_packed(tarball, clone, check, tell, tmp_path):
-    linked, there = clone.parent / "linked", clone / "bindings/js"
-    again = pack(linked / "bindings/js", tmp_path / "again")
-    check("it has the same bytes again", ["cmp", tarball, again])
-    same = ["diff", "-r", "--no-dereference", BINDINGS / "js", linked / "bindings/js"]
+    linked, there = clone / "../linked/bindings/js", clone / "bindings/js"
+    check("it has the same bytes again", ["cmp", tarball, pack(linked, tmp_path / "again")])
+    same = ["diff", "-r", "--no-dereference", BINDINGS / "js", linked]
     check("it leaves the folder as it was", same)
     tell("a clone has no links", not links(clone))
     tell("its module is a path", (there / "sec1.wasm").read_text() == "../../dist/sec1.wasm")
@@ -495,14 +479,6 @@ def test_js_is_packed(tarball, clone, check, tell, tmp_path):
     check("a path", "node links.js follow", refused=said, folder=tmp_path / "other/bindings/js")
     names = lines_of("tar", "tzf", tarball)
     tell("it has no tests", not [it for it in names if it.startswith("package/tests")])
-
-
-@script()
-def test_js_is_installed_as_its_page_says(clone, check, tmp_path):
-    shutil.copytree(clone.parent / "linked", tmp_path / "linked", symlinks=True)
-    line = re.search(r"^    (npm pack .*)$", (BINDINGS / "js/README.md").read_text(), re.M)[1]
-    command = f"{line}\ntest -s {HERE}/index.cjs"
-    check("the line of README.md", command, folder=tmp_path / "linked")
 
 
 USES = """
@@ -547,57 +523,56 @@ def installed(tarball, tmp_path_factory):
 
 TSC = """tsc --strict --noEmit --target es2022 --lib es2022 --module nodenext
     --moduleResolution nodenext""".replace("\n", " ")
-# A command over what is installed, what it prints, by which it is refused, and what it needs.
+# A command over what is installed, how it ends if not just well, and what it needs.
 INSTALLED = {
-    "package": (f"npm ls {NAME}", None, None, "npm"),
+    "package": (f"npm ls {NAME}", {}, "npm"),
     "types, module and licences": (
         f"cd {HERE}; for it in index.d.ts sec1.wasm LICENSE-MIT LICENSE-APACHE licences.txt; do"
         " test -f $it; done; find . -type l",
-        "", None, "node",
+        {"prints": ""}, "node",
     ),
-    "first program of README.md": ("node read.mjs", PARTS, None, "node"),
-    "second program": ("node write.mjs", "121 138 0201\ntrue Truncated 1 1", None, "node"),
-    "script that measures": (f"node {HERE}/tests/cost.js 2 | grep -c '|'", "7", None, "node"),
-    "required": ("node required.cjs", RAN, None, "node"),
-    "imported": ("node imported.mjs", RAN, None, "node"),
-    "inside": ("node inside.mjs", RAN, None, "node"),
-    "module and description": ("node description.cjs", ">=18", None, "node"),
-    "types of each name": (f"{TSC} types.mts", "", None, "tsc"),
-    "types of what is required": (f"{TSC} types.cts", "", None, "tsc"),
-    "a text for bytes": (f"{TSC} wrong.mts", None, "TS2345", "tsc"),
+    "first program of README.md": ("node read.mjs", {"prints": PARTS}, "node"),
+    "second program": ("node write.mjs", {"prints": "121 138 0201\ntrue Truncated 1 1"}, "node"),
+    "script that measures": (f"node {HERE}/tests/cost.js 2 | grep -c '|'", {"prints": "7"}, "node"),
+    "required": ("node required.cjs", {"prints": RAN}, "node"),
+    "imported": ("node imported.mjs", {"prints": RAN}, "node"),
+    "inside": ("node inside.mjs", {"prints": RAN}, "node"),
+    "module and description": ("node description.cjs", {"prints": ">=18"}, "node"),
+    "types of each name": (f"{TSC} types.mts", {"prints": ""}, "tsc"),
+    "types of what is required": (f"{TSC} types.cts", {"prints": ""}, "tsc"),
+    "a text for bytes": (f"{TSC} wrong.mts", {"refused": "TS2345"}, "tsc"),
 }  # fmt: skip
 
 
 @script()
-@pytest.mark.parametrize("command, prints, refused", rows(INSTALLED))
-def test_js(installed, check, command, prints, refused):
-    check("what is installed", command, prints, refused, folder=installed)
+@pytest.mark.parametrize("command, ends", rows(INSTALLED))
+def test_js(installed, check, command, ends):
+    check("what is installed", command, folder=installed, **ends)
 
 
-def passing(folder):
-    """Returns whether the package that is installed in a folder passes its tests, as many as it
-    has, and what they print."""
-    count = len(re.findall(r"^test\(", (BINDINGS / "js/tests/test.js").read_text(), re.M))
-    lines = call(["node", f"{HERE}/tests/test.js"], cwd=folder).stdout.splitlines()
-    wrong = [it for it in lines if it.startswith("not ok")]
-    return f"# pass {count}" in lines and "# fail 0" in lines, wrong
+def ended(folder, *options):
+    """Runs the tests of the package that is installed in a folder, and returns the lines of those
+    that failed, and how many passed and failed."""
+    lines = call(["node", *options, f"{HERE}/tests/test.js"], cwd=folder).stdout.splitlines()
+    return [it for it in lines if it.startswith(("not ok", "# pass", "# fail"))]
 
 
 @script()
 def test_js_passes(installed):
-    assert passing(installed) == (True, [])
+    count = len(re.findall(r"^test\(", (BINDINGS / "js/tests/test.js").read_text(), re.M))
+    assert ended(installed) == [f"# pass {count}", "# fail 0"]
 
 
 @script()
 def test_js_is_found_not_to_wipe(installed, tmp_path):
     """Leaves a page of the module's stack as it is."""
-    copy = tmp_path / "copy"
+    copy, test = tmp_path / "copy", "wipes memory after each call that sees a private key"
     shutil.copytree(installed, copy, symlinks=True)
     library = copy / HERE / "library.js"
     text, right = library.read_text(), "memory.fill(0, STORED, end)"
     assert right in text
     library.write_text(text.replace(right, "memory.fill(0, STORED + 65536, end)"))
-    assert not passing(copy)[0]
+    assert ended(copy, "--test-name-pattern", test)[0].endswith(test)
 
 
 @script()
@@ -633,13 +608,10 @@ def test_js_bundled(installed, check, tell, tmp_path, tool):
 @pytest.fixture(scope="module")
 def engine(installed):
     """Runs what makes many calls of a module, by default of the package's, and returns its sum."""
-    data = installed / HERE / "tests/data"
 
-    def total(*command, module=installed / HERE / "sec1.wasm"):
-        program, *options = command or ["node"]
-        files = module, data / "p256.der", data / "containers.txt"
-        before = [program, *options[:1], installed / HERE / "tests/engines.js", *options[1:]]
-        return lines_of(*before, *files)
+    def total(command="node {}", module="sec1.wasm"):
+        words = f"{command.format('tests/engines.js')} {module} tests/data/p256.der"
+        return lines_of(*words.split(), "tests/data/containers.txt", cwd=installed / HERE)
 
     return total
 
@@ -647,7 +619,7 @@ def engine(installed):
 @script()
 @needs("jsc")
 def test_js_engine_of_webkit(engine):
-    assert engine("jsc", "-m", "--") == engine()
+    assert engine("jsc -m {} --") == engine()
 
 
 @script()
@@ -680,47 +652,38 @@ BROWSERS = {
 
 @pytest.fixture
 def served(installed):
-    """Returns a server's URL of the installed package, and a queue of the paths it is asked for."""
-    asked = queue.SimpleQueue()
+    """Returns a server's URL of the installed package, and a queue of the paths by which a page
+    says what came of it."""
+    told = queue.SimpleQueue()
 
     class Handler(http.server.SimpleHTTPRequestHandler):
         def log_message(self, *_):
-            asked.put(self.path)
+            if self.path.startswith(("/read-and-wrote-keys-", "/failed-")):
+                told.put(self.path)
 
     handler = functools.partial(Handler, directory=installed / HERE)
     with http.server.ThreadingHTTPServer(("127.0.0.1", 0), handler) as server:
         threading.Thread(target=server.serve_forever, daemon=True).start()
-        yield f"http://127.0.0.1:{server.server_address[1]}", asked
+        yield f"http://127.0.0.1:{server.server_address[1]}", told
         server.shutdown()
-
-
-def answer(process, asked):
-    """Returns the path by which the page says what came of it, or None."""
-    for _ in range(HOUR):
-        try:
-            path = asked.get(timeout=1)
-        except queue.Empty:
-            path = ""
-        if path.startswith(("/read-and-wrote-keys-", "/failed-")):
-            return path
-        if process.poll() is not None:
-            return None
 
 
 @script()
 @pytest.mark.parametrize("command", rows(BROWSERS))
 def test_js_in_a_browser(engine, served, tmp_path, command):
     """Opens the page of the tests, which asks the server for a path when all went well."""
-    url, asked = served[0] + "/tests/page.html", served[1]
+    url, told = served[0] + "/tests/page.html", served[1]
     words = command.format(room=tmp_path, url=url).split()
     variables = {"HOME": str(tmp_path), "WEBKIT_DISABLE_SANDBOX_THIS_IS_DANGEROUS": "1"}
     how = {"env": {**os.environ, **variables}, "start_new_session": True, "text": True}
     with (tmp_path / "said").open("w") as said:
         process = subprocess.Popen(words, stdin=subprocess.PIPE, stdout=said, stderr=said, **how)
+    # where it ends by itself, nothing more is told
+    threading.Thread(target=lambda: told.put(process.wait()), daemon=True).start()
     try:
         process.stdin.write(json.dumps({"open": url}) + "\n")
         process.stdin.flush()
-        found = answer(process, asked)
+        found = told.get(timeout=HOUR)
     finally:
         process.stdin.close()
         if command != WINDOW:
