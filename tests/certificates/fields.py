@@ -1,9 +1,7 @@
-"""Prints the fields of a structure as OpenSSL finds them: fields.py WORD FILE, with the output of
-`openssl asn1parse` for the file on standard input. The bytes of a field are cut out of the file at
-the offsets that OpenSSL prints, and numbers and times are those that it prints.
+"""The fields of a structure as OpenSSL finds them. The bytes of a field are cut out at the offsets
+that `openssl asn1parse` prints, and numbers and times are those that it prints.
 """
 import re
-import sys
 
 LINE = re.compile(r" *(\d+):d=(\d+) +hl=(\d+) +l= *(\d+) +(?:cons|prim): (.*?) *(?::(.*))?$")
 
@@ -88,11 +86,6 @@ FINDERS = {
 }
 
 
-def main():
-    word, path = sys.argv[1:]
-    with open(path, "rb") as file:
-        data = file.read()
-    print(*FINDERS[word](tree(data, sys.stdin.read().splitlines())))
-
-
-main()
+def fields_of(word, data, lines):
+    """Returns the fields of a structure, by these lines that OpenSSL prints of it."""
+    return FINDERS[word](tree(data, lines))
