@@ -15,7 +15,6 @@
 #include <fcntl.h>
 #include <stdio.h>
 #include <stdlib.h>
-#include <string.h>
 #include <unistd.h>
 
 static const size_t SIGNAL = (size_t)1 << 62;
@@ -37,22 +36,18 @@ static void set_up(void) {
 __attribute__((constructor)) static void begin(void) {
     set_up();
     const char *number = getenv("REFUSE");
-    if (number || getenv("REFUSE_COUNT")) {
-        refused_at = number ? strtoul(number, NULL, 10) : 0;
-        made = was_refused = 0;
-        counts = 1;
-    }
+    refused_at = number ? strtoul(number, NULL, 10) : 0;
+    made = was_refused = 0;
+    counts = number || getenv("REFUSE_COUNT");
 }
 
 __attribute__((destructor)) static void end(void) {
     const char *file = getenv("REFUSE_COUNT");
-    char text[64];
     counts = 0;
     if (!file)
         return;
     int to = open(file, O_WRONLY | O_CREAT | O_TRUNC, 0600);
-    int length = snprintf(text, sizeof text, "%lu %lu\n", made, was_refused);
-    if (to < 0 || write(to, text, (size_t)length) != length)
+    if (to < 0 || dprintf(to, "%lu %lu\n", made, was_refused) < 0)
         _exit(99);
     close(to);
 }
@@ -70,47 +65,33 @@ static int is_refused(size_t size) {
     return 1;
 }
 
-/* What a signal is answered. */
-static void *answer(size_t more) {
-    int is_granted = 0;
-    if (more >= 1 && more <= 0xFFFF) {
-        made = was_refused = 0;
-        largest = 0;
-        refused_at = more;
-        counts = 1;
-        is_granted = 1;
-    } else if (more >> 16 == 1) {
-        counts = 0;
-        is_granted = made == (more & 0xFFFF) && !was_refused;
-    } else if (more >> 16 == 2) {
-        counts = 0;
-        is_granted = largest <= (more & 0xFFFF);
-    } else if (more >> 16 == 3) {
-        counts = 0;
-        is_granted = was_refused != 0;
-    }
-    if (is_granted)
-        return real_malloc(1);
+static void *refuse(void) {
     errno = ENOMEM;
     return NULL;
+}
+
+/* What a signal is answered. */
+static void *answer(size_t more) {
+    size_t kind = more >> 16, number = more & 0xFFFF;
+    if (more == 0 || kind > 3)
+        return refuse();
+    int is_granted[] = {1, made == number && !was_refused, largest <= number, was_refused != 0};
+    counts = kind == 0;
+    if (counts) {
+        made = was_refused = largest = 0;
+        refused_at = number;
+    }
+    return is_granted[kind] ? real_malloc(1) : refuse();
 }
 
 void *malloc(size_t size) {
     set_up();
     if (size >= SIGNAL)
         return answer(size - SIGNAL);
-    if (is_refused(size)) {
-        errno = ENOMEM;
-        return NULL;
-    }
-    return real_malloc(size);
+    return is_refused(size) ? refuse() : real_malloc(size);
 }
 
 void *realloc(void *block, size_t size) {
     set_up();
-    if (is_refused(size)) {
-        errno = ENOMEM;
-        return NULL;
-    }
-    return real_realloc(block, size);
+    return is_refused(size) ? refuse() : real_realloc(block, size);
 }
