@@ -5,7 +5,10 @@ The keys have a point of each form at each size, points that are none, private k
 DER in a file. BY_HAND has texts with the lines that are printed of each.
 """
 
+import itertools
 import subprocess
+
+from certificates.writer import element
 
 SIZES = (28, 32, 48, 66)
 LENGTHS = (0, 1, 28, 32, 48, 66, 117, 118, 122, 123, 127, 128, 255, 256, 300, 4095, 4096, 5000)
@@ -62,15 +65,6 @@ BY_HAND = [
 ]
 
 
-def element(tag, content):
-    """Returns an element in DER: the length in the fewest bytes (X.690 section 10.1)."""
-    count = len(content)
-    if count < 128:
-        return bytes([tag, count]) + content
-    octets = count.to_bytes((count.bit_length() + 7) // 8, "big")
-    return bytes([tag, 0x80 + len(octets)]) + octets + content
-
-
 def key(private_key, curve=None, public_key=None):
     """Returns the key with these parts in DER (RFC 5915 section 3)."""
     content = element(2, b"\1") + element(4, private_key)
@@ -83,10 +77,7 @@ def key(private_key, curve=None, public_key=None):
 
 def report(private_len, curve=None, public_key=None, point="none"):
     """Returns the lines of the report on a key."""
-    if public_key is None:
-        digits = "none"
-    else:
-        digits = public_key.hex().upper() or "empty"
+    digits = "none" if public_key is None else public_key.hex().upper() or "empty"
     curve = "none" if curve is None else CURVES[curve]
     lines = f"private_key: {private_len} bytes\nparameters: {curve}\n"
     return lines + f"public_key: {digits}\npoint: {point}\n"
@@ -100,10 +91,10 @@ def points():
         yield b"\2" + x, f"compressed even {size}"
         yield b"\3" + x, f"compressed odd {size}"
         yield b"\5" + x, f"compact {size}"
-        for y, word in ((even, "even"), (odd, "odd")):
+        for is_odd, y, word in ((0, even, "even"), (1, odd, "odd")):
             yield b"\4" + x + y, f"uncompressed {size}"
-            yield bytes([6 + (word == "odd")]) + x + y, f"hybrid {word} {size}"
-            yield bytes([7 - (word == "odd")]) + x + y, "none"
+            yield bytes([6 + is_odd]) + x + y, f"hybrid {word} {size}"
+            yield bytes([7 - is_odd]) + x + y, "none"
         yield b"\2" + bytes(size), f"compressed even {size}"
         yield b"\4" + bytes(2 * size), f"uncompressed {size}"
         # no tag of a point, a byte more, and a byte less
@@ -121,48 +112,49 @@ def points():
 
 
 def cases():
-    """Returns each input in DER, what is printed of it, and the status."""
-    for public_key, point in points():
-        for curve in (None, "2b81040022"):
-            yield key(b"\1" * 32, curve, public_key), report(32, curve, public_key, point), 0
+    """Returns each input in DER, and what is printed of it."""
+    for (public_key, point), curve in itertools.product(points(), (None, "2b81040022")):
+        yield key(b"\1" * 32, curve, public_key), report(32, curve, public_key, point)
     for curve in CURVES:
-        yield key(b"", curve), report(0, curve), 0
+        yield key(b"", curve), report(0, curve)
     uncompressed = b"\4" + bytes(range(64))
-    for count in LENGTHS:
-        for curve in (None, "2a8648ce3d030107"):
-            yield key(bytes(count), curve), report(count, curve), 0
-            lines = report(count, curve, uncompressed, "uncompressed 32")
-            yield key(bytes(count), curve, uncompressed), lines, 0
-    refused = "refused: not an EC private key in DER\ntree: "
+    for count, curve in itertools.product(LENGTHS, (None, "2a8648ce3d030107")):
+        yield key(bytes(count), curve), report(count, curve)
+        lines = report(count, curve, uncompressed, "uncompressed 32")
+        yield key(bytes(count), curve, uncompressed), lines
     whole = key(b"\1" * 32, "2a8648ce3d030107", uncompressed)
     for count in range(len(whole)):
-        yield whole[:count], refused + "no\n", 1
-    yield whole + b"\0", refused + "no\n", 1
-    yield element(0x30, b""), refused + "1 elements\n", 1
+        yield whole[:count], NO_KEY.format("no")
+    yield whole + b"\0", NO_KEY.format("no")
+    yield element(0x30, b""), NO_KEY.format("1 elements")
     octets = element(4, b"")
-    yield element(0x30, element(2, b"\2") + octets), refused + "3 elements\n", 1
-    yield element(0x30, element(2, b"\1") + octets + element(5, b"")), refused + "4 elements\n", 1
-    inner = element(4, b"")
+    yield element(0x30, element(2, b"\2") + octets), NO_KEY.format("3 elements")
+    yield element(0x30, element(2, b"\1") + octets + element(5, b"")), NO_KEY.format("4 elements")
+    inner = octets
     for depth in range(2, 67):
         inner = element(0x30, inner)
-        yield inner, refused + (f"{depth} elements\n" if depth <= 64 else "no\n"), 1
+        yield inner, NO_KEY.format(f"{depth} elements" if depth <= 64 else "no")
     # the greatest input, and one byte more
-    yield key(bytes(LIMIT - 13)), report(LIMIT - 13), 0
-    yield key(bytes(LIMIT - 12)), TOO_LONG, 1
+    yield key(bytes(LIMIT - 13)), report(LIMIT - 13)
+    yield key(bytes(LIMIT - 12)), TOO_LONG
+
+
+def ended(lines):
+    """Returns the status, standard output and standard error of a run that prints these lines."""
+    return int(lines.startswith("refused")), lines.encode(), b""
 
 
 def runs():
     """Returns each run: its name, whether the input is a file, the input, and how it has to end."""
-    for der, lines, status in cases():
+    for der, lines in cases():
         name = f"{der[:60].hex()}.. of {len(der)} bytes"
-        yield f"a path, {name}", True, der, (status, lines.encode(), b"")
+        yield f"a path, {name}", True, der, ended(lines)
         ways = {"text": der.hex(), "text in capitals, with blanks": der.hex(" ").upper()}
         for way, text in ways.items():
-            wanted = (status, lines.encode()) if len(text) <= LIMIT else (1, TOO_LONG.encode())
-            yield f"{way}, {name}", False, text.encode(), (*wanted, b"")
+            wanted = ended(lines if len(text) <= LIMIT else TOO_LONG)
+            yield f"{way}, {name}", False, text.encode(), wanted
     for name, text, lines in BY_HAND:
-        status = int(lines.startswith("refused"))
-        yield name, False, text.encode(), (status, lines.encode(), b"")
+        yield name, False, text.encode(), ended(lines)
 
 
 def run(program, is_file, given, file):

@@ -10,7 +10,7 @@ import threading
 
 import pytest
 import stored
-from calls.rows import GROWTH, WHOLE, element, key, rows, short_rows, sum_of, tree_rows
+from calls.rows import GROWTH, WHOLE, element, key, line, rows, short_rows, sum_of, tree_rows
 
 pytestmark = pytest.mark.built
 
@@ -42,8 +42,8 @@ def compare(printed, tell):
 
     def call(*pairs, **environment):
         asked, wanted = zip(*pairs)
-        for it, line, found in zip(asked, wanted, printed(asked, **environment)):
-            tell(f"{it[:150]}: wanted {line}, printed {found}", line == found)
+        for it, other, found in zip(asked, wanted, printed(asked, **environment)):
+            tell(f"{it[:150]}: wanted {other}, printed {found}", other == found)
 
     return call
 
@@ -187,8 +187,7 @@ def file_row(count, path):
     result, growth = sum_of(element(0x30, content)), (len(content) + GROWTH - 1) // GROWTH
     calls = [("write_sec1_der_file 0 0", 1), (f"read_sec1_der_file {result}", growth + 1)]
     calls += [("write_der_file 0 0", 0), (f"read_der_file {result}", growth)]
-    texts = (f" {text}" + f" {requests}+0+0" * bool(requests) for text, requests in calls)
-    return f"file {count} {path}", "file" + "".join(texts)
+    return f"file {count} {path}", line("file", calls, True)
 
 
 @pytest.mark.parametrize("name", NAMES[::5], ids=len)

@@ -5,26 +5,20 @@ and 20,000 damaged copies: beside the reader of certificates/, and what OpenSSL 
 """
 
 import itertools
-import sys
 
 import pytest
 import stored
-from conftest import TOP, lines_of
+from certificates import damage, sizes
+from certificates.answers import answer
+from conftest import TOP
 
 pytestmark = pytest.mark.built
-
-FOLDER = TOP / "tests/certificates"
 
 
 def lines_in(name):
     """Returns the lines of a file of certificates/, but for those that say what the next one is."""
-    lines = (FOLDER / name).read_text().splitlines()
+    lines = (TOP / "tests/certificates" / name).read_text().splitlines()
     return [it for it in lines if not it.startswith("#")]
-
-
-def run(script, *words, given=()):
-    """Returns what a script of certificates/ prints for these lines."""
-    return lines_of(sys.executable, "-B", FOLDER / script, *words, given=given)
 
 
 @pytest.fixture
@@ -32,10 +26,9 @@ def compare(replay, tell):
     """Compares what the program prints for each line with what the reader says, and other lines."""
 
     def call(asked, *others):
-        others = [run("answers.py", given=asked), *others]
-        for line, found, *wanted in itertools.zip_longest(asked, replay(asked), *others):
-            other = next((it for it in wanted if it != found), found)
-            tell(f"{str(line)[:150]}: {found}, and not {other}", found == other)
+        answers = map(answer, asked)
+        for line, found, *wanted in itertools.zip_longest(asked, replay(asked), answers, *others):
+            tell(f"{str(line)[:150]}: {found}, and not {wanted}", {found} == {*wanted})
 
     return call
 
@@ -55,11 +48,11 @@ def test_structures_by_hand(compare, name):
 
 
 def test_contents_of_many_sizes(compare):
-    compare(run("sizes.py"), run("sizes.py", "answers"))
+    compare(*sizes.lines())
 
 
 def test_damaged_structures(compare):
-    compare(run("damage.py", given=lines_in("openssl.txt")))
+    compare(damage.copies(lines_in("openssl.txt")))
 
 
 @pytest.mark.parametrize("at, name", enumerate(["stdin", "stdout"]))

@@ -6,11 +6,12 @@ reader of keys/, and OpenSSL.
 """
 
 import itertools
-import sys
 
 import pytest
 import stored
 from conftest import TOP, lines_of
+from keys import damage
+from keys.answers import answer
 
 pytestmark = pytest.mark.built
 
@@ -18,11 +19,6 @@ KEYS = TOP / "tests/keys"
 MADE = (KEYS / "openssl.txt").read_text().splitlines()
 # Three lines for each key made by hand: what it is, the key, and the line for it.
 BY_HAND = (KEYS / "hand.txt").read_text().splitlines()
-
-
-def run(script, lines):
-    """Returns what a script of keys/ prints for these lines."""
-    return lines_of(sys.executable, "-B", KEYS / script, given=lines)
 
 
 def differences(*lists):
@@ -35,14 +31,14 @@ def differences(*lists):
 def asked():
     """Returns the keys of OpenSSL, their damaged copies and those made by hand."""
     by_hand = [it for number, it in enumerate(BY_HAND) if number % 3 != 2]
-    lines = [*MADE, *run("damage.py", MADE), *by_hand]
+    lines = [*MADE, *damage.copies(MADE), *by_hand]
     return [it if it.startswith("#") else f"{stored.KEY} {it}" for it in lines]
 
 
 @pytest.fixture(scope="module")
 def answers(asked, pytestconfig):
     """Returns what the reader says of them; with `--write` stores both."""
-    lines = run("answers.py", asked)
+    lines = [answer(it) for it in asked if not it.startswith("#")]
     if pytestconfig.getoption("--write"):
         stored.write("keys", asked, lines)
     return lines
@@ -71,9 +67,16 @@ def test_number_of_stored_keys():
 def copies():
     """Returns a key with all fields as it begins, with a byte behind it, and with each of its bytes
     made each other value; and what the reader says of them."""
-    key = [it for it in BY_HAND if it.startswith("307702")]
-    lines = run("changes.py", key)
-    return lines, run("answers.py", lines)
+    (key,) = (bytes.fromhex(it) for it in BY_HAND if it.startswith("307702"))
+    changed = [key[:count] for count in range(len(key))] + [key + b"\0"]
+    changed += [
+        key[:place] + bytes([other]) + key[place + 1 :]
+        for place, byte in enumerate(key)
+        for other in range(256)
+        if other != byte
+    ]
+    lines = [f"{stored.KEY} {it.hex().upper()}" for it in changed]
+    return lines, [*map(answer, lines)]
 
 
 def test_changed_copies(replay, copies):

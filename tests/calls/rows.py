@@ -4,6 +4,10 @@ Written from docs/FORMATS.md and the documentation of the calls. `rows()` are th
 stored input: points, keys, streams that fail once or end, and single calls.
 """
 import functools
+import itertools
+
+from certificates.reader import Elements, Refused, demand
+from certificates.writer import element
 
 SIZES = (5, 20, 24, 28, 32, 40, 48, 64, 66)
 LENGTHS = (0, 1, 28, 32, 48, 66, 300, 5000, 100000, 2000000)
@@ -12,15 +16,6 @@ CURVE = "2a8648ce3d030107"
 GROWTH = 4096
 # the most digits of a point that are printed at once
 PRINTED = 134
-
-
-def element(tag, content):
-    """An element in DER: the length in the fewest bytes (X.690 section 10.1)."""
-    count = len(content)
-    if count < 128:
-        return bytes([tag, count]) + content
-    octets = count.to_bytes((count.bit_length() + 7) // 8, "big")
-    return bytes([tag, 0x80 + len(octets)]) + octets + content
 
 
 def pattern(count):
@@ -38,7 +33,7 @@ def key(private_len, curve=None, public_len=None):
     return content
 
 
-@functools.lru_cache(maxsize=None)
+@functools.cache
 def sum_of(data):
     """The length of the bytes, and their sum, in which each multiplies what is before it by 31."""
     total = 0
@@ -47,14 +42,11 @@ def sum_of(data):
     return f"{len(data)} {total}"
 
 
-def call(name, result, requests, others=0):
-    """What is printed of a call: with refused requests, how many end it with Memory, and how many
-    don't end it, and how many end it with another error."""
-    return f" {name} {result}", f" {requests}+0+{others}" if requests + others else ""
-
-
 def line(name, calls, is_refused):
-    return name + "".join(text + counts * is_refused for text, counts in calls)
+    """What is printed of calls: what each returns, and with refused requests how many end it with
+    Memory, how many don't end it, and how many end it with another error."""
+    return name + "".join(
+        f" {text}" + f" {requests}+0+0" * bool(is_refused and requests) for text, requests in calls)
 
 
 def points():
@@ -69,24 +61,25 @@ def points():
 def point_rows(is_refused):
     for size, encoding in points():
         lower, upper = encoding.hex().encode(), encoding.hex().upper().encode()
-        calls = [call("to_bytes", sum_of(encoding), 1), call("to_lower_hex", sum_of(lower), 1)]
-        calls += [call("to_upper_hex", sum_of(upper), 1), call("to_json", sum_of(upper), 1)]
+        calls = [(f"to_bytes {sum_of(encoding)}", 1), (f"to_lower_hex {sum_of(lower)}", 1)]
+        calls += [(f"to_upper_hex {sum_of(upper)}", 1), (f"to_json {sum_of(upper)}", 1)]
         # a text grows once for each piece that is printed, and is then twice as long as the first
-        calls += [call("Display", sum_of(upper), (len(upper) + PRINTED - 1) // PRINTED)]
+        calls += [(f"Display {sum_of(upper)}", (len(upper) + PRINTED - 1) // PRINTED)]
         yield f"point {size} {encoding.hex()}", line("point", calls, is_refused)
+
+
+def private_len_of(length):
+    """The length of the private key of which the content of a key has this length."""
+    return next(it for it in range(length - 16, length) if len(key(it)) == length)
 
 
 def key_shapes():
     """The private key's length, the curve and the public key's length."""
-    for count in LENGTHS:
-        for curve in (None, CURVE):
-            for public_len in (None, 65):
-                yield count, curve, public_len
+    yield from itertools.product(LENGTHS, (None, CURVE), (None, 65))
     # contents of a whole number of steps, one byte less and one more
     for steps in (1, 2, 3, 25):
         for more in (-1, 0, 1):
-            wanted = steps * GROWTH + more
-            yield next(p for p in range(wanted - 16, wanted) if len(key(p)) == wanted), None, None
+            yield private_len_of(steps * GROWTH + more), None, None
     # each length up to 140, and those beside powers of two
     powers = (2**place + more for place in range(8, 17) for more in (-1, 0, 1))
     for count in sorted({*range(141), *powers}):
@@ -95,18 +88,21 @@ def key_shapes():
     yield 0, CURVE, 100000
 
 
+def shape(count, curve, public_len):
+    """The words of a key's shape."""
+    return f"{count} {curve or '-'} {'-' if public_len is None else public_len}"
+
+
 def key_rows(is_refused):
     for count, curve, public_len in key_shapes():
         content = key(count, curve, public_len)
         result = sum_of(element(0x30, content))
         growth = (len(content) + GROWTH - 1) // GROWTH
-        names = ["to_der", "document_ref", "document", "encode_msg", "from_der"]
-        calls = [call(name, result, 1) for name in names]
-        calls += [call("read_der_from", result, growth), call("from_sec1_der", result, 1)]
-        calls += [call("read_sec1_der_from", result, growth + 1)]
-        calls += [call("to_sec1_der", result, 1), call("write_sec1_der_to", result, 1)]
-        shape = f"key {count} {curve or '-'} {'-' if public_len is None else public_len}"
-        yield shape, line("key", calls, is_refused)
+        requests = {"to_der": 1, "document_ref": 1, "document": 1, "encode_msg": 1, "from_der": 1}
+        requests |= {"read_der_from": growth, "from_sec1_der": 1, "read_sec1_der_from": growth + 1}
+        requests |= {"to_sec1_der": 1, "write_sec1_der_to": 1}
+        calls = [(f"{name} {result}", number) for name, number in requests.items()]
+        yield f"key {shape(count, curve, public_len)}", line("key", calls, is_refused)
 
 
 def break_row(how, after, step, private_len):
@@ -132,37 +128,31 @@ KINDS = """NotFound PermissionDenied ConnectionRefused ConnectionReset HostUnrea
 
 
 def break_rows():
-    for how in KINDS:
-        for after in (0, 1, 2, 5, 11, 12):
-            yield break_row(how, after, 4, 4)
+    for how, after in itertools.product(KINDS, (0, 1, 2, 5, 11, 12)):
+        yield break_row(how, after, 4, 4)
     for how in ("WouldBlock", "Interrupted", "Other"):
-        for step in (1, 3, 100):
-            for after in range(13):
-                yield break_row(how, after, step, 4)
+        for step, after in itertools.product((1, 3, 100), range(13)):
+            yield break_row(how, after, step, 4)
         for private_len in (4081, 4082, 4083, 5000, 8177, 8178, 8179):
             whole = len(element(0x30, key(private_len)))
             near = (4, 4096, 4100, 8192, whole)
             for after in sorted({place + more for place in near for more in (-1, 0, 1)}):
                 if after <= whole + 1:
                     yield break_row(how, after, 5000, private_len)
-    # each read and each write of the bytes of a key fails once
-    whole = len(element(0x30, key(114)))
-    assert whole == 121
-    for after in range(whole + 1):
+    # each read and each write of the 121 bytes of a key fails once
+    for after in range(122):
         yield break_row("Other", after, 1, 114)
-    for step in (1, 2, 3, 7, 100, 4095, 4096, 4097):
-        for private_len in (0, 4, 66, 300, 4081, 4082, 4083, 5000, 8177, 8178, 8179):
-            yield break_row("None", 0, step, private_len)
+    lengths = (0, 4, 66, 300, 4081, 4082, 4083, 5000, 8177, 8178, 8179)
+    for step, private_len in itertools.product((1, 2, 3, 7, 100, 4095, 4096, 4097), lengths):
+        yield break_row("None", 0, step, private_len)
     # contents of these lengths, in pieces of six sizes in turn
-    for length in (120, 200, 4_096, 4_097, 10_000, 12_001, 100_000, 1_000_000, 1_048_575, 1_048_576):
-        private_len = next(p for p in range(length - 16, length) if len(key(p)) == length)
+    for length in (120, 200, 4096, 4097, 10000, 12001, 100000, 1000000, 1048575, 1048576):
         for turn in range(6):
-            yield break_row("None", turn, 0, private_len)
+            yield break_row("None", turn, 0, private_len_of(length))
 
 
 def encode_rows():
     """A key that is written into a slice of bytes AA: whether it fits, and whether it is a key."""
-    whole = element(0x30, key(0))
     shapes = [(0, room) for room in range(10)]
     shapes += [(count, len(element(0x30, key(count))) + more)
                for count in (122, 123) for more in (-1, 0, 1)]
@@ -174,7 +164,6 @@ def encode_rows():
         result = str(len(der)) if fits else "Buffer"
         is_read = "true" if fits and len(der) == room else "false"
         yield f"encode {count} {room}", f"encode {result} {left.hex()} read {is_read}"
-    assert whole == bytes.fromhex("30050201010400")
 
 
 # A key of P-256 with both fields, and without its curve (RFC 5915 section 3).
@@ -205,43 +194,47 @@ def piece_rows():
     for step in (1, 7, 121, 1000):
         yield piece_row("None", 0, step, whole, None, 121)
     yield piece_row("None", 0, 1, whole + b"\0", "TrailingData", 122)
-    for how, after, step, error in (("Other", 121, 121, "Io"), ("Other", 10, 3, "Io"), ("Other", 7, 1000, "Io"),
-                                    ("End", 10, 3, "Truncated"), ("End", 7, 1000, "Truncated"),
-                                    ("End", 0, 1, "Truncated")):
+    for how, after, step, error in (
+        ("Other", 121, 121, "Io"), ("Other", 10, 3, "Io"), ("Other", 7, 1000, "Io"),
+        ("End", 10, 3, "Truncated"), ("End", 7, 1000, "Truncated"), ("End", 0, 1, "Truncated"),
+    ):
         yield piece_row(how, after, step, whole, error, after)
     # more than is read, as of a stream without an end
-    for data, error, taken in ((bytes(300), "Tag", 1), (b"\x30" * 300, "TrailingData", 51),
-                               (b"\x30\x80" + bytes(300), "Length", 2), (b"\x30\x84\x10\0\0\0", "Length", 6)):
+    for data, error, taken in (
+        (bytes(300), "Tag", 1), (b"\x30" * 300, "TrailingData", 51),
+        (b"\x30\x80" + bytes(300), "Length", 2), (b"\x30\x84\x10\0\0\0", "Length", 6),
+    ):
         yield piece_row("None", 0, 1, data, error, taken)
     # a content of 268,435,455 bytes that fails behind 12,288 of them
-    yield piece_row("Other", 12_294, 4_096, b"\x30\x84\x0F\xFF\xFF\xFF" + bytes(20_000), "Io", 12_294)
-    for data, error, taken in ((b"", "Truncated", 0), (b"\4\1\xAA", None, 3), (b"\4\2\xAA", "Truncated", 3),
-                               (b"\0\xFF", "Tag", 1), (b"\5\0\0", "TrailingData", 3), (b"\5\0", None, 2),
-                               (b"\x30\3\4\5\0", None, 5)):
+    long = b"\x30\x84\x0F\xFF\xFF\xFF" + bytes(20_000)
+    yield piece_row("Other", 12_294, 4_096, long, "Io", 12_294)
+    for data, error, taken in (
+        (b"", "Truncated", 0), (b"\4\1\xAA", None, 3), (b"\4\2\xAA", "Truncated", 3),
+        (b"\0\xFF", "Tag", 1), (b"\5\0\0", "TrailingData", 3), (b"\5\0", None, 2),
+        (b"\x30\3\4\5\0", None, 5),
+    ):
         yield piece_row("None", 0, 1000, data, error, taken)
 
 
 def document_rows():
     """Documents, and whether the bytes are a tree; over a stream they are what they are in memory."""
-    wrapped = b""
-    for _ in range(64):
+    wrapped, octet = b"", element(4, b"\xAA")
+    for level in range(64):
         wrapped = element(0x30, wrapped)
-    octet = element(4, b"\xAA")
-    for _ in range(63):
-        octet = element(0x30, octet)
-    tests = [("0401aa", "3 1"), ("3003040500", "5 Truncated")]
-    tests += [("050000", "TrailingData TrailingData")]
-    tests += [("1f00", "Tag Tag"), ("", "Truncated Truncated"), ("0401", "Truncated Truncated")]
-    tests += [("30840fffffff", "Truncated Truncated"), ("308410000000", "Length Length")]
-    tests += [("308410", "Truncated Truncated"), ("3180", "Length Length"), ("0500", "2 1")]
-    tests += [("a000", "2 1"), ("04033080ff", "5 1"), ("0000", "Tag Tag")]
-    tests += [("30800000", "Length Length")]
-    tests += [("3002050000", "TrailingData TrailingData"), (wrapped.hex(), f"{len(wrapped)} 64")]
-    tests += [(octet.hex(), f"{len(octet)} 64")]
-    tests += [(WHOLE, "121 7"), (WITHOUT_CURVE, "109 5"), ("30050201010400", "7 3")]
-    # an INTEGER of two bytes, and a field that occurs twice, are a key's no more, but a tree's
-    tests += [("3006020200010400", "8 3"), ("30110201010400a00406022a03a00406022a03", "19 7")]
-    tests += [("3081050201010400", "Length Length")]
+        octet = element(0x30, octet) if level else octet
+    tests = [
+        ("0401aa", "3 1"), ("3003040500", "5 Truncated"), ("050000", "TrailingData TrailingData"),
+        ("1f00", "Tag Tag"), ("", "Truncated Truncated"), ("0401", "Truncated Truncated"),
+        ("30840fffffff", "Truncated Truncated"), ("308410000000", "Length Length"),
+        ("308410", "Truncated Truncated"), ("3180", "Length Length"), ("0500", "2 1"),
+        ("a000", "2 1"), ("04033080ff", "5 1"), ("0000", "Tag Tag"), ("30800000", "Length Length"),
+        ("3002050000", "TrailingData TrailingData"), (wrapped.hex(), f"{len(wrapped)} 64"),
+        (octet.hex(), f"{len(octet)} 64"), (WHOLE, "121 7"), (WITHOUT_CURVE, "109 5"),
+        ("30050201010400", "7 3"),
+        # an INTEGER of two bytes, and a field that occurs twice, are a key's no more, but a tree's
+        ("3006020200010400", "8 3"), ("30110201010400a00406022a03a00406022a03", "19 7"),
+        ("3081050201010400", "Length Length"),
+    ]
     for inner in (wrapped, octet):
         outer = element(0x30, inner)
         tests += [(outer.hex(), f"{len(outer)} Depth")]
@@ -255,59 +248,31 @@ def document_rows():
         yield f"document {digits}", f"document {found} {found.split()[0]}"
 
 
-class Refused(Exception):
-    """The kind by which bytes are refused."""
-
-
-def header_at(data):
-    """The tag, the content and the bytes behind the element that the bytes begin with (X.690
-    sections 8.1.2, 8.1.3 and 10.1), of at most 268,435,455 bytes."""
-    if not data:
-        raise Refused("Truncated")
-    if data[0] == 0 or data[0] % 32 == 31:
-        raise Refused("Tag")
-    if len(data) < 2:
-        raise Refused("Truncated")
-    first, begin, length = data[1], 2, data[1]
-    if first >= 0x80:
-        if not 0x81 <= first <= 0x84:
-            raise Refused("Length")
-        begin += first - 0x80
-        if len(data) < begin:
-            raise Refused("Truncated")
-        length = int.from_bytes(data[2:begin], "big")
-        if length < max(0x80, 1 << 8 * (first - 0x81)) or length > 268435455:
-            raise Refused("Length")
-    if len(data) < begin + length:
-        raise Refused("Truncated")
-    return data[0], data[begin : begin + length], data[begin + length :]
-
-
-def elements_of(data, levels=64):
-    """The number of elements of the tree that the bytes begin with, of at most so many levels, and
-    the bytes behind it."""
-    tag, content, rest = header_at(data)
+def elements_of(elements, levels=64):
+    """The number of elements of the tree that is read next, of at most so many levels."""
+    tag, inside = elements.data[elements.at :][:1], Elements(elements.read(None))
     count = 1
-    while tag & 0x20 and content:
-        if levels == 1:
-            raise Refused("Depth")
-        more, content = elements_of(content, levels - 1)
-        count += more
-    return count, rest
+    while tag[0] & 0x20 and inside.more():
+        demand(levels > 1, "Depth")
+        count += elements_of(inside, levels - 1)
+    return count
+
+
+def outcome(data, read):
+    """What a call returns that reads all of the bytes, or by which error it refuses them."""
+    elements = Elements(data)
+    try:
+        found = read(elements)
+        elements.finish()
+    except Refused as refused:
+        return str(refused)
+    return str(found)
 
 
 def document_row(data):
-    """What the calls on a document of these bytes return, by the two functions above."""
-    try:
-        found = str(len(data)) if not header_at(data)[2] else "TrailingData"
-    except Refused as refused:
-        found = str(refused)
-    try:
-        count, rest = elements_of(data)
-        tree = "TrailingData" if rest else str(count)
-    except Refused as refused:
-        tree = str(refused)
-    return f"document {data.hex()}", f"document {found} {tree} {found}"
+    """What the calls on a document of these bytes return, by the reader of certificates/."""
+    found = outcome(data, lambda elements: len(elements.read_whole()))
+    return f"document {data.hex()}", f"document {found} {outcome(data, elements_of)} {found}"
 
 
 class Numbers:
@@ -368,16 +333,17 @@ def short_rows():
 def failed_rows():
     """A reader of which a call failed: each further call returns Failed, and moves nothing."""
     after = "true None Failed Failed Failed Failed Failed true"
-    tests = [("05000400", "Tag"), ("", "Truncated"), ("0402aa", "Truncated")]
-    tests += [("04800000", "Length"), ("1f000400", "Tag"), ("048105aabbccddee", "Length")]
-    for digits, kind in tests:
+    for digits, kind in (
+        ("05000400", "Tag"), ("", "Truncated"), ("0402aa", "Truncated"), ("04800000", "Length"),
+        ("1f000400", "Tag"), ("048105aabbccddee", "Length"),
+    ):
         yield f"failed {digits}", f"failed {kind} {after}"
     yield "failed 0400", "failed Ok false None Truncated Failed Failed Failed Failed true"
     yield "failed 04000500", "failed Ok false Some(5) Tag Failed Failed Failed Failed true"
 
 
-TAGS = ("Identity", "", "CompressedEvenY", "CompressedOddY", "Uncompressed", "Compact", "HybridEvenY",
-        "HybridOddY")
+TAGS = ("Identity", "", "CompressedEvenY", "CompressedOddY", "Uncompressed", "Compact",
+        "HybridEvenY", "HybridOddY")
 
 
 def parts_of(size, encoding):
@@ -400,8 +366,10 @@ def parts_of(size, encoding):
 
 def part_encodings():
     """Sizes and bytes: known points, and those that are none."""
-    for digits in ("02ff", "0201", "0300", "0401ff", "040200", "0507", "050700", "060102", "060103", "070103",
-                   "070102", "0602ff", "00", "0000", "01", "06", "07", "0801", "ff", "", "040101", "040103"):
+    for digits in (
+        "02ff", "0201", "0300", "0401ff", "040200", "0507", "050700", "060102", "060103", "070103",
+        "070102", "0602ff", "00", "0000", "01", "06", "07", "0801", "ff", "", "040101", "040103",
+    ):
         yield 1, bytes.fromhex(digits)
     for digits in ("0400000100", "0400000001", "0600000100", "0700000001", "0700000100"):
         yield 2, bytes.fromhex(digits)
@@ -436,7 +404,7 @@ def text_row(size, text):
 
 
 def text_rows():
-    for text in ("02AF", "02af", "02aF", "02A", "", "02", "02AF0000", "070103", "070102", "02G0", "00"):
+    for text in "02AF 02af 02aF 02A  02 02AF0000 070103 070102 02G0 00".split(" "):
         yield text_row(1, text)
     whole = PUBLIC[10:]
     for text in (whole, "02" + "11" * 32, "04" + "11" * 32 + "22" * 32, whole[:66]):
@@ -476,18 +444,13 @@ def shown_key(curve, public_len):
 
 def show_rows():
     """What `{:?}` prints: of keys and documents nothing that is secret."""
-    for count in (0, 1, 2, 28, 32, 48, 66, 300):
-        for curve in CURVES:
-            for public_len in (None, 0, 1, 65):
-                texts = [*shown_key(curve, public_len), "SecretDocument { .. }", "SecretDocument { .. }"]
-                shape = f"show_key {count} {curve or '-'} {'-' if public_len is None else public_len}"
-                yield shape, "\n".join(texts).encode().hex()
+    counts = (0, 1, 2, 28, 32, 48, 66, 300)
+    for count, curve, public_len in itertools.product(counts, CURVES, (None, 0, 1, 65)):
+        texts = [*shown_key(curve, public_len), "SecretDocument { .. }", "SecretDocument { .. }"]
+        yield f"show_key {shape(count, curve, public_len)}", "\n".join(texts).encode().hex()
     # by a width, a precision and other options: of the private key nothing either
-    for count in (0, 1, 2, 28, 32, 48, 66, 300, 5000):
-        for curve in CURVES:
-            for public_len in (None, 0, 65):
-                shape = f"{curve or '-'} {'-' if public_len is None else public_len}"
-                yield f"hidden {count} {shape}", "hidden true"
+    for count, curve, public_len in itertools.product((*counts, 5000), CURVES, (None, 0, 65)):
+        yield f"hidden {shape(count, curve, public_len)}", "hidden true"
     for size, encoding in points():
         first, x, y = encoding[0], list(encoding[1 : 1 + size]), list(encoding[1 + size :])
         is_odd = "true" if first == 3 else "false"
@@ -502,11 +465,6 @@ def rows(is_refused=False):
     are refused, or with memory to spare."""
     yield from point_rows(is_refused)
     yield from key_rows(is_refused)
-    yield from break_rows()
-    yield from piece_rows()
-    yield from encode_rows()
-    yield from document_rows()
-    yield from failed_rows()
-    yield from parts_rows()
-    yield from text_rows()
-    yield from show_rows()
+    for rows_of in (break_rows, piece_rows, encode_rows, document_rows, failed_rows, parts_rows,
+                    text_rows, show_rows):
+        yield from rows_of()

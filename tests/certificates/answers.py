@@ -1,13 +1,10 @@
-"""Prints what crates/replay has to print for the lines on standard input, by the reader and the
-writer of this folder.
-"""
-import sys
+"""What crates/replay has to print for structures, by the reader and the writer of this folder."""
 
-import reader
-import writer
+from certificates import reader, writer
 
 
 def answer(line):
+    """Returns the line for one."""
     word, digits = line.split(" ")
     data = bytes.fromhex(digits)
     try:
@@ -16,7 +13,3 @@ def answer(line):
         return f"refused: {refused.args[0]}"
     same = "same" if writer.write(word, fields) == data else "different"
     return " ".join([*fields, same])
-
-
-for line in sys.stdin.read().splitlines():
-    print(answer(line))

@@ -1,9 +1,9 @@
-"""Prints 20,000 damaged copies of the structures on standard input, the same in each run, as lines
-WORD HEX. Some are damaged as bytes; of others the elements are changed and the lengths around them
-announce what they hold then, so that the fault stands deeper, or there is none.
+"""20,000 damaged copies of structures, the same in each run, as lines WORD HEX. Some are damaged as
+bytes; of others the elements are changed and the lengths around them announce what they hold then,
+so that the fault stands deeper, or there is none.
 """
+import contextlib
 import random
-import sys
 
 COUNT = 20_000
 CONSTRUCTED = 0x20
@@ -52,27 +52,16 @@ class Unfit(Exception):
     """The structure has no element that could be damaged so."""
 
 
-class Raw:
-    """Bytes that are written as they are."""
-
-    def __init__(self, data):
-        self.data = data
-
-    def write(self):
-        return self.data
-
-
 class Node:
-    """An element. `zeros` counts needless digits of its length, `error` is added to the length."""
+    """An element. `zeros` counts needless digits of its length, `error` is added to the length. Of
+    its `nodes` some may be bytes."""
 
     def __init__(self, tag, content):
         self.tag, self.content, self.zeros, self.error = tag, content, 0, 0
         self.nodes = parse(content) if tag & CONSTRUCTED else None
 
-    def write(self):
-        content = self.content
-        if self.nodes is not None:
-            content = b"".join(node.write() for node in self.nodes)
+    def __bytes__(self):
+        content = self.content if self.nodes is None else b"".join(map(bytes, self.nodes))
         size = max(len(content) + self.error, 0)
         if size < 0x80 and not self.zeros:
             return bytes([self.tag, size]) + content
@@ -96,188 +85,153 @@ def parse(data):
     return nodes
 
 
-# Damage to bytes.
+class Damage(random.Random):
+    """The ways to damage a structure: its bytes, or the elements in its outermost one."""
+
+    # ---- damage to bytes
+
+    def change_byte(self, data):
+        place = self.choice([self.randrange(len(data)), self.randrange(min(16, len(data)))])
+        data[place] = (data[place] + self.choice([1, 255, 0x80, 0x20])) % 256
+
+    def change_bit(self, data):
+        data[self.randrange(len(data))] ^= 1 << self.randrange(8)
+
+    def take_byte_out(self, data):
+        del data[self.randrange(len(data))]
+
+    def put_byte_in(self, data):
+        data.insert(self.randrange(len(data)), self.randrange(256))
+
+    def cut_off(self, data):
+        del data[self.randrange(1, len(data)) :]
+
+    def append(self, data):
+        data += self.randbytes(self.randrange(1, 4))
+
+    def double_part(self, data):
+        start = self.randrange(len(data))
+        data[start:start] = data[start : start + self.randrange(1, 20)]
+
+    # ---- damage to elements
+
+    def some(self, top, holds):
+        """Returns an element for which this holds."""
+        nodes = [node for node in top.inner() if holds(node)]
+        if not nodes:
+            raise Unfit
+        return self.choice(nodes)
+
+    def leaf(self, top):
+        return self.some(top, lambda node: node.nodes is None)
+
+    def parent(self, top):
+        return self.some(top, lambda node: node.nodes)
+
+    def change_content(self, top):
+        node = self.leaf(top)
+        content = bytearray(node.content or b"\0")
+        place = self.choice([0, len(content) - 1, self.randrange(len(content))])
+        content[place] = (content[place] + self.choice([1, 2, 255, 128])) % 256
+        node.content = bytes(content)
+
+    def shorten_content(self, top):
+        node = self.leaf(top)
+        start = self.choice([0, 0, 1])
+        node.content = node.content[start : len(node.content) - self.randrange(2)]
+
+    def lengthen_content(self, top):
+        node = self.leaf(top)
+        more = self.choice([b"\x00", b"\xff", b"\x80", b"\x30", b"\x5a", self.randbytes(2)])
+        node.content = self.choice([more + node.content, node.content + more])
+
+    def try_content(self, top):
+        tags = {node.tag for node in top.inner()}
+        tag = self.choice([tag for tag in CONTENTS if tag in tags])
+        node = self.some(top, lambda node: node.tag == tag)
+        node.content = bytes.fromhex(self.choice(CONTENTS[tag]))
+
+    def take_element_out(self, top):
+        nodes = self.parent(top).nodes
+        del nodes[self.randrange(len(nodes))]
+
+    def repeat_element(self, top):
+        nodes = self.parent(top).nodes
+        place = self.randrange(len(nodes))
+        nodes.insert(place, nodes[place])
+
+    def swap_neighbours(self, top):
+        nodes = self.some(top, lambda node: node.nodes and len(node.nodes) > 1).nodes
+        place = self.randrange(len(nodes) - 1)
+        nodes[place], nodes[place + 1] = nodes[place + 1], nodes[place]
+
+    def put_element_in(self, top):
+        nodes = self.parent(top).nodes
+        place = self.randrange(len(nodes) + 1)
+        nodes.insert(place, bytes.fromhex(self.choice(ELEMENTS)))
+
+    def put_false_in(self, top):
+        """Puts a BOOLEAN behind an identifier, as of an extension that isn't critical."""
+        nodes = self.some(top, lambda node: node.nodes and node.nodes[0].tag == 0x06).nodes
+        nodes.insert(1, bytes.fromhex(self.choice(["010100", "010100", "0101ff", "010101"])))
+
+    def add_to_set(self, top):
+        """Puts another element into a SET, at any place."""
+        nodes = self.some(top, lambda node: node.tag == 0x31 and node.nodes).nodes
+        (other,) = parse(bytes(nodes[0]))
+        for node in other.inner():
+            if node.nodes is None and node.content and self.randrange(2):
+                node.content = node.content[:-1] + bytes([self.randrange(128)])
+        nodes.insert(self.randrange(2), other)
+
+    def append_inside(self, top):
+        self.parent(top).nodes.append(self.randbytes(self.randrange(1, 4)))
+
+    def empty_element(self, top):
+        node = self.choice(top.inner())
+        node.content, node.nodes = b"", None
+
+    def change_tag(self, top):
+        self.choice(top.inner()).tag = self.choice(TAGS)
+
+    def needless_digits(self, top):
+        self.choice(top.inner()).zeros = self.choice([1, 1, 2, 3, 4])
+
+    def wrong_length(self, top):
+        node = self.choice(top.inner())
+        node.error = self.choice([-2, -1, 1, 1, 2, 100, 1000, 0x0FFFFFFF, 0x10000000, 1 << 32])
+
+    def cut_inside(self, top):
+        node = self.parent(top)
+        data = b"".join(map(bytes, node.nodes))
+        node.content, node.nodes = data[: self.randrange(len(data))], None
+
+    def damage(self, data):
+        """Returns a damaged copy, or one that isn't where the structure is unfit."""
+        of_bytes = [self.change_byte, self.change_bit, self.take_byte_out, self.put_byte_in,
+                    self.cut_off, self.append, self.double_part]
+        of_elements = [
+            self.change_content, self.change_content, self.change_content, self.shorten_content,
+            self.lengthen_content, self.try_content, self.try_content, self.take_element_out,
+            self.repeat_element, self.swap_neighbours, self.put_element_in, self.put_false_in,
+            self.add_to_set, self.append_inside, self.empty_element, self.change_tag,
+            self.needless_digits, self.wrong_length, self.cut_inside,
+        ]
+        change = self.choice(of_bytes + of_elements)
+        (damaged,) = [bytearray(data)] if change in of_bytes else parse(data)
+        with contextlib.suppress(Unfit):
+            change(damaged)
+        return bytes(damaged)
 
 
-def change_byte(numbers, data):
-    place = numbers.choice([numbers.randrange(len(data)), numbers.randrange(min(16, len(data)))])
-    data[place] = (data[place] + numbers.choice([1, 255, 0x80, 0x20])) % 256
-
-
-def change_bit(numbers, data):
-    data[numbers.randrange(len(data))] ^= 1 << numbers.randrange(8)
-
-
-def take_byte_out(numbers, data):
-    del data[numbers.randrange(len(data))]
-
-
-def put_byte_in(numbers, data):
-    data.insert(numbers.randrange(len(data)), numbers.randrange(256))
-
-
-def cut_off(numbers, data):
-    del data[numbers.randrange(1, len(data)) :]
-
-
-def append(numbers, data):
-    data += numbers.randbytes(numbers.randrange(1, 4))
-
-
-def double_part(numbers, data):
-    start = numbers.randrange(len(data))
-    data[start:start] = data[start : start + numbers.randrange(1, 20)]
-
-
-# Damage to elements.
-
-
-def some(numbers, top, holds):
-    """Returns an element for which this holds."""
-    nodes = [node for node in top.inner() if holds(node)]
-    if not nodes:
-        raise Unfit
-    return numbers.choice(nodes)
-
-
-def leaf(numbers, top):
-    return some(numbers, top, lambda node: node.nodes is None)
-
-
-def parent(numbers, top):
-    return some(numbers, top, lambda node: node.nodes)
-
-
-def change_content(numbers, top):
-    node = leaf(numbers, top)
-    content = bytearray(node.content or b"\0")
-    place = numbers.choice([0, len(content) - 1, numbers.randrange(len(content))])
-    content[place] = (content[place] + numbers.choice([1, 2, 255, 128])) % 256
-    node.content = bytes(content)
-
-
-def shorten_content(numbers, top):
-    node = leaf(numbers, top)
-    start = numbers.choice([0, 0, 1])
-    node.content = node.content[start : len(node.content) - numbers.randrange(2)]
-
-
-def lengthen_content(numbers, top):
-    node = leaf(numbers, top)
-    more = numbers.choice([b"\x00", b"\xff", b"\x80", b"\x30", b"\x5a", numbers.randbytes(2)])
-    node.content = numbers.choice([more + node.content, node.content + more])
-
-
-def try_content(numbers, top):
-    tags = {node.tag for node in top.inner()}
-    tag = numbers.choice([tag for tag in CONTENTS if tag in tags])
-    node = some(numbers, top, lambda node: node.tag == tag)
-    node.content = bytes.fromhex(numbers.choice(CONTENTS[tag]))
-
-
-def take_element_out(numbers, top):
-    nodes = parent(numbers, top).nodes
-    del nodes[numbers.randrange(len(nodes))]
-
-
-def repeat_element(numbers, top):
-    nodes = parent(numbers, top).nodes
-    place = numbers.randrange(len(nodes))
-    nodes.insert(place, nodes[place])
-
-
-def swap_neighbours(numbers, top):
-    nodes = some(numbers, top, lambda node: node.nodes and len(node.nodes) > 1).nodes
-    place = numbers.randrange(len(nodes) - 1)
-    nodes[place], nodes[place + 1] = nodes[place + 1], nodes[place]
-
-
-def put_element_in(numbers, top):
-    nodes = parent(numbers, top).nodes
-    place = numbers.randrange(len(nodes) + 1)
-    nodes.insert(place, Raw(bytes.fromhex(numbers.choice(ELEMENTS))))
-
-
-def put_false_in(numbers, top):
-    """Puts a BOOLEAN behind an identifier, as of an extension that isn't critical."""
-    nodes = some(numbers, top, lambda node: node.nodes and node.nodes[0].tag == 0x06).nodes
-    nodes.insert(1, Raw(bytes.fromhex(numbers.choice(["010100", "010100", "0101ff", "010101"]))))
-
-
-def add_to_set(numbers, top):
-    """Puts another element into a SET, at any place."""
-    nodes = some(numbers, top, lambda node: node.tag == 0x31 and node.nodes).nodes
-    (other,) = parse(nodes[0].write())
-    for node in other.inner():
-        if node.nodes is None and node.content and numbers.randrange(2):
-            node.content = node.content[:-1] + bytes([numbers.randrange(128)])
-    nodes.insert(numbers.randrange(2), other)
-
-
-def append_inside(numbers, top):
-    parent(numbers, top).nodes.append(Raw(numbers.randbytes(numbers.randrange(1, 4))))
-
-
-def empty_element(numbers, top):
-    node = some(numbers, top, lambda node: True)
-    node.content, node.nodes = b"", None
-
-
-def change_tag(numbers, top):
-    some(numbers, top, lambda node: True).tag = numbers.choice(TAGS)
-
-
-def needless_digits(numbers, top):
-    some(numbers, top, lambda node: True).zeros = numbers.choice([1, 1, 2, 3, 4])
-
-
-def wrong_length(numbers, top):
-    node = some(numbers, top, lambda node: True)
-    node.error = numbers.choice([-2, -1, 1, 1, 2, 100, 1000, 0x0FFFFFFF, 0x10000000, 1 << 32])
-
-
-def cut_inside(numbers, top):
-    node = parent(numbers, top)
-    data = b"".join(child.write() for child in node.nodes)
-    node.content, node.nodes = data[: numbers.randrange(len(data))], None
-
-
-BYTES = [change_byte, change_bit, take_byte_out, put_byte_in, cut_off, append, double_part]
-TREES = [
-    change_content, change_content, change_content, shorten_content, lengthen_content, try_content,
-    try_content, take_element_out, repeat_element, swap_neighbours, put_element_in, put_false_in,
-    add_to_set, append_inside, empty_element, change_tag, needless_digits, wrong_length,
-    cut_inside,
-]
-
-
-def damage(numbers, data):
-    change = numbers.choice(BYTES + TREES)
-    if change in BYTES:
-        changed = bytearray(data)
-        change(numbers, changed)
-        return bytes(changed)
-    (top,) = parse(data)
-    try:
-        change(numbers, top)
-    except Unfit:
-        pass
-    return top.write()
-
-
-def main():
-    structures = [line.split(" ") for line in sys.stdin.read().splitlines()]
-    numbers, seen = random.Random(2026), {(word, bytes.fromhex(text)) for word, text in structures}
-    count = 0
-    while count < COUNT:
+def copies(lines):
+    """Returns the damaged copies of the structures in these lines."""
+    structures = [line.split(" ") for line in lines]
+    numbers, seen = Damage(2026), dict.fromkeys(lines)
+    while len(seen) < len(set(lines)) + COUNT:
         word, text = numbers.choice(structures)
-        data = damage(numbers, bytes.fromhex(text))
+        data = numbers.damage(bytes.fromhex(text))
         if numbers.randrange(200) == 0:
             word = numbers.choice(structures)[0]
-        if (word, data) not in seen:
-            seen.add((word, data))
-            count += 1
-            print(word, data.hex())
-
-
-main()
+        seen[f"{word} {data.hex()}"] = None
+    return [*seen][-COUNT:]

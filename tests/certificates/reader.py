@@ -5,6 +5,8 @@ beside them to say what they have to print.
 The reader of each word returns the fields as text. Faults are found from left to right: of each
 element its tag, its length, its end and its content, and then of what follows it.
 """
+import contextlib
+import re
 
 LIMIT = 0x0FFFFFFF
 BOOLEAN, INTEGER, BIT_STRING, OCTET_STRING, IDENTIFIER = 0x01, 0x02, 0x03, 0x04, 0x06
@@ -76,11 +78,21 @@ class Elements:
     def finish(self):
         demand(not self.more(), "TrailingData")
 
+    @contextlib.contextmanager
+    def inside(self, tag):
+        """Gives the elements in one with this tag, all of which have to be read."""
+        inner = Elements(self.read(tag))
+        yield inner
+        inner.finish()
 
-def only(data, tag):
-    """Returns the content of the element that the bytes begin with, and what may follow it."""
-    elements = Elements(data)
-    return elements.read(tag), elements
+    def each(self, check):
+        """Has this function read each element, and returns their bytes."""
+        members = []
+        while self.more():
+            start = self.at
+            check(self)
+            members.append(self.data[start : self.at])
+        return members
 
 
 def digits(data):
@@ -117,10 +129,6 @@ def bits(content):
     return content
 
 
-def is_digits(text):
-    return all(0x30 <= byte <= 0x39 for byte in text)
-
-
 def is_moment(year, text):
     """Whether MMDDhhmmss is a time in this year, to the second."""
     month, day, hour, minute, second = (int(text[at : at + 2]) for at in range(0, 10, 2))
@@ -132,7 +140,7 @@ def is_moment(year, text):
 
 def utc_time(content):
     """X.690 section 11.8 and RFC 5280 section 4.1.2.5.1: YYMMDDhhmmssZ."""
-    demand(len(content) == 13 and is_digits(content[:12]) and content[12:] == b"Z")
+    demand(re.fullmatch(rb"[0-9]{12}Z", content))
     year = int(content[:2])
     demand(is_moment(year + (2000 if year < 50 else 1900), content[2:12]))
     return "u:" + content.decode()
@@ -140,11 +148,7 @@ def utc_time(content):
 
 def generalized_time(content):
     """X.690 section 11.7: YYYYMMDDhhmmssZ; a fraction of the second doesn't end in 0."""
-    demand(len(content) >= 15 and is_digits(content[:14]) and content[-1:] == b"Z")
-    fraction = content[14:-1]
-    if fraction:
-        demand(len(fraction) > 1 and fraction[:1] == b"." and is_digits(fraction[1:]))
-        demand(fraction[-1:] != b"0")
+    demand(re.fullmatch(rb"[0-9]{14}(\.[0-9]*[1-9])?Z", content))
     demand(is_moment(int(content[:4]), content[4:14]))
     return "g:" + content.decode()
 
@@ -158,12 +162,11 @@ def time(elements):
 
 def algorithm(elements):
     """RFC 5280 section 4.1.1.2: the identifier's content, and the parameters' element."""
-    inside = Elements(elements.read(SEQUENCE))
-    name, parameters = identifier(inside.read(IDENTIFIER)), None
-    # A byte that is no tag begins no parameters, so that it is a byte too many.
-    if inside.more() and is_tag(inside.data[inside.at]):
-        parameters = inside.read_whole()
-    inside.finish()
+    with elements.inside(SEQUENCE) as inside:
+        name, parameters = identifier(inside.read(IDENTIFIER)), None
+        # A byte that is no tag begins no parameters, so that it is a byte too many.
+        if inside.more() and is_tag(inside.data[inside.at]):
+            parameters = inside.read_whole()
     return digits(name), digits(parameters)
 
 
@@ -176,47 +179,37 @@ def demand_order(members):
 
 def set_of(content, check):
     """Reads the elements to the end, checks each, and then their order."""
-    elements, members = Elements(content), []
-    while elements.more():
-        start = elements.at
-        check(elements)
-        members.append(content[start : elements.at])
-    demand_order(members)
+    demand_order(Elements(content).each(check))
     return content
 
 
 def attribute(elements):
     """RFC 5280 section 4.1.2.4: AttributeTypeAndValue."""
-    inside = Elements(elements.read(SEQUENCE))
-    identifier(inside.read(IDENTIFIER))
-    inside.read_whole()
-    inside.finish()
+    with elements.inside(SEQUENCE) as inside:
+        identifier(inside.read(IDENTIFIER))
+        inside.read_whole()
 
 
 def name(elements):
     """RFC 5280 section 4.1.2.4: a SEQUENCE OF SET OF AttributeTypeAndValue."""
     content = elements.read(SEQUENCE)
-    inside = Elements(content)
-    while inside.more():
-        set_of(inside.read(SET), attribute)
+    Elements(content).each(lambda inside: set_of(inside.read(SET), attribute))
     return digits(content)
 
 
 def extension(elements):
     """RFC 5280 section 4.1. FALSE, the default of `critical`, isn't written: X.690 section 11.5."""
-    inside = Elements(elements.read(SEQUENCE))
-    identifier(inside.read(IDENTIFIER))
-    if inside.is_next(BOOLEAN):
-        demand(inside.read(BOOLEAN) == b"\xff")
-    inside.read(OCTET_STRING)
-    inside.finish()
+    with elements.inside(SEQUENCE) as inside:
+        identifier(inside.read(IDENTIFIER))
+        if inside.is_next(BOOLEAN):
+            demand(inside.read(BOOLEAN) == b"\xff")
+        inside.read(OCTET_STRING)
 
 
 def extensions(content):
-    row, outer = only(content, SEQUENCE)
-    inside = Elements(row)
-    while inside.more():
-        extension(inside)
+    outer = Elements(content)
+    row = outer.read(SEQUENCE)
+    Elements(row).each(extension)
     outer.finish()
     return row
 
@@ -225,9 +218,9 @@ def version(elements):
     """RFC 5280 section 4.1.2.1. The default v1 isn't written: X.690 section 11.5."""
     if not elements.is_next(0xA0):
         return V1
-    content, outer = only(elements.read(0xA0), INTEGER)
-    demand(content in (V2, V3))
-    outer.finish()
+    with elements.inside(0xA0) as inside:
+        content = inside.read(INTEGER)
+        demand(content in (V2, V3))
     return content
 
 
@@ -237,62 +230,51 @@ def optional(elements, tag, check):
 
 def key(elements):
     """RFC 5280 section 4.1: SubjectPublicKeyInfo."""
-    inside = Elements(elements.read(SEQUENCE))
-    fields = [*algorithm(inside), digits(bits(inside.read(BIT_STRING)))]
-    inside.finish()
-    return fields
+    with elements.inside(SEQUENCE) as inside:
+        return [*algorithm(inside), digits(bits(inside.read(BIT_STRING)))]
 
 
 def to_be_signed(elements):
     """RFC 5280 section 4.1: TBSCertificate."""
-    inside = Elements(elements.read(SEQUENCE))
-    fields = [str(version(inside)[0] + 1), digits(integer(inside.read(INTEGER)))]
-    fields += [":".join(algorithm(inside)), name(inside)]
-    validity = Elements(inside.read(SEQUENCE))
-    fields += [time(validity), time(validity)]
-    validity.finish()
-    fields += [name(inside), *key(inside)]
-    fields += [digits(optional(inside, tag, bits)) for tag in (0x81, 0x82)]
-    fields += [digits(optional(inside, 0xA3, extensions))]
-    inside.finish()
-    return fields
+    with elements.inside(SEQUENCE) as inside:
+        fields = [str(version(inside)[0] + 1), digits(integer(inside.read(INTEGER)))]
+        fields += [":".join(algorithm(inside)), name(inside)]
+        with inside.inside(SEQUENCE) as validity:
+            fields += [time(validity), time(validity)]
+        fields += [name(inside), *key(inside)]
+        fields += [digits(optional(inside, tag, bits)) for tag in (0x81, 0x82)]
+        return [*fields, digits(optional(inside, 0xA3, extensions))]
 
 
 def certificate(elements):
     """RFC 5280 section 4.1: Certificate."""
-    inside = Elements(elements.read(SEQUENCE))
-    fields = to_be_signed(inside)
-    fields += [":".join(algorithm(inside)), digits(bits(inside.read(BIT_STRING)))]
-    inside.finish()
-    return fields
+    with elements.inside(SEQUENCE) as inside:
+        fields = to_be_signed(inside)
+        return [*fields, ":".join(algorithm(inside)), digits(bits(inside.read(BIT_STRING)))]
 
 
 def key_attribute(elements):
     """RFC 5958 section 2: Attribute. Its values aren't examined."""
-    inside = Elements(elements.read(SEQUENCE))
-    identifier(inside.read(IDENTIFIER))
-    inside.read(SET)
-    inside.finish()
+    with elements.inside(SEQUENCE) as inside:
+        identifier(inside.read(IDENTIFIER))
+        inside.read(SET)
 
 
 def private_key(elements):
     """RFC 5958 section 2: OneAsymmetricKey. Version 0 has no public key."""
-    inside = Elements(elements.read(SEQUENCE))
-    number = inside.read(INTEGER)
-    demand(number in (V1, V2))
-    fields = [str(number[0]), *algorithm(inside), digits(inside.read(OCTET_STRING))]
-    attributes = optional(inside, 0xA0, lambda content: set_of(content, key_attribute))
-    public = optional(inside, 0x81, bits) if number == V2 else None
-    inside.finish()
+    with elements.inside(SEQUENCE) as inside:
+        number = inside.read(INTEGER)
+        demand(number in (V1, V2))
+        fields = [str(number[0]), *algorithm(inside), digits(inside.read(OCTET_STRING))]
+        attributes = optional(inside, 0xA0, lambda content: set_of(content, key_attribute))
+        public = optional(inside, 0x81, bits) if number == V2 else None
     return [*fields, digits(attributes), digits(public)]
 
 
 def signature(elements):
     """RFC 3279 section 2.2.3: ECDSA-Sig-Value."""
-    inside = Elements(elements.read(SEQUENCE))
-    fields = [digits(unsigned(inside.read(INTEGER))) for _ in range(2)]
-    inside.finish()
-    return fields
+    with elements.inside(SEQUENCE) as inside:
+        return [digits(unsigned(inside.read(INTEGER))) for _ in range(2)]
 
 
 READERS = {

@@ -1,9 +1,8 @@
-"""Prints structures whose contents have lengths around those at which a length gets another digit
-(X.690 section 10.1), as lines WORD HEX; with the argument `answers` the lines for them.
+"""Structures whose contents have lengths around those at which a length gets another digit (X.690
+section 10.1).
 """
-import sys
 
-import writer
+from certificates import writer
 
 SIZES = [100, 127, 128, 129, 250, 255, 256, 257, 300, 65_535, 65_536, 65_600]
 NAME = "2b6570"
@@ -30,13 +29,8 @@ def structures(size):
     yield "certificate", [*fields, extension.hex(), f"{NAME}:-", bits]
 
 
-def main():
-    for size in SIZES:
-        for word, fields in structures(size):
-            if sys.argv[1:] == ["answers"]:
-                print(*fields, "same")
-            else:
-                print(word, writer.write(word, fields).hex())
-
-
-main()
+def lines():
+    """Returns the lines of the structures, and those for them."""
+    every = [it for size in SIZES for it in structures(size)]
+    asked = [f"{word} {writer.write(word, fields).hex()}" for word, fields in every]
+    return asked, [" ".join([*fields, "same"]) for _, fields in every]

@@ -1,4 +1,5 @@
-"""Prints 2,000 damaged copies of the keys on standard input, the same in each run, each behind a line that says what was done."""
+"""Prints 2,000 damaged copies of the keys on standard input, the same in each run, each behind a
+line that says what was done."""
 import random
 import sys
 
@@ -39,15 +40,17 @@ def damage(numbers, data):
     return f"bytes {start} to {end} doubled", data
 
 
-def main():
-    keys = [bytes.fromhex(line) for line in sys.stdin.read().split("\n") if line and not line.startswith("#")]
+def copies(lines):
+    """Returns the lines of the damaged copies of the keys in these lines."""
+    keys = [bytes.fromhex(line) for line in lines if not line.startswith("#")]
     keys = [key for key in keys if len(key) <= 129]
-    numbers, seen = random.Random(2026), {*keys}
-    while len(seen) < 2_000 + len({*keys}):
+    numbers, seen = random.Random(2026), dict.fromkeys(keys)
+    while len(seen) < 2_000 + len(set(keys)):
         what, data = damage(numbers, bytearray(numbers.choice(keys)))
-        if bytes(data) not in seen:
-            seen.add(bytes(data))
-            print(f"# {what}\n{bytes(data).hex().upper()}")
+        seen.setdefault(bytes(data), what)
+    return [it for data, what in seen.items() if what
+            for it in (f"# {what}", data.hex().upper())]
 
 
-main()
+if __name__ == "__main__":
+    print(*copies(sys.stdin.read().splitlines()), sep="\n")

@@ -1,6 +1,7 @@
 """The second readers, compared with what the library printed. This is stored text where the tests
 have it so (what crates/replay prints), and else what the built programs print.
 """
+import functools
 import os
 import pathlib
 import random
@@ -11,6 +12,7 @@ import types
 
 TOP = pathlib.Path(__file__).resolve().parents[2]
 sys.path[:0] = [str(TOP / "tests"), str(TOP / "tests/dump")]
+import reports  # noqa: E402
 import stored  # noqa: E402
 
 ROOM = tempfile.TemporaryDirectory()
@@ -42,22 +44,19 @@ def load(path, text=None):
 
 def differs_on_keys(path, text):
     """What is stored of keys, and the faults that the tests of der_view::faults want."""
-    sys.modules["reader"] = reader = load(path, text)
-    answer, places = load("tests/keys/answers.py").answer, load("tests/keys/places.py")
-    pairs = ((line.split(" ")[1], said) for line, said in reversed(stored.pairs("keys")))
-    return (any(answer(bytes.fromhex(key)) != said for key, said in pairs)
-            or places.stored_damages() != places.damages(reader))
+    answers, places = load("tests/keys/answers.py"), load("tests/keys/places.py")
+    answers.reader = load(path, text)
+    return (any(answers.answer(line) != said for line, said in reversed(stored.pairs("keys")))
+            or places.stored_damages() != places.damages(answers.reader))
 
 
 def differs_on_certificates(path, text):
     """What is stored of certificates and containers, and what is printed of those of OpenSSL."""
-    for name in ("reader", "writer"):
-        file = f"tests/certificates/{name}.py"
-        sys.modules[name] = load(file, text if file == path else None)
-    answer = load("tests/certificates/answers.py").answer
+    answers = load("tests/certificates/answers.py")
+    setattr(answers, pathlib.Path(path).stem, load(path, text))
     found = [f"{line} same" for line in lines_of("tests/certificates/fields.txt")]
     pairs = stored.pairs("certificates") + [*zip(lines_of("tests/certificates/openssl.txt"), found)]
-    return any(answer(line) != said for line, said in pairs)
+    return any(answers.answer(line) != said for line, said in pairs)
 
 
 def differs_on_calls(path, text):
@@ -72,36 +71,32 @@ def differs_on_calls(path, text):
     return any(refused.get(asked, wanted) != wanted for asked, wanted in pairs)
 
 
-def printed_when_refused(printed={}):
+@functools.cache
+def printed_when_refused():
     """Returns what is printed of points and short keys, each request for memory refused."""
-    if not printed:
-        allocator = os.path.join(ROOM.name, "refuse.so")
-        build = ["cc", "-O1", "-shared", "-fPIC", "-o", allocator, TOP / "tests/refuse.c", "-ldl"]
-        subprocess.run(build, check=True)
-        asked = [line for line in stored.stored("stdin", "calls")
-                 if line.startswith(("point ", "key ")) and int(line.split()[1]) < LONG]
-        ended = subprocess.run([TOP / "crates/replay/out/replay"], check=True, text=True,
-                               input="".join(f"{line}\n" for line in asked), capture_output=True,
-                               env={**os.environ, "LD_PRELOAD": allocator})
-        printed.update(zip(asked, ended.stdout.splitlines()))
-    return printed
+    allocator = os.path.join(ROOM.name, "refuse.so")
+    build = ["cc", "-O1", "-shared", "-fPIC", "-o", allocator, TOP / "tests/refuse.c", "-ldl"]
+    subprocess.run(build, check=True)
+    asked = [line for line in stored.stored("stdin", "calls")
+             if line.startswith(("point ", "key ")) and int(line.split()[1]) < LONG]
+    ended = subprocess.run([TOP / "crates/replay/out/replay"], check=True, text=True,
+                           input="".join(f"{line}\n" for line in asked), capture_output=True,
+                           env={**os.environ, "LD_PRELOAD": allocator})
+    return dict(zip(asked, ended.stdout.splitlines()))
 
 
 def differs_on_reports(path, text):
     """What sec1_inspect prints: it is run once over each input."""
-    reports = load(path, text)
-    reports.LENGTHS = [it for it in reports.LENGTHS if it < LONG]
-    return any(run_once(reports.run, is_file, given) != wanted
-               for _, is_file, given, wanted in reports.runs())
+    changed = load(path, text)
+    changed.LENGTHS = [it for it in changed.LENGTHS if it < LONG]
+    return any(run_once(is_file, given) != wanted for _, is_file, given, wanted in changed.runs())
 
 
-def run_once(run, is_file, given, ended={}):
-    """Runs sec1_inspect over a file or text, and returns next time how it ended."""
-    if (is_file, given) not in ended:
-        program = TOP / "crates/sec1_inspect/out/sec1_inspect"
-        file = pathlib.Path(ROOM.name, str(os.getpid()))
-        ended[is_file, given] = run(program, is_file, given, file)
-    return ended[is_file, given]
+@functools.cache
+def run_once(is_file, given):
+    """Runs sec1_inspect over a file or text, and returns how it ended."""
+    program = TOP / "crates/sec1_inspect/out/sec1_inspect"
+    return reports.run(program, is_file, given, pathlib.Path(ROOM.name, str(os.getpid())))
 
 
 # The second reader of pictures, each file before those that import it.
@@ -117,14 +112,14 @@ def differs_on_pictures(path, text):
                for options, file, data, said in printed_pictures())
 
 
-def kept_pictures(kept={}):
+@functools.cache
+def kept_pictures():
     """Returns the modules of the second reader, which keep what they have found of each input: for
     the faults in those that only say it."""
-    if not kept:
-        load_pictures(PICTURES)
-        kept.update((name, sys.modules[name]) for name in PICTURES)
-        for data in {data for _, _, data, _ in printed_pictures()}:
-            kept["picture"].draw(data)
+    load_pictures(PICTURES)
+    kept = {name: sys.modules[name] for name in PICTURES}
+    for data in {data for _, _, data, _ in printed_pictures()}:
+        kept["picture"].draw(data)
     return kept
 
 
@@ -135,26 +130,26 @@ def load_pictures(names, path=None, text=None):
         sys.modules[name] = load(file, text if file == path else None)
 
 
-def printed_pictures(printed=[]):
+@functools.cache
+def printed_pictures():
     """Returns options, files, what they hold, and what sec1_dump prints of them: first what sees
     most faults, the inputs drawn by hand and the files, then the others, with all shown as JSON."""
-    if not printed:
-        programs, shapes, rows = (load(f"tests/dump/{name}.py") for name in (
-            "programs", "shapes", "rows"))
-        first = [data for _, data, *_ in programs.drawn_by_hand()]
-        with tempfile.TemporaryDirectory() as folder:
-            files = load("tests/dump/advice.py").Room(folder)
-            files.make()
-            first += [data for _, data, _ in files.cases()]
-        given = first + [data for _, data, *_ in [*shapes.every(), *rows.damaged()]]
-        program = TOP / "crates/sec1_dump/out/sec1_dump"
-        for options in (["--json"], [], ["--all"], ["--all", "--json"]):
-            said = programs.outputs(program, options, given)
-            files = map(programs.path_of, range(len(given)))
-            printed += zip([options] * len(given), files, given, said)
-        random.Random(5915).shuffle(printed)
-        printed.sort(key=lambda it: (it[2] not in first, len(it[0]) < 2))
-    return printed
+    programs, shapes, rows = (load(f"tests/dump/{name}.py") for name in (
+        "programs", "shapes", "rows"))
+    first = [data for _, data, *_ in programs.drawn_by_hand()]
+    with tempfile.TemporaryDirectory() as folder:
+        files = load("tests/dump/advice.py").Room(folder)
+        files.make()
+        first += [data for _, data, _ in files.cases()]
+    given = first + [data for _, data, *_ in [*shapes.every(), *rows.damaged()]]
+    program = TOP / "crates/sec1_dump/out/sec1_dump"
+    printed = []
+    for options in (["--json"], [], ["--all"], ["--all", "--json"]):
+        said = programs.outputs(program, options, given)
+        files = map(programs.path_of, range(len(given)))
+        printed += zip([options] * len(given), files, given, said)
+    random.Random(5915).shuffle(printed)
+    return sorted(printed, key=lambda it: (it[2] not in first, len(it[0]) < 2))
 
 
 def differs_in_c(path, text):
@@ -173,13 +168,7 @@ def differs_in_c(path, text):
 
 
 READERS = {
-    "tests/dump/ber.py": differs_on_pictures,
-    "tests/dump/table.py": differs_on_pictures,
-    "tests/dump/guard.py": differs_on_pictures,
-    "tests/dump/values.py": differs_on_pictures,
-    "tests/dump/text.py": differs_on_pictures,
-    "tests/dump/words.py": differs_on_pictures,
-    "tests/dump/picture.py": differs_on_pictures,
+    **{f"tests/dump/{it}.py": differs_on_pictures for it in PICTURES},
     "tests/keys/reader.py": differs_on_keys,
     "tests/certificates/reader.py": differs_on_certificates,
     "tests/certificates/writer.py": differs_on_certificates,
