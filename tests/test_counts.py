@@ -7,59 +7,58 @@ import subprocess
 import pytest
 from conftest import TOP
 
-# What a module holds, the last line, and whether the run ends well.
+# What a module holds, and the last line. The run ends well where none failed.
 MODULES = {
-    "none": ("def test_it(): pass", "1 passed, 0 failed", True),
-    "an assertion": ("def test_it(): assert 1 == 2", "0 passed, 1 failed", False),
+    "none": ("def test_it(): pass", "1 passed, 0 failed"),
+    "an assertion": ("def test_it(): assert 1 == 2", "0 passed, 1 failed"),
     "a case": (
         "def test_it(tell):\n tell('one', True)\n tell('other', False)\n tell('third', True)",
         "2 passed, 1 failed",
-        False,
     ),
     "an assertion after cases": (
-        "def test_it(tell):\n tell('one', True)\n assert 1 == 2",
-        "0 passed, 1 failed",
-        False,
+        "def test_it(tell):\n tell('one', True)\n assert 1 == 2", "0 passed, 1 failed",
     ),
-    "what a test asks for": ("def test_it(nothing): pass", "0 passed, 1 failed", False),
-    "too few cases": ("def test_it(tell):\n tell('one', True)", "1 passed, 1 failed", False),
-    "a module that can't be read": ("import nothing", "0 passed, 1 failed", False),
+    "what a test asks for": ("def test_it(nothing): pass", "0 passed, 1 failed"),
+    "too few cases": ("def test_it(tell):\n tell('one', True)", "1 passed, 1 failed"),
+    "a module that can't be read": ("import nothing", "0 passed, 1 failed"),
     "a test that is skipped": (
         "from conftest import needs\n@needs('nothing')\ndef test_it(): pass\ndef test_other(): pass",
         "1 passed, 0 failed, 1 skipped",
-        True,
     ),
     "a test of cases that is skipped": (
         "from conftest import needs\n@needs('nothing', cases=7)\ndef test_it(tell): pass",
         "0 passed, 0 failed, 7 skipped",
-        True,
     ),
-}
+}  # fmt: skip
 # The same of what a test has a shell do.
 SHELL = {
-    "check('it', 'echo one; echo two >&2', prints='one')": ("1 passed, 0 failed", True),
-    "check('it', 'exit 1')": ("0 passed, 1 failed", False),
-    "check('it', 'false | true')": ("0 passed, 1 failed", False),
-    "check('it', 'echo one', prints='two')": ("0 passed, 1 failed", False),
-    "check('it', 'echo one >&2; exit 1', refused='one')": ("1 passed, 0 failed", True),
-    "check('it', 'echo one', refused='one')": ("0 passed, 1 failed", False),
-    "check('it', 'exit 1', refused='one')": ("0 passed, 1 failed", False),
-    "add('echo 3 passed, 1 failed')": ("3 passed, 1 failed", False),
-    "add('echo 3 passed, 0 failed; exit 1')": ("3 passed, 1 failed", False),
-    "add('echo 3 passed, 0 failed; echo more')": ("0 passed, 1 failed", False),
-    "add('echo 3 passed, 0 failed, 2 skipped')": ("3 passed, 1 failed", False),
-    "add('echo 3 passed, 0 failed, 2 skipped', 'nothing')": (
-        "3 passed, 0 failed, 2 skipped",
-        True,
-    ),
+    "check('it', 'echo one; echo two >&2', prints='one')": "1 passed, 0 failed",
+    "check('it', 'exit 1')": "0 passed, 1 failed",
+    "check('it', 'false | true')": "0 passed, 1 failed",
+    "check('it', 'echo one', prints='two')": "0 passed, 1 failed",
+    "check('it', 'echo one >&2; exit 1', refused='one')": "1 passed, 0 failed",
+    "check('it', 'echo one', refused='one')": "0 passed, 1 failed",
+    "check('it', 'exit 1', refused='one')": "0 passed, 1 failed",
+    "add('echo 3 passed, 1 failed')": "3 passed, 1 failed",
+    "add('echo 3 passed, 0 failed; exit 1')": "3 passed, 1 failed",
+    "add('echo 3 passed, 0 failed; echo more')": "0 passed, 1 failed",
+    "add('echo 3 passed, 0 failed, 2 skipped')": "3 passed, 1 failed",
+    "add('echo 3 passed, 0 failed, 2 skipped', 'nothing')": "3 passed, 0 failed, 2 skipped",
 }
-MODULES |= {it: (f"def test_it(check, add):\n {it}", *SHELL[it]) for it in SHELL}
+MODULES |= {it: (f"def test_it(check, add):\n {it}", last) for it, last in SHELL.items()}
+# What a part prints, and its last line.
+PARTS = {
+    ". tests/count.sh; tell one yes; tell other no; finish": "1 passed, 1 failed",
+    "echo 3 passed, 0 failed; exit 1": "3 passed, 1 failed",
+    "echo 3 passed, 0 failed; echo more": "0 passed, 1 failed",
+    "exit 0": "0 passed, 1 failed",
+}
 
 
 @pytest.mark.parametrize("workers", [0, 2])
 @pytest.mark.parametrize("what", MODULES)
 def test_what_fails_is_counted(what, workers, tmp_path):
-    text, last, is_well = MODULES[what]
+    text, last = MODULES[what]
     tests = tmp_path / "tests"
     tests.mkdir()
     for name in ("conftest.py", "pytest.ini"):
@@ -68,18 +67,11 @@ def test_what_fails_is_counted(what, workers, tmp_path):
     (tests / f"test_{'few' if what == 'too few cases' else 'one'}.py").write_text(text)
     command = ["pytest-3", "-q", "-n", str(workers), "tests"]
     ran = subprocess.run(command, cwd=tmp_path, capture_output=True, text=True)
-    assert (ran.stdout.splitlines()[-1], ran.returncode == 0) == (last, is_well), ran.stdout
+    assert ran.stdout.splitlines()[-1] == last, ran.stdout
+    assert (ran.returncode == 0) == (" 0 failed" in last), ran.stdout
 
 
-@pytest.mark.parametrize(
-    "command, last",
-    [
-        (". tests/count.sh; tell one yes; tell other no; finish", "1 passed, 1 failed"),
-        ("echo 3 passed, 0 failed; exit 1", "3 passed, 1 failed"),
-        ("echo 3 passed, 0 failed; echo more", "0 passed, 1 failed"),
-        ("exit 0", "0 passed, 1 failed"),
-    ],
-)
+@pytest.mark.parametrize("command, last", PARTS.items(), ids=PARTS)
 def test_a_part_that_fails_is_counted(command, last, tmp_path):
     words = ["tests/part", tmp_path / "part", "bash", "-c", command]
     ran = subprocess.run(words, cwd=TOP, capture_output=True, text=True)
