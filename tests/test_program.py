@@ -43,13 +43,8 @@ def run(command, folder, **how):
 
 def run_in_shell(program, words, folder):
     """Runs the program with these words of a shell behind its name, and returns how it ends."""
-    return run(["bash", "-c", f'exec "$0" {words}', program], folder, stdin=subprocess.DEVNULL)
-
-
-@pytest.fixture(scope="module")
-def inspect(program):
-    """Returns the path of the program."""
-    return program("sec1_inspect")
+    command = ["bash", "-c", f'exec "$0" {words}', program("sec1_inspect")]
+    return run(command, folder, stdin=subprocess.DEVNULL)
 
 
 @pytest.fixture(scope="module")
@@ -131,8 +126,8 @@ RUNS = {
 
 
 @pytest.mark.parametrize("words, ended", RUNS.values(), ids=RUNS)
-def test_run(inspect, room, words, ended):
-    assert run_in_shell(inspect, words, room) == ended
+def test_run(program, room, words, ended):
+    assert run_in_shell(program, words, room) == ended
 
 
 # A path of 1,003 bytes is the last.
@@ -140,11 +135,12 @@ NAMES = ["-", "--help", "a key", " ", "line\nbreak", "clé–鍵", ("f" * 199 + 
 
 
 @pytest.mark.parametrize("name", NAMES, ids=lambda name: ascii(name[:20]))
-def test_name_of_a_file(inspect, tmp_path, name):
+def test_name_of_a_file(program, tmp_path, name):
     file = tmp_path / name
     file.parent.mkdir(parents=True, exist_ok=True)
     file.write_bytes(KEY)
-    assert run([inspect, name], tmp_path, stdin=subprocess.DEVNULL) == REPORT
+    found = run([program("sec1_inspect"), name], tmp_path, stdin=subprocess.DEVNULL)
+    assert found == REPORT
 
 
 UNEVEN = 1, 4095, 4096, 7, 1000, 4097
@@ -160,10 +156,10 @@ PIPES = {
 
 
 @pytest.mark.parametrize("words, data, sizes, ended", PIPES.values(), ids=PIPES)
-def test_pipe(inspect, tmp_path, words, data, sizes, ended):
+def test_pipe(program, tmp_path, words, data, sizes, ended):
     os.mkfifo(tmp_path / "pipe")
     threading.Thread(target=feed, args=(tmp_path / "pipe", data, sizes), daemon=True).start()
-    assert run_in_shell(inspect, words, tmp_path) == ended
+    assert run_in_shell(program, words, tmp_path) == ended
 
 
 def feed(pipe, data, sizes):
@@ -198,13 +194,13 @@ REQUESTS = {
 
 
 @pytest.mark.parametrize("words, letters, ended", REQUESTS.values(), ids=REQUESTS)
-def test_requests(inspect, room, refuse, tmp_path, tell, words, letters, ended):
+def test_requests(program, room, refuse, tmp_path, tell, words, letters, ended):
     def run_refusing(number):
         """Returns how the program ends, and how many requests were made, and refused."""
         count = tmp_path / "count"
         numbers = {"REFUSE": str(number), "REFUSE_COUNT": str(count)}
         environment = {**os.environ, "LD_PRELOAD": str(refuse), **numbers}
-        found = run([inspect, *words], room, env=environment, input=TEXT)
+        found = run([program("sec1_inspect"), *words], room, env=environment, input=TEXT)
         return found, *map(int, count.read_text().split())
 
     found, made, _ = run_refusing(0)
