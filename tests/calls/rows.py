@@ -1,7 +1,8 @@
 """The lines of calls that crates/replay reads, and what it has to print for each.
 
-Written from docs/FORMATS.md and the documentation of the calls. `rows()` are the lines of the
-stored input: points, keys, streams that fail once or end, and single calls.
+Written from docs/FORMATS.md and the documentation of the calls; elements are read and written as
+in certificates/. `rows()` are the lines of the stored input: points, keys, streams that fail once
+or end, and single calls.
 """
 import functools
 import itertools

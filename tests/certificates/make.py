@@ -75,16 +75,10 @@ EXTENSIONS = [
 ]
 CA = """[ca]\ndefault_ca=own\n[own]\nnew_certs_dir=.\ndatabase=index\nserial=serial
 default_md=sha256\npolicy=any\nunique_subject=no\n[any]\ncommonName=supplied\n"""
-TIMES = {
-    "500101000000Z": "491231235959Z",
-    "700101000000Z": "380119031407Z",
-    "20000229235959Z": "20491231235959Z",
-    "20491231235959Z": "20500101000000Z",
-    "20500101000000Z": "99991231235959Z",
-    "20240229120000Z": "24000229120000Z",
-    "19491231235959Z": "21000228000000Z",
-    "00010101000000Z": "20510630123000Z",
-}
+# When each of some certificates begins, and when it ends.
+TIMES = """500101000000Z-491231235959Z 700101000000Z-380119031407Z 20000229235959Z-20491231235959Z
+    20491231235959Z-20500101000000Z 20500101000000Z-99991231235959Z 20240229120000Z-24000229120000Z
+    19491231235959Z-21000228000000Z 00010101000000Z-20510630123000Z""".split()
 # What others contain, in the words of ASN1_generate_nconf(3): a text, or a list of such words and
 # what is within. First the strings of attributes, by their type.
 STRINGS = {
@@ -287,7 +281,7 @@ def add_times():
     Path("ca.cnf").write_text(CA)
     Path("serial").write_text("01\n")
     given = openssl("req -new -key prime256v1.key -config /dev/stdin", request("CN=times"))
-    for begin, end in TIMES.items():
+    for begin, end in (it.split("-") for it in TIMES):
         Path("index").write_text("")
         add("certificate", f"from {begin} to {end}",
             "ca -batch -config ca.cnf -selfsign -keyfile prime256v1.key -in /dev/stdin -notext"

@@ -61,7 +61,6 @@ class Elements:
 
     def read(self, tag):
         """Reads an element with this tag, or with any for None. Returns its content."""
-        demand(self.more(), "Truncated")
         found = self.byte()
         demand(is_tag(found) if tag is None else found == tag, "Tag")
         end = self.length() + self.at

@@ -485,11 +485,7 @@ FAULTS = {"tests/keys/reader.py": [
 # The processor time that a comparison may use, in seconds: several times what one takes.
 MOST = 300
 
-
-def begin(files):
-    """Has the library's programs print, once for all copies, what these readers are compared
-    with."""
-    differ.prepare(files)
+begin = differ.prepare
 
 
 def plain(files):
