@@ -222,30 +222,25 @@ def make_of_ssh(folder):
 
 
 @pytest.fixture
-def inspect(program, files):
-    """Runs sec1_inspect on a file, and returns the first line that it prints."""
-    command = program("sec1_inspect")
-    return lambda file: printed(command, files / file)[0]
+def printed(program, files):
+    """Runs a program with these words of a shell, and returns the lines that it prints."""
+
+    def run(name, words):
+        command = ["bash", "-c", f'"$0" {words}', program(name)]
+        ran = subprocess.run(command, cwd=files, stdout=subprocess.PIPE, check=False)
+        return ran.stdout.decode().splitlines()
+
+    return run
 
 
-def printed(*words, **how):
-    """Returns the lines that a command prints."""
-    ran = subprocess.run(words, stdout=subprocess.PIPE, check=False, **how)
-    return ran.stdout.decode().splitlines()
-
-
-def test_key_is_read(inspect):
-    assert inspect("whole.der") == "private_key: 32 bytes"
-
-
-def test_digits_are_read(program, files):
-    with (files / "digits").open() as digits:
-        assert printed(program("sec1_inspect"), stdin=digits)[0] == "private_key: 32 bytes"
+@pytest.mark.parametrize("words", ["whole.der", "<digits"])
+def test_is_read(printed, words):
+    assert printed("sec1_inspect", words)[0] == "private_key: 32 bytes"
 
 
 @pytest.mark.parametrize("file", map(case, [*OTHERS, *ELEMENTS, *TEXTS]))
-def test_is_refused(inspect, file):
-    assert inspect(file) == "refused: not an EC private key in DER"
+def test_is_refused(printed, file):
+    assert printed("sec1_inspect", file)[0] == "refused: not an EC private key in DER"
 
 
 @pytest.mark.parametrize("file, beginning", cases(TEXTS))
@@ -284,29 +279,22 @@ def test_page_has_element(file, row):
 # ---- what makes the key
 
 
-@pytest.fixture
-def dump(program, files):
-    """Runs sec1_dump on a file, and returns the lines that it prints."""
-    command = program("sec1_dump")
-    return lambda file: printed(command, file, cwd=files)
-
-
 SAID = {file: command for file, command in COMMANDS.items() if command.startswith("openssl")}
 
 
 @pytest.mark.parametrize("file, command", cases({**SAID, **FIRST}))
-def test_dump_says_command(dump, file, command):
-    assert dump(file)[-1] == f"  {command}"
+def test_dump_says_command(printed, file, command):
+    assert printed("sec1_dump", file)[-1] == f"  {command}"
 
 
 @pytest.mark.parametrize("file", NONE.split())
-def test_dump_says_no_command(dump, file):
-    assert not dump(file)[-1].startswith(" ")
+def test_dump_says_no_command(printed, file):
+    assert not printed("sec1_dump", file)[-1].startswith(" ")
 
 
 @pytest.mark.parametrize("file", ["base64", "digits", "colons", "numbers"])
-def test_dump_draws(dump, file):
-    assert dump(file)[1:] == dump("whole.der")
+def test_dump_draws(printed, file):
+    assert printed("sec1_dump", file)[1:] == printed("sec1_dump", "whole.der")
 
 
 @pytest.mark.parametrize("file, command", cases(COMMANDS))
