@@ -79,8 +79,8 @@ default_md=sha256\npolicy=any\nunique_subject=no\n[any]\ncommonName=supplied\n""
 TIMES = """500101000000Z-491231235959Z 700101000000Z-380119031407Z 20000229235959Z-20491231235959Z
     20491231235959Z-20500101000000Z 20500101000000Z-99991231235959Z 20240229120000Z-24000229120000Z
     19491231235959Z-21000228000000Z 00010101000000Z-20510630123000Z""".split()
-# What others contain, in the words of ASN1_generate_nconf(3): a text, or a list of such words and
-# what is within. First the strings of attributes, by their type.
+# From here on a part of a structure is a text in the words of ASN1_generate_nconf(3), or a list of
+# such a text and of the parts within. First the strings of attributes, by their type.
 STRINGS = {
     "commonName": ["UTF8:text", "FORMAT:UTF8,UTF8:日本", "PRINTABLE:text", "T61:text",
                    "FORMAT:UTF8,BMP:日本", "FORMAT:UTF8,UNIV:text", "FORMAT:UTF8,UNIV:日本"],
@@ -132,7 +132,7 @@ CONTAINERS = {
     "version 1, public key with unused bits": [1, "IMPLICIT:1,FORMAT:BITLIST,BITSTRING:1,5"],
 }
 
-# Commands that write DER.
+# Commands.
 CONTAINER = "pkcs8 -topk8 -nocrypt -outform DER"
 SELF_SIGNED = "req -x509 -new -config /dev/stdin -key"
 GENERATE = "asn1parse -genconf /dev/stdin -noout -out /dev/stdout"
