@@ -421,26 +421,24 @@ CURVES = {
 }
 
 
-def lines_of(items, depth):
-    """Items as `{:#?}` prints them: each on a line of its own, indented."""
-    return "".join(" " * 4 * depth + item + ",\n" for item in items)
+def some(begin, items, end):
+    """What `{:?}` and `{:#?}` print of a field that has these items, or that is None."""
+    if items is None:
+        return "None", "None"
+    lines = "".join(f"            {item},\n" for item in items)
+    inside = f"\n{lines}        " if items else ""
+    return f"Some({begin}{', '.join(items)}{end})", f"Some(\n        {begin}{inside}{end},\n    )"
 
 
 def shown_key(curve, public_len):
     """What `{:?}` and `{:#?}` print of a key: no private key."""
+    text = None if curve is None else [f"ObjectIdentifier({CURVES[curve]})"]
     numbers = None if public_len is None else [str(byte) for byte in pattern(public_len)]
-    text = None if curve is None else f"ObjectIdentifier({CURVES[curve]})"
-    parameters = "None" if curve is None else f"Some(NamedCurve({text}))"
-    public_key = "None" if numbers is None else "Some([" + ", ".join(numbers) + "])"
+    parameters, long_parameters = some("NamedCurve(", text, ")")
+    public_key, long_key = some("[", numbers, "]")
     short = f"EcPrivateKey {{ parameters: {parameters}, public_key: {public_key}, .. }}"
-    if curve is not None:
-        parameters = "Some(\n        NamedCurve(\n" + lines_of([text], 3) + "        ),\n    )"
-    if numbers:
-        public_key = "Some(\n        [\n" + lines_of(numbers, 3) + "        ],\n    )"
-    elif numbers is not None:
-        public_key = "Some(\n        [],\n    )"
-    fields = [f"parameters: {parameters}", f"public_key: {public_key}"]
-    return short, "EcPrivateKey {\n" + lines_of(fields, 1) + "    ..\n}"
+    fields = f"    parameters: {long_parameters},\n    public_key: {long_key},\n"
+    return short, f"EcPrivateKey {{\n{fields}    ..\n}}"
 
 
 def show_rows():
