@@ -169,16 +169,13 @@ def algorithm(elements):
     return digits(name), digits(parameters)
 
 
-def demand_order(members):
-    """X.690 section 11.6: the order of a SET OF, the shorter encoding padded with zeros."""
+def set_of(content, check):
+    """Has the elements checked to the end, and then tests their order (X.690 section 11.6): the
+    shorter encoding is padded with zeros."""
+    members = Elements(content).each(check)
     for one, next_one in zip(members, members[1:]):
         size = max(len(one), len(next_one))
         demand(one.ljust(size, b"\0") <= next_one.ljust(size, b"\0"))
-
-
-def set_of(content, check):
-    """Reads the elements to the end, checks each, and then their order."""
-    demand_order(Elements(content).each(check))
     return content
 
 
