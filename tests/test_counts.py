@@ -1,5 +1,5 @@
-"""That what fails is counted as failed: by pytest as conftest.py has it, by tests/count.sh, and by
-tests/part."""
+"""That what fails is counted as failed: by pytest as conftest.py has it, by
+dist/tests/counts.sh, and by tests/part."""
 
 import shutil
 import subprocess
@@ -48,7 +48,8 @@ SHELL = {
 MODULES |= {it: (f"def test_it(check, add):\n {it}", last) for it, last in SHELL.items()}
 # What a part prints, and its last line.
 PARTS = {
-    ". tests/count.sh; tell one yes; tell other no; finish": "1 passed, 1 failed",
+    "work=$(mktemp -d); trap 'rm -r $work' EXIT; . dist/tests/counts.sh;"
+    "check one true; check two false; finish": "1 passed, 1 failed",
     "echo 3 passed, 0 failed; exit 1": "3 passed, 1 failed",
     "echo 3 passed, 0 failed; echo more": "0 passed, 1 failed",
     "exit 0": "0 passed, 1 failed",
