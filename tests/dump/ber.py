@@ -1,7 +1,10 @@
 """Headers of elements in BER (X.690 section 8.1), where their contents end, and whole trees."""
+import re
 
 LIMIT = (1 << 24) - 1
 LEVELS = 64
+# a tag number in the high form, of four bytes at most
+NUMBER = re.compile(rb"[\x80-\xFF]{0,3}[\0-\x7F]")
 
 
 class NoElement(Exception):
@@ -18,22 +21,21 @@ class Header:
         self.number = self.first & 31
         at = self.high_number(data, at + 1, end) if self.number == 31 else at + 1
         self.start = self.read_length(data, at, end)
+        # where the content ends, here at the latest
+        stop = end if self.length is None else self.start + self.length
+        self.stop, self.is_cut = min(stop, end), stop > end
 
     def high_number(self, data, at, end):
-        """Reads a number in the high form, of four bytes at most, and returns where it ends."""
-        start, self.number = at, 0
-        while at < end and at - start < 4:
-            self.number = self.number * 128 + data[at] % 128
-            at += 1
-            if data[at - 1] < 128:
-                if data[start] == 128:
-                    words = "tag number with a needless byte 80 (X.690 8.1.2.4.2)"
-                    self.marks.append(("tag", words))
-                elif self.number < 31:
-                    words = "tag number below 31 in the high form (X.690 8.1.2.2)"
-                    self.marks.append(("tag", words))
-                return at
-        raise NoElement
+        """Reads a number in the high form, and returns where it ends."""
+        digits = NUMBER.match(data, at, end)
+        if not digits:
+            raise NoElement
+        self.number = base_128(digits[0])
+        if data[digits.start()] == 128:
+            self.marks.append(("tag", "tag number with a needless byte 80 (X.690 8.1.2.4.2)"))
+        elif self.number < 31:
+            self.marks.append(("tag", "tag number below 31 in the high form (X.690 8.1.2.2)"))
+        return digits.end()
 
     def read_length(self, data, at, end):
         """Reads a length, None if it is indefinite, and returns where it ends."""
@@ -63,58 +65,34 @@ class Header:
         return self.first < 64 and self.number in numbers
 
 
-def end_of_contents(data, at, end, levels=LEVELS):
-    """Returns where the end-of-contents of elements is that begin here, or None."""
-    while levels and at + 2 <= end:
-        if data[at:at + 2] == b"\0\0":
-            return at
-        try:
-            head = Header(data, at, end)
-        except NoElement:
-            return None
-        if head.length is None:
-            inner = end_of_contents(data, head.start, end, levels - 1)
-            if inner is None:
-                return None
-            at = inner + 2
-        else:
-            at = head.start + head.length
-    return None
+def base_128(digits):
+    """Returns the number that the low seven bits of each byte are."""
+    number = 0
+    for digit in digits:
+        number = number * 128 + digit % 128
+    return number
 
 
-def extent(data, head, end):
-    """Returns where the content of an element ends, in one that ends here, and where the next one
-    begins, None if that content is cut or has no end."""
-    if head.length is not None:
-        stop = head.start + head.length
-        return (stop, stop) if stop <= end else (end, None)
-    found = end_of_contents(data, head.start, end)
-    return (end, None) if found is None else (found, found + 2)
-
-
-def are_trees(data, at, end, levels=LEVELS):
-    """Returns whether bytes are elements, whole, of at most so many levels."""
-    while at < end:
-        try:
-            head = Header(data, at, end)
-        except NoElement:
-            return False
-        stop, after = extent(data, head, end)
-        if levels == 0 or after is None:
-            return False
-        if head.constructed and not are_trees(data, head.start, stop, levels - 1):
-            return False
-        at = after
-    return True
+def end_of(data, at, end, levels=LEVELS):
+    """Returns where an element ends that begins here, if it is whole up to here, of at most so many
+    levels; or None."""
+    try:
+        head = Header(data, at, end)
+    except NoElement:
+        return None
+    if levels == 0 or head.is_cut:
+        return None
+    is_open, at = head.length is None, head.start if head.constructed else head.stop
+    while at is not None and (is_open or at < head.stop):
+        if is_open and data[at:min(at + 2, end)] == b"\0\0":
+            return at + 2
+        at = end_of(data, at, head.stop, levels - 1)
+    return at
 
 
 def is_tree(data):
     """Returns whether bytes are one element, whole, and no more."""
-    try:
-        head = Header(data, 0, len(data))
-    except NoElement:
-        return False
-    return extent(data, head, len(data))[1] == len(data) and are_trees(data, 0, len(data))
+    return end_of(data, 0, len(data)) == len(data)
 
 
 def count_of(number, word="byte"):

@@ -3,29 +3,21 @@
 from functools import lru_cache
 
 from ber import LEVELS, Header, NoElement, is_tree
-from table import ALL, CLOSED, PRIVATE, PUBLIC, STRUCTURES, Field, fields_after
+from table import ALL, CLOSED, PRIVATE, RAW, STRUCTURES, Field, fields_after
 from values import is_valid
-
-STRICT, LOOSE, NOTHING = "strict", "loose", "nothing"
 
 
 class Row:
     """A header, an end-of-contents, or bytes that aren't drawn."""
 
-    def __init__(self, at, depth, stop, head=None, kind=None):
+    def __init__(self, at, depth, stop, head=None, kind=None, expected=None):
         self.at, self.depth, self.stop, self.head, self.kind = at, depth, stop, head, kind
         self.start = head.start if head else at
-        self.field, self.opened, self.shown = None, False, 0
+        # the bytes that the header has beyond the end of the row
+        self.missing = head.start + head.length - stop if head and head.length is not None else 0
         # the fields that could stand here, where none of them does
-        self.expected, self.follows = None, True
-        self.marks = []
-
-    @property
-    def missing(self):
-        """The bytes that the header has beyond the end of the row."""
-        if self.head is None or self.head.length is None:
-            return 0
-        return self.start + self.head.length - self.stop
+        self.expected = expected
+        self.field, self.opened, self.shown, self.marks = None, False, 0, []
 
 
 # What any elements are.
@@ -38,7 +30,7 @@ class Ended(Exception):
 
 def rest_of(fields, first):
     """Returns the first field that an element with this tag can be, and those that may follow."""
-    for number, field in enumerate(fields):
+    for number, field in enumerate(fields or []):
         if field.has_tag(first):
             return field, fields[number + (field.presence != "*"):]
         if field.is_needed:
@@ -46,72 +38,69 @@ def rest_of(fields, first):
     return None, None
 
 
-def needs(fields):
-    return any(field.is_needed for field in fields)
-
-
 class Walk:
-    """The rows of bytes by a form, or of any elements if it is none."""
+    """The rows of bytes by a form, or of any elements if it is none; or by the fields of a
+    structure, which they are inside of."""
 
-    def __init__(self, data, form, is_loose, is_whole_tree=False):
-        self.data, self.form, self.is_loose, self.is_tree = data, form, is_loose, is_whole_tree
+    def __init__(self, data, form=None, is_loose=False, is_tree=False, inside=None):
+        self.data, self.is_loose, self.is_tree = data, is_loose, is_tree
         self.rows, self.is_whole, self.is_cut = [], False, False
         try:
-            self.draw_root()
+            if inside:
+                self.draw_inside(0, len(data), 0, STRUCTURES[inside], False)
+            else:
+                self.draw_root(form and form.root)
+            self.is_whole = not self.is_cut
         except Ended:
             pass
 
-    def draw_root(self):
-        data, root = self.data, self.form and self.form.root
+    def draw_root(self, root):
+        """Draws the root, which has to be this field, if it is one."""
         try:
-            head = Header(data, 0, len(data))
+            head = Header(self.data, 0, len(self.data))
         except NoElement:
-            return self.end(0, 0, None)
-        stop = min(len(data), head.start + (head.length if head.length is not None else len(data)))
-        self.is_cut = head.length is not None and head.start + head.length > stop
-        if root and self.next_of([root], head, stop)[0] is None:
-            return self.end(0, 0, None)
-        after = self.draw(head, stop, 0, root, True)
-        if after < len(data):
-            self.end(after, 0, None)
-        self.is_whole = not self.is_cut
-        return None
+            self.end(0, 0)
+        self.is_cut = head.is_cut
+        if root and self.next_of([root], head)[0] is None:
+            self.end(0, 0)
+        after = self.draw(head, 0, root)
+        if after < len(self.data):
+            self.end(after, 0)
 
-    def end(self, at, depth, expected):
+    def end(self, at, depth, expected=None):
         """Ends the rows: what follows isn't drawn."""
-        self.rows.append(Row(at, depth, len(self.data), kind="not drawn"))
-        self.rows[-1].expected = expected
+        self.rows.append(Row(at, depth, len(self.data), None, "not drawn", expected))
         raise Ended
 
-    def draw(self, head, stop, depth, field, follows_it, expected=None):
-        """Draws an element whose content ends here, if its length is definite, and what is in it.
-        Returns where it ends."""
-        row = Row(head.at, depth, head.start if head.length is None else stop, head)
-        row.field, row.follows, row.expected = field, follows_it, expected
+    def draw(self, head, depth, field, expected=None):
+        """Draws an element that is this field, if it is one, and what is in it. Returns where it
+        ends."""
+        row = Row(head.at, depth, head.start if head.length is None else head.stop, head)
+        row.field, row.expected = field, expected
         self.rows.append(row)
-        fields = self.fields_in(field, head, stop)
+        fields = self.fields_in(field, head)
         if fields is not None or head.length is None or self.is_loose and head.constructed:
             row.opened, is_loose = True, self.is_loose
             # what is whole is drawn so
             self.is_loose = is_loose and not (field and (field.whole or field.bits))
             start = head.start + bool(field and field.bits)
-            after = self.draw_inside(start, stop, depth + 1, fields, head.length is None)
+            after = self.draw_inside(start, head.stop, depth + 1, fields, head.length is None)
             self.is_loose = is_loose
             return after
         row.shown = self.shown(row)
-        return stop
+        return head.stop
 
-    def fields_in(self, field, head, stop):
+    def fields_in(self, field, head):
         """Returns the fields in an element that is this field; None if they aren't named."""
-        if field and field.inside:
-            return STRUCTURES[field.inside]
-        if field and field.whole and follows(self.data[head.start:stop], field.whole):
-            return STRUCTURES[field.whole]
+        if field is None:
+            return None
+        inside, content = field.inside, self.data[head.start:head.stop]
+        if field.whole and Walk(content, inside=field.whole).is_whole:
+            inside = field.whole
         # X.690 section 8.6.2: the number of unused bits, and bits
-        content = self.data[head.start:stop]
-        if field and field.bits and content[:1] == b"\0" and follows(content[1:], field.bits):
-            return STRUCTURES[field.bits]
-        return None
+        if field.bits and content[:1] == b"\0" and Walk(content[1:], inside=field.bits).is_whole:
+            inside = field.bits
+        return STRUCTURES.get(inside)
 
     def draw_inside(self, at, stop, depth, fields, is_open):
         """Draws the elements of a content: these fields, or any elements, up to an end-of-contents
@@ -119,34 +108,28 @@ class Walk:
         while True:
             is_end = is_open and self.data[at:min(at + 2, stop)] == b"\0\0"
             is_last = at >= stop and (self.is_loose or not is_open)
-            lacks = fields is not None and needs(fields)
+            lacks = any(field.is_needed for field in fields or [])
             if (is_end or is_last) and (self.is_loose or not lacks):
                 break
-            field, rest, expected = None, fields, None
             try:
                 head = Header(self.data, at, stop)
             except NoElement:
                 self.end(at, depth, ANY if fields is None else fields)
-            last = stop if head.length is None else min(stop, head.start + head.length)
-            is_cut = head.length is not None and last < head.start + head.length
-            if fields is not None:
-                field, rest = self.next_of(fields, head, last)
-                if field is None:
-                    expected, rest = fields, None
-            if depth == LEVELS or (expected is not None or is_cut) and not self.is_loose:
+            field, rest = self.next_of(fields, head)
+            expected = None if field else fields
+            if depth == LEVELS or (expected is not None or head.is_cut) and not self.is_loose:
                 self.end(at, depth, ANY if fields is None else fields)
-            at, fields = self.draw(head, last, depth, field, expected is None, expected), rest
+            at, fields = self.draw(head, depth, field, expected), rest
         if lacks:
-            self.rows.append(Row(at, depth, at, kind="not drawn"))
-            self.rows[-1].expected = fields
+            self.rows.append(Row(at, depth, at, None, "not drawn", fields))
         if is_end:
-            self.rows.append(Row(at, depth - 1, at + 2, kind="end-of-contents"))
+            self.rows.append(Row(at, depth - 1, at + 2, None, "end-of-contents"))
         return at + 2 * is_end
 
-    def next_of(self, fields, head, stop):
+    def next_of(self, fields, head):
         """Returns the field that an element is, and those that may follow it."""
         field, rest = rest_of(fields, head.first)
-        content = self.data[head.start:stop]
+        content = self.data[head.start:head.stop]
         is_there = head.length == len(content)
         if field is None or not field.admits(content) or field.is_exact and not is_there:
             return None, None
@@ -170,24 +153,13 @@ class Walk:
         return len(content) if is_shown else 0
 
 
-def follows(data, structure):
-    """Returns whether bytes are this structure's fields, to the end."""
-    walk = Walk.__new__(Walk)
-    walk.data, walk.form, walk.is_loose, walk.is_tree, walk.rows = data, None, False, False, []
-    try:
-        walk.draw_inside(0, len(data), 0, STRUCTURES[structure], False)
-    except Ended:
-        return False
-    return True
-
-
 @lru_cache(maxsize=1 << 16)
 def form_of(data):
     """Returns the form of bytes, and whether they are wholly of it; None for none. Of two that as
     many bytes don't follow it is the one that is followed to the end, or else the earlier one."""
     best = None
     for form in ALL:
-        walk = Walk(data, form, False)
+        walk = Walk(data, form)
         left = sum(row.stop - row.at for row in walk.rows if row.kind == "not drawn")
         if best is None or (left, not walk.is_whole) < best[0]:
             best = (left, not walk.is_whole), form, walk
@@ -204,7 +176,7 @@ def is_retagged(data):
     if data[0] != 0x30 or len(parts) < 2 or parts[0] != (2, 1):
         return False
     (tag, length), others = parts[1], bytes(first for first, _ in parts[2:])
-    is_field = others in (b"\xA0", b"\xA1", b"\xA0\xA1") or not others and length in (28, 32, 48, 66)
+    is_field = others in (b"\xA0", b"\xA1", b"\xA0\xA1") or not others and length in RAW
     return tag & 0xE0 == 0 and tag != 4 and is_field
 
 
@@ -216,28 +188,18 @@ class Plan:
         self.form, self.is_whole = form_of(data)
         if self.form is None and self.is_tree and is_retagged(data):
             self.form = ALL[0]
-        self.is_cut = bool(self.form) and Walk(data, self.form, False).is_cut
+        self.is_cut = bool(self.form) and Walk(data, self.form).is_cut
         secrecy = self.form.secrecy if self.form else None
-        if secrecy == PRIVATE and self.is_whole or secrecy in (PRIVATE, CLOSED) and not self.is_tree:
-            self.way = STRICT
-        else:
-            self.way = LOOSE if self.is_tree or self.form else NOTHING
-
-    @property
-    def is_private(self):
-        return bool(self.form) and self.form.secrecy == PRIVATE
-
-    @property
-    def is_public(self):
-        """Returns whether every content inside of the root is public."""
-        return self.is_whole and self.is_tree and self.form.secrecy == PUBLIC
+        self.is_private = secrecy == PRIVATE
+        self.is_strict = (secrecy == PRIVATE and self.is_whole or
+                          secrecy in (PRIVATE, CLOSED) and not self.is_tree)
 
 
 def rows_of(data, plan, everything=False):
     """Returns the rows of bytes."""
-    if plan.way == NOTHING:
+    if not plan.is_tree and not plan.form:
         return [Row(0, 0, len(data), kind="not drawn")] if data else []
-    return Walk(data, plan.form, plan.way == LOOSE or everything, plan.is_tree).rows
+    return Walk(data, plan.form, everything or not plan.is_strict, plan.is_tree).rows
 
 
 def mask_of(data):

@@ -46,8 +46,7 @@ class Picture:
                 found.append(("missing", f"{row.missing} of {count_of(head.length)} missing"))
             if head.constructed and head.is_type(*STRINGS):
                 found.append(("string", "constructed string; DER has primitive ones (X.690 10.2)"))
-        is_new = row.expected is not None and (not row.follows or row.kind == "not drawn")
-        if is_new and self.plan.is_private and not self.plan.is_cut:
+        if row.expected is not None and self.plan.is_private and not self.plan.is_cut:
             found.append(("expected", "expected " + expected_of(row.expected)))
         if row.kind == "not drawn" and row.depth == 0 and row.at:
             found.append(("rest", "after the end of the root"))
@@ -98,27 +97,23 @@ def lines_of(picture, row):
 
 
 def object_of(picture, row):
-    """Returns the members of a row."""
-    label = row.label
-    members = {"depth": row.depth, "header_len": row.start - row.at, "offset": row.at,
-               "type": label.type, "len": row.stop - row.start}
-    if row.kind == "end-of-contents":
-        members |= {"header_len": 2, "len": 0}
-    if row.head:
-        members |= {"class": CLASSES[row.head.first >> 6], "tag": row.head.number,
-                    "constructed": row.head.constructed}
-        if row.head.length is None:
+    """Returns the members of a row; None is one that doesn't apply."""
+    label, head, is_end = row.label, row.head, row.kind == "end-of-contents"
+    content = own_content(picture, row) if picture.everything else b""
+    members = {
+        "depth": row.depth, "offset": row.at, "type": label.type, "name": row.name,
+        "header_len": 2 if is_end else row.start - row.at, "oid": label.oid,
+        "len": 0 if is_end else row.stop - row.start, "value": label.note or label.value,
+        "faults": [{"kind": kind, "words": said} for kind, said in row.marks] or None,
+        "secret": row.secret or None, "content": content.hex().upper() or None}
+    if head:
+        members |= {"class": CLASSES[head.first >> 6], "tag": head.number,
+                    "constructed": head.constructed,
+                    "opened": row.opened and not head.constructed or None,
+                    "announced": head.length if row.missing else None}
+        if head.length is None:
             del members["len"]
-        elif row.missing:
-            members["announced"] = row.head.length
-    if row.marks:
-        members["faults"] = [{"kind": kind, "words": said} for kind, said in row.marks]
-    extra = {"name": row.name, "oid": label.oid, "value": label.note or label.value}
-    members |= {key: value for key, value in extra.items() if value is not None}
-    members |= {"secret": True} if row.secret else {}
-    members |= {"opened": True} if row.opened and not row.head.constructed else {}
-    content = own_content(picture, row).hex().upper()
-    return members | ({"content": content} if picture.everything and content else {})
+    return members
 
 
 def element_at(data, offset):
@@ -126,18 +121,22 @@ def element_at(data, offset):
     the content of others, of a BIT STRING behind its unused bits. Returns None if it has none."""
     if not any(row.head and row.at == offset for row in Picture(data).rows):
         return None
-    at, head = 0, None
-    while at < len(data):
+    at = 0
+    while at <= offset:
         try:
             head = Header(data, at, len(data))
         except NoElement:
             return None
-        stop = len(data) if head.length is None else head.start + head.length
-        if at >= offset:
-            return data[at:stop] if at == offset else None
-        is_behind = head.length is not None and stop <= min(offset, len(data))
-        at = stop if is_behind else head.start + (head.first == 3)
+        if at == offset:
+            return data[at:head.stop]
+        is_behind = head.length is not None and head.stop <= offset
+        at = head.stop if is_behind else head.start + (head.first == 3)
     return None
+
+
+def last_of(is_key, lines, command, mark=None):
+    """Returns the members of the last line."""
+    return {"key": is_key, "words": " ".join(lines) or None, "advice": command, "mark": mark}
 
 
 def drawn(data, everything=False, source="der", runs=True, depth=None):
@@ -145,16 +144,12 @@ def drawn(data, everything=False, source="der", runs=True, depth=None):
     that at most so many elements are around."""
     picture = Picture(data, everything)
     told = words.Words(Picture(data), source, runs)
-    lines, values = [], []
-    for row in picture.rows:
-        if depth is None or row.depth <= depth:
-            lines += lines_of(picture, row)
-            values.append(object_of(picture, row))
+    rows = [row for row in picture.rows if depth is None or row.depth <= depth]
+    lines = [line for row in rows for line in lines_of(picture, row)]
     lines += told.lines + (["  " + told.command] if told.command else [])
-    last = {"key": told.is_key, "words": " ".join(told.lines), "advice": told.command,
-            "mark": next((row.at for row in told.picture.rows if row.marks), None)}
-    values.append({key: value for key, value in last.items() if value is not None})
-    return lines, values, told.is_key
+    mark = next((row.at for row in told.picture.rows if row.marks), None)
+    values = [object_of(picture, row) for row in rows]
+    return lines, [*values, last_of(told.is_key, told.lines, told.command, mark)], told.is_key
 
 
 def draw(given, everything=False, as_json=False, path=None, offset=0, depth=None):
@@ -162,21 +157,20 @@ def draw(given, everything=False, as_json=False, path=None, offset=0, depth=None
     at an offset, if that isn't 0, and of the rows those that at most so many elements are around."""
     lines, values, found = [], [], False
     for part in text.parts(given):
-        front = {"form": part.form, "bytes": len(part.data) if part.data is not None else None,
-                 "file": path, "label": part.label, "line": part.line}
-        values.append({key: value for key, value in front.items() if value is not None})
-        lines += [part.heading] if part.heading else []
         data, said, command = part.data, part.words, part.command
+        values.append({"form": part.form, "bytes": None if data is None else len(data),
+                       "file": path, "label": part.label, "line": part.line})
+        lines += [part.heading] if part.heading else []
         if data is not None and offset:
-            data, said, command = element_at(data, offset), [f"No element begins at offset {offset}."], None
+            data, said = element_at(data, offset), [f"No element begins at offset {offset}."]
         if data is None:
             lines += said + (["  " + command] if command else [])
-            last = {"key": False, "words": " ".join(said), "advice": command}
-            values.append({key: value for key, value in last.items() if value not in (None, "")})
+            values.append(last_of(False, said, command))
             continue
         # no command reads a part of a file
         shown, members, is_key = drawn(data, everything, part.form, part.runs and not offset, depth)
         lines, values, found = lines + shown, values + members, found or is_key
     if as_json:
+        values = [{key: it for key, it in value.items() if it is not None} for value in values]
         lines = [json.dumps(value, separators=(",", ":"), sort_keys=True) for value in values]
     return "".join(line + "\n" for line in lines), found

@@ -10,7 +10,11 @@ come, by what they begin with (CASES).
 """
 import re
 
-TABLE = """
+# The lengths of raw private keys on P-224, P-256, P-384 and P-521.
+RAW = (28, 32, 48, 66)
+# What comes after the key in PKCS #8.
+OTHERS = "A0? hidden attributes, 81? hidden publicKey"
+TABLE = f"""
 ECPrivateKey | RFC 5915 section 3 |
   02 version version, 04 hidden privateKey, A0? curve parameters, A1? bits publicKey
 curve | RFC 5480 section 2.1.1: namedCurve, which RFC 5915 demands | 06 shown12 namedCurve
@@ -19,23 +23,17 @@ ec8 | RFC 5958 section 2: OneAsymmetricKey, with the algorithms of RFC 5480 and 
   02 version version, 30 ecAlgorithm privateKeyAlgorithm, 04 =ecKey privateKey, A0? hidden attributes,
   81? point publicKey
 rsa8 | RFC 8017 appendix A.1 |
-  02 version version, 30 rsaAlgorithm privateKeyAlgorithm, 04 =rsaKey privateKey, A0? hidden attributes,
-  81? hidden publicKey
+  02 version version, 30 rsaAlgorithm privateKeyAlgorithm, 04 =rsaKey privateKey, {OTHERS}
 dsa8 | RFC 3279 section 2.3.2 |
-  02 version version, 30 dsaAlgorithm privateKeyAlgorithm, 04 =numberKey privateKey, A0? hidden attributes,
-  81? hidden publicKey
+  02 version version, 30 dsaAlgorithm privateKeyAlgorithm, 04 =numberKey privateKey, {OTHERS}
 dh8 | PKCS #3 section 9 |
-  02 version version, 30 dhAlgorithm privateKeyAlgorithm, 04 =numberKey privateKey, A0? hidden attributes,
-  81? hidden publicKey
+  02 version version, 30 dhAlgorithm privateKeyAlgorithm, 04 =numberKey privateKey, {OTHERS}
 x942 | RFC 3279 section 2.3.3 |
-  02 version version, 30 x942Algorithm privateKeyAlgorithm, 04 =numberKey privateKey, A0? hidden attributes,
-  81? hidden publicKey
+  02 version version, 30 x942Algorithm privateKeyAlgorithm, 04 =numberKey privateKey, {OTHERS}
 octet8 | RFC 8410 section 7 |
-  02 version version, 30 edwardsAlgorithm privateKeyAlgorithm, 04 =octetKey privateKey, A0? hidden attributes,
-  81? hidden publicKey
+  02 version version, 30 edwardsAlgorithm privateKeyAlgorithm, 04 =octetKey privateKey, {OTHERS}
 any8 | RFC 5958 section 2 |
-  02 version version, 30 algorithm privateKeyAlgorithm, 04 hidden privateKey, A0? hidden attributes,
-  81? hidden publicKey
+  02 version version, 30 algorithm privateKeyAlgorithm, 04 hidden privateKey, {OTHERS}
 ecKey | RFC 5915 section 3 | 30 ECPrivateKey ECPrivateKey
 rsaKey | RFC 8017 appendix A.1.2 | 30 RSAPrivateKey RSAPrivateKey
 numberKey | an INTEGER, as OpenSSL writes it | 02 hidden the_key
@@ -191,18 +189,13 @@ class Field:
         self.arcs = arcs_of(content[3:]) if content.startswith("of:") else None
         self.whole = content[1:] if content.startswith("=") else None
         self.bits = content[5:] if content.startswith("bits:") else None
-        self.inside = content if content in NAMES else None
-
-    @property
-    def is_exact(self):
-        """Returns whether the content says if an element is this field."""
-        return bool(self.arcs) or self.kind in ("version", "short")
-
-    @property
-    def is_needed(self):
-        return self.presence == ""
+        self.inside = content if f"\n{content} | " in TABLE else None
+        self.is_needed = presence == ""
+        # whether the content says if an element is this field
+        self.is_exact = bool(self.arcs) or self.kind in ("version", "short")
 
     def has_tag(self, first):
+        """Returns whether an element with this tag can be this field."""
         return self.tag in (first, 0) or self.tag == 0x17 and first == 0x18
 
     def admits(self, content):
@@ -226,21 +219,13 @@ def arcs_of(dotted):
     return out
 
 
-NAMES = {line.split(" | ")[0] for line in TABLE.splitlines() if " | " in line}
-
-
-def structures():
-    """Returns the fields of each structure."""
-    found = {}
-    for row in re.sub(r"\n  +", " ", TABLE).strip().splitlines():
-        name, _, fields = (part.strip() for part in row.split(" |"))
-        fields = (field.split() for field in fields.split(", "))
-        found[name] = [Field(int(tag[:2], 16), tag[2:], content, word.replace("_", " "))
-                       for tag, content, word in fields]
-    return found
-
-
-STRUCTURES = structures()
+# The fields of each structure.
+STRUCTURES = {}
+for row in re.sub(r"\n  +", " ", TABLE).strip().splitlines():
+    structure, _, fields = row.split(" | ")
+    STRUCTURES[structure] = [
+        Field(int(tag[:2], 16), tag[2:], content, name.replace("_", " "))
+        for tag, content, name in map(str.split, fields.split(", "))]
 
 
 def fields_after(name, content):
@@ -255,12 +240,7 @@ class Form:
     def __init__(self, structure, name, secrecy, words):
         self.structure, self.name, self.secrecy, self.words = structure, name, secrecy, words
         fields = STRUCTURES[structure]
-        is_root = structure == "oid"
-        self.root = fields[0] if is_root else Field(0x30, "", structure, name)
-
-    @property
-    def is_private(self):
-        return self.secrecy == PRIVATE
+        self.root = fields[0] if structure == "oid" else Field(0x30, "", structure, name)
 
 
 ALL = [Form(*form) for form in FORMS]

@@ -2,16 +2,17 @@
 is almost that."""
 import base64
 import binascii
+import itertools
 import re
-import string
 
 from ber import count_of, is_tree, shortened
+from table import RAW
 
 # the labels of the keys that OpenSSL reads from PEM, if they are the first in a file
 KEYS = ("EC PRIVATE KEY", "PRIVATE KEY", "ENCRYPTED PRIVATE KEY")
 OF_PEM = "openssl ec -in FILE -outform DER -out key.der"
 ASKS = "If OpenSSL reads it, this asks for the password and writes it in DER:"
-OPENSSH = "ssh-keygen -p -m PEM -f COPY"
+OPENSSH = "This is OpenSSH's own form"
 LABEL = re.compile(rb"-----BEGIN ([A-Z0-9 #.]{1,40})-----[ \t]*")
 XXD = "This begins as the output of xxd. If it is that, this draws it:"
 PUTTY = "This is PuTTY's own form. If puttygen reads it, this makes PEM of it:"
@@ -28,21 +29,22 @@ TEXTS = [
 ]
 WIDE = [(b"\xFF\xFE\0\0", 32), (b"\0\0\xFE\xFF", 32), (b"\xFF\xFE", 16), (b"\xFE\xFF", 16),
         (b"-\0-\0", 16), (b"\0-\0-", 16)]
-# a binary of so many bytes may be a raw key, whatever it begins with
-RAW = (28, 32, 48, 66)
 
 
 class Part:
-    """A part of an input that is drawn, or said to be something else."""
+    """A part of an input that is drawn, or said to be something else; of a block of PEM its label
+    and line, and whether the commands of OpenSSL read it."""
 
-    def __init__(self, form, data=None, heading=None, words=(), command=None):
+    def __init__(self, form, data=None, heading=None, words=(), command=None, label=None,
+                 line=None, runs=True):
         self.form, self.data, self.heading = form, data, heading
         self.words, self.command = list(words), command
-        self.label, self.line, self.runs = None, None, True
+        self.label, self.line, self.runs = label, line, runs
 
 
 def decoded(written):
-    """Returns the bytes that base64 encodes, or None: with padding, and unused bits of 0."""
+    """Returns the bytes that base64 encodes, or None: with padding, unused bits of 0, and blanks."""
+    written = written.translate(None, b" \t\r\n")
     try:
         found = base64.b64decode(written, validate=True)
     except binascii.Error:
@@ -50,40 +52,25 @@ def decoded(written):
     return found if base64.b64encode(found) == written else None
 
 
-def without_blanks(written):
-    return written.translate(None, b" \t\r\n")
-
-
-def lines_of(given):
-    """Returns the lines, which CR LF, LF or CR ends."""
-    return re.split(rb"\r\n|\n|\r", given)
-
-
 def blocks(given):
     """Returns the blocks of PEM: the number of its first line, the label, the lines between, and
     whether it has an end."""
-    found, lines, at = [], lines_of(given), 0
-    while at < len(lines):
-        begin = LABEL.fullmatch(lines[at])
-        at += 1
-        if not begin:
-            continue
-        first = at
-        while at < len(lines) and not lines[at].startswith(b"-----"):
-            at += 1
-        end = b"-----END " + begin[1] + b"-----"
-        is_ended = at < len(lines) and lines[at].rstrip(b" \t") == end
-        found.append((first, begin[1].decode(), lines[first:at], is_ended))
+    found, lines = [], re.split(rb"\r\n|\n|\r", given)
+    for number, line in enumerate(lines, 1):
+        begin = LABEL.fullmatch(line)
+        if begin:
+            body = itertools.takewhile(lambda it: not it.startswith(b"-----"), lines[number:])
+            body, end = list(body), b"-----END " + begin[1] + b"-----"
+            after = b"".join(lines[number + len(body):][:1])
+            found.append((number, begin[1].decode(), body, after.rstrip(b" \t") == end))
     return found
 
 
 def split_headers(lines):
     """Returns the headers of a block, and the lines after them."""
-    for at, line in enumerate(lines):
-        if not line.strip(b" \t"):
-            if any(b":" in header for header in lines[:at]):
-                return lines[:at], lines[at + 1:]
-            break
+    at = next((number for number, line in enumerate(lines) if not line.strip(b" \t")), 0)
+    if any(b":" in header for header in lines[:at]):
+        return lines[:at], lines[at + 1:]
     return [], lines
 
 
@@ -102,55 +89,46 @@ def wrong(written, words):
     return ", in base64url" if re.search(rb"[-_]", written) else f", {words}"
 
 
-def pem_part(number, label, lines, is_ended):
-    """Returns a block that begins and ends with lines of its own."""
+def pem_part(given, is_first, number, label, lines, is_ended):
+    """Returns a block of an input that begins and ends with lines of its own; of keys it may be the
+    first."""
     headers, body = split_headers(lines)
-    part = Part("pem")
-    part.label, part.line = label, number
-    part.runs = is_ended and label in KEYS
     written = b"\n".join(body)
-    data, amiss = decoded(without_blanks(written)), ""
+    data, part = decoded(written), Part("pem", label=label, line=number)
     is_encrypted = any(header.startswith(b"Proc-Type: 4,ENCRYPTED") for header in headers)
+    part.runs = is_first and is_ended and label in KEYS and b"\n" in given
     part.runs = part.runs and (is_encrypted or not headers)
     if label.startswith("PGP "):
         told = "OpenPGP (RFC 9580), not drawn"
     elif is_encrypted:
         told = "encrypted (RFC 1421), not drawn"
-        if label == "EC PRIVATE KEY":
+        if label == "EC PRIVATE KEY" and part.runs:
             part.words, part.command = [ASKS], OF_PEM
     elif label == "OPENSSH PRIVATE KEY" and data is not None:
-        told = "no DER, not drawn"
-        part.words = ["This is OpenSSH's own form."]
+        told, part.words = "no DER, not drawn", [f"{OPENSSH}."]
         if b"ssh-ed25519" in data:
-            part.words = ["This is OpenSSH's own form, of a key that ssh-keygen makes no PEM of."]
-        else:
-            part.command = OPENSSH
+            part.words = [f"{OPENSSH}, of a key that ssh-keygen makes no PEM of."]
+        elif b"\r" not in given:
+            part.words = [f"{OPENSSH}. If ssh-keygen reads it, this makes PEM of a copy of it:"]
+            part.command = "ssh-keygen -p -m PEM -f COPY"
     else:
+        part.data = mended(written) if data is None else data
+        told = "no base64, not drawn" if part.data is None else count_of(len(part.data))
         if data is None:
-            data = mended(written)
-            amiss, part.runs = wrong(written, "with other characters in it"), False
-        part.data = data
-        told = "no base64, not drawn" if data is None else count_of(len(data))
-    amiss = amiss if data is not None else ""
+            part.runs = False
+            told += wrong(written, "with other characters in it") if part.data else ""
     ending = "" if is_ended else ", with no line END"
-    part.heading = shortened(f"PEM at line {number}, {label}: {told}{amiss}{ending}")
+    part.heading = shortened(f"PEM at line {number}, {label}: {told}{ending}")
     return part
 
 
 def pem_parts(found, given):
     """Returns the blocks of an input that has some."""
-    drawn, is_first = [pem_part(*block) for block in found], True
-    for part in drawn:
-        part.runs = part.runs and is_first and b"\n" in given
-        is_first = is_first and not part.label.endswith("PRIVATE KEY")
-        if part.command == OF_PEM and not part.runs:
-            part.words, part.command = [], None
-        elif part.command == OPENSSH:
-            if b"\r" in given:
-                part.command = None
-            else:
-                part.words = [f"{part.words[0]} If ssh-keygen reads it, this makes PEM of a copy of it:"]
-    return drawn
+    parts_of, is_first = [], True
+    for block in found:
+        parts_of.append(pem_part(given, is_first, *block))
+        is_first = is_first and not parts_of[-1].label.endswith("PRIVATE KEY")
+    return parts_of
 
 
 def almost_pem(given):
@@ -170,24 +148,17 @@ def almost_pem(given):
     data = mended(written)
     if data is None:
         return None
-    part = Part("pem", data)
-    part.label, part.line, part.runs = label.decode(), front.count(b"\n") + 1, False
-    part.heading = shortened(f"PEM at line {part.line}, {part.label}: {count_of(len(data))}"
-                             f"{wrong(written, words)}{ending}")
-    return part
+    label, line = label.decode(), front.count(b"\n") + 1
+    told = f"{count_of(len(data))}{wrong(written, words)}{ending}"
+    heading = shortened(f"PEM at line {line}, {label}: {told}")
+    return Part("pem", data, heading, label=label, line=line, runs=False)
 
 
 def hexadecimal(given):
     """Returns the bytes of hexadecimal, or None: each run of digits is of whole bytes."""
     runs = re.split(rb"[ \t\r\n:,]+", given.replace(b"0x", b"").replace(b"0X", b""))
-    runs = [run.decode("latin-1") for run in runs if run]
-    if not runs or any(len(run) % 2 or set(run) - set(string.hexdigits) for run in runs):
-        return None
-    return bytes.fromhex("".join(runs))
-
-
-def sized(form, name, data, amiss=""):
-    return Part(form, data, f"{name}: {count_of(len(data))}{amiss}")
+    is_whole = all(re.fullmatch(rb"(?:[0-9A-Fa-f]{2})*", run) for run in runs)
+    return bytes.fromhex(b"".join(runs).decode()) if is_whole else None
 
 
 def is_text(given):
@@ -215,16 +186,12 @@ def parts(given):
         return pem_parts(found, given)
     words, command = next(row[1:] for row in TEXTS if re.match(row[0], given))
     if given[:4] != b"0000" or "text" in words:
-        data = hexadecimal(given)
-        if data:
-            return [sized("hex", "hexadecimal", data)]
-        data = decoded(without_blanks(given))
-        if data:
-            return [sized("base64", "base64", data)]
-        part = almost_pem(given)
-        data = None if part else mended(given)
-        if data:
-            part = sized("base64", "base64", data, wrong(given, "with other characters in it"))
+        part, amiss = almost_pem(given), wrong(given, "with other characters in it")
         if part:
             return [part]
+        for form, name, data, amiss in (("hex", "hexadecimal", hexadecimal(given), ""),
+                                        ("base64", "base64", decoded(given), ""),
+                                        ("base64", "base64", mended(given), amiss)):
+            if data:
+                return [Part(form, data, f"{name}: {count_of(len(data))}{amiss}")]
     return [Part("text", words=[words], command=command)]

@@ -1,8 +1,8 @@
 """The values of contents, and the names of types and identifiers (X.680, X.690)."""
-import pathlib
 import re
 
-from ber import count_of
+import make_names
+from ber import base_128, count_of
 
 CLASSES = ("universal", "application", "context", "private")
 TYPES = {
@@ -18,36 +18,15 @@ TYPES = {
 STRINGS = (3, 4, 12, *range(18, 29), 30)
 # those whose contents are characters that are shown: no UniversalString
 LETTERS = (12, *range(18, 23), *range(25, 28), 30)
-
-
-def names():
-    """Returns the names of identifiers: lines of a dotted text, a name and its standard; those of
-    tests/dump have a word for what it is in front of the name."""
-    here = pathlib.Path(__file__).resolve().parent
-    path = here.parent.parent / "crates/der_view/names.txt"
-    is_old = not path.is_file()
-    lines = (here / "names.txt" if is_old else path).read_text().splitlines()
-    rows = (line.split(maxsplit=2) for line in lines if line and not line.startswith("#"))
-    return {row[0]: row[2 if is_old else 1] for row in rows}
-
-
-NAMES = names()
+NAMES = make_names.names()
 
 
 def subidentifiers(content):
     """Returns the subidentifiers of an identifier (X.690 8.19.2), or None."""
     if not content or content[-1] > 127:
         return None
-    numbers, number, fresh = [], 0, True
-    for byte in content:
-        if fresh and byte == 128:
-            return None
-        number = number * 128 + byte % 128
-        fresh = byte < 128
-        if fresh:
-            numbers.append(number)
-            number = 0
-    return numbers
+    parts = re.findall(rb"[\x80-\xFF]*[\0-\x7F]", content)
+    return None if any(part[0] == 128 for part in parts) else [*map(base_128, parts)]
 
 
 def identifier(content):
@@ -69,13 +48,8 @@ def is_named(content):
 
 def escaped(characters):
     """Returns a text of which all but 20 to 7E is escaped."""
-    out = ""
-    for character in characters:
-        if character in "\"\\":
-            out += "\\" + character
-        else:
-            out += character if " " <= character <= "~" else f"\\u{{{ord(character):X}}}"
-    return out
+    text = re.sub(r'["\\]', r"\\\g<0>", characters)
+    return re.sub("[^ -~]", lambda it: f"\\u{{{ord(it[0]):X}}}", text)
 
 
 FITS = {
@@ -125,9 +99,9 @@ def is_valid(head, content):
     if head.is_type(23, 24):
         return re.fullmatch(rb"\d{%d}Z" % (12 if head.number == 23 else 14), content) is not None
     if head.is_type(30):
-        letters = [content[at:at + 2] for at in range(0, len(content), 2)]
+        letters = zip(content[::2], content[1::2])
         return len(content) % 2 == 0 and not any(
-            letter[0] == 0 and is_control(letter[1]) for letter in letters)
+            high == 0 and is_control(low) for high, low in letters)
     return not head.is_type(*LETTERS) or not any(map(is_control, content))
 
 

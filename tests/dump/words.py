@@ -1,7 +1,7 @@
 """What is said last of bytes, and the command that helps: docs/FORMATS.md, "The picture of
 `sec1_dump`"."""
 from ber import count_of, shortened
-from table import CLOSED
+from table import CLOSED, RAW
 from values import NAMES, identifier, is_named
 
 EC = "openssl ec %s-in FILE %s-outform DER -out key.der"
@@ -26,7 +26,6 @@ SAID = {
     "encrypted": "This is encrypted PKCS #8 (RFC 5958).",
     "encrypted12": "This is encrypted PKCS #8 (RFC 5958).",
 }
-RAW = (28, 32, 48, 66)
 KNOWN = [
     ("a Java keystore", lambda data: data[:4] in (b"\xFE\xED\xFE\xED", b"\xCE\xCE\xCE\xCE")),
     ("gzip (RFC 1952)", lambda data: data[:3] == b"\x1F\x8B\x08"),
@@ -186,9 +185,10 @@ class Words:
     def say_sizes(self):
         """Says which lengths don't fit the curve. Returns whether a key fits, as far as is known."""
         size, order = SIZES.get(self.curve()[0], (None, None))
-        key = self.find("privateKey", 3 if self.form == "ec8" else 1)
+        depth = {"ECPrivateKey": 1, "ec8": 3}.get(self.form)
+        key = self.find("privateKey", depth) if depth else None
         point, fits, count = self.find("the point"), True, len(self.lines)
-        if size and key and not key.opened and key.stop - key.start != order and self.is_ec():
+        if size and key and key.stop - key.start != order and not key.opened:
             there = count_of(key.stop - key.start)
             self.lines.append(f"Its private key has {there}, where {self.curve()[0]} has {order}.")
         if point and point.shown > 1:
@@ -200,9 +200,6 @@ class Words:
                 self.lines.append(
                     f"Its point has {count_of(there)}, where {self.curve()[0]} has {wanted}.")
         return fits and count == len(self.lines)
-
-    def is_ec(self):
-        return self.form in ("ECPrivateKey", "ec8")
 
     def container(self):
         """Returns what is said of PKCS #8."""
