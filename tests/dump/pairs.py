@@ -10,6 +10,7 @@ The last line is 'N passed, M failed'.
 """
 import base64
 import ctypes
+import itertools
 import pathlib
 import random
 import re
@@ -24,10 +25,13 @@ TESTS = pathlib.Path(__file__).resolve().parent.parent
 # so many pairs in batches of so many, which are blocks of PEM; each 50th batch is files of DER too
 PAIRS, BATCH, FILES, SEED = 200_000, 1_000, 50, 2026
 CURVES = ("2A8648CE3D030107", "2B81040022", "2B8104000A", "2B2403030208010107")
+# bytes of headers
+HEADS = bytes.fromhex("010203040506132024308081828384859FA0A1BFFF")
 
 
-def element(tag, content):
-    """An element in DER."""
+def element(tag, *contents):
+    """Returns an element in DER, with these contents one after the other."""
+    content = b"".join(contents)
     count = len(content)
     if count < 128:
         return bytes([tag, count]) + content
@@ -35,99 +39,92 @@ def element(tag, content):
     return bytes([tag, 128 + len(octets)]) + octets + content
 
 
-def joined(parts):
-    return b"".join(parts)
+def sequence(*contents):
+    """Returns a SEQUENCE of these elements."""
+    return element(0x30, *contents)
 
 
-def ec_key(source, private, container=False):
-    """An ECPrivateKey of RFC 5915: with its curve and its point, or without one or both."""
-    size, form = len(private), source.randrange(4)
+def ec_key(source, private, is_inside=False):
+    """Returns an ECPrivateKey of RFC 5915: with its curve and its point, or without one or both; one
+    inside of PKCS #8 has no curve."""
+    form = source.randrange(4)
     fields = [element(2, b"\1"), element(4, private)]
-    if form & 1 and not container:
+    if form & 1 and not is_inside:
         fields.append(element(0xA0, element(6, bytes.fromhex(source.choice(CURVES)))))
     if form & 2:
-        point = b"\4" + source.randbytes(2 * size)
+        point = b"\4" + source.randbytes(2 * len(private))
         fields.append(element(0xA1, element(3, b"\0" + point)))
-    return element(0x30, joined(fields))
+    return sequence(*fields)
 
 
 def container(source, private):
-    """The PKCS #8 of RFC 5958, with an EC key."""
-    algorithm = element(6, bytes.fromhex("2A8648CE3D0201"))
-    algorithm += element(6, bytes.fromhex(source.choice(CURVES)))
+    """Returns the PKCS #8 of RFC 5958, with an EC key."""
+    curve = element(6, bytes.fromhex(source.choice(CURVES)))
     inner = element(4, ec_key(source, private, True))
-    return element(0x30, element(2, b"\0") + element(0x30, algorithm) + inner)
+    return sequence(element(2, b"\0"), sequence(EC, curve), inner)
 
 
-def edwards(source, private):
-    """The PKCS #8 of RFC 8410, of Ed25519 or X25519, with its public key or without."""
-    algorithm = element(6, bytes.fromhex(source.choice(("2B6570", "2B656E"))))
-    public = source.randrange(2)
-    fields = [element(2, bytes([public])), element(0x30, algorithm)]
-    fields.append(element(4, element(4, private)))
-    if public:
-        fields.append(element(0x81, b"\0" + source.randbytes(len(private))))
-    return element(0x30, joined(fields))
-
-
-def integers(source, private, public):
-    """INTEGERs after a version: these, of which `private` are cut from the bytes."""
-    values = [b"\1" + source.randbytes(size - 1) for size in public]
-    return element(0x30, joined(element(2, value) for value in [b"\0", *values, *private]))
+def integers(source, private, sizes):
+    """Returns INTEGERs after a version: some of so many bytes, and the private ones."""
+    values = [b"\1" + source.randbytes(size - 1) for size in sizes]
+    return sequence(*(element(2, value) for value in [b"\0", *values, *private]))
 
 
 def rsa(source, private):
-    size = len(private[1])
-    return integers(source, private, [size * 2, 3])
+    """Returns an RSA key, of numbers of few bytes."""
+    return integers(source, private, [2 * len(private[1]), 3])
 
 
 def dsa(source, private):
+    """Returns a DSA key, of numbers of few bytes."""
     size = len(private[0])
-    return integers(source, private, [size * 2, size, size * 2, size * 2])
+    return integers(source, private, [2 * size, size, 2 * size, 2 * size])
 
 
 def identified(arcs, content):
-    return element(0x30, element(6, bytes.fromhex(arcs)) + element(0xA0, content))
+    """Returns a SEQUENCE of an identifier, and of what it says."""
+    return sequence(element(6, bytes.fromhex(arcs)), element(0xA0, content))
 
 
 def public(source):
-    """A public key (RFC 5480)."""
-    algorithm = element(6, bytes.fromhex("2A8648CE3D0201")) + element(6, bytes.fromhex(CURVES[0]))
-    return element(0x30, element(0x30, algorithm) + element(3, b"\0\4" + source.randbytes(64)))
+    """Returns a public key (RFC 5480)."""
+    algorithm = sequence(EC, element(6, bytes.fromhex(CURVES[0])))
+    return sequence(algorithm, element(3, b"\0\4", source.randbytes(64)))
 
 
-KEYS = [ec_key, container, edwards]
+EC = element(6, bytes.fromhex("2A8648CE3D0201"))
+BAG, DATA = "2A864886F70D010C0A0101", "2A864886F70D010701"
 # What a key is in: AsymmetricKeyPackage (RFC 5958), SafeContents and SafeBag (RFC 7292), data of CMS
 # (RFC 5652), a SEQUENCE of an OCTET STRING; and what it is behind, or before.
 AROUND = [
-    lambda source, key: key, lambda source, key: key, lambda source, key: key,
-    lambda source, key: element(0x30, key),
-    lambda source, key: element(0x30, identified("2A864886F70D010C0A0101", key)),
-    lambda source, key: identified("2A864886F70D010C0A0101", key),
-    lambda source, key: identified("2A864886F70D010701", element(4, key)),
-    lambda source, key: element(0x30, element(4, key)),
+    *[lambda source, key: key] * 3,
+    lambda source, key: sequence(key),
+    lambda source, key: sequence(identified(BAG, key)),
+    lambda source, key: identified(BAG, key),
+    lambda source, key: identified(DATA, element(4, key)),
+    lambda source, key: sequence(element(4, key)),
     lambda source, key: public(source) + key,
     lambda source, key: key + public(source),
+]
+# How a key is made of its private parts: an EC key, one in PKCS #8, an OCTET STRING, RSA, DSA.
+KEYS = [
+    *[lambda source, private: ec_key(source, *private)] * 5,
+    *[lambda source, private: container(source, *private)] * 2,
+    lambda source, private: element(4, *private), rsa, dsa,
 ]
 
 
 def pair(source):
-    """Two keys that differ in private bytes alone, and where these are."""
-    kind, around, size = source.randrange(10), source.choice(AROUND), source.randint(20, 48)
-    if kind > 7:
-        # an RSA or DSA key with numbers of few bytes
-        sizes, build = ([size * 2] + [size] * 5, rsa) if kind == 8 else ([size], dsa)
-        both = [[b"\1" + source.randbytes(count - 1) for count in sizes] for _ in "ab"]
-    else:
-        made, both = KEYS[max(0, kind - 3) // 2], [[source.randbytes(size)] for _ in "ab"]
-        build = lambda source, private: made(source, private[0])  # noqa: E731
-        if kind == 7:
-            # an OCTET STRING alone, or in a SEQUENCE
-            build = lambda source, private: element(4, private[0])  # noqa: E731
+    """Returns two keys that differ in private bytes alone, and where these are."""
+    make, around, size = source.choice(KEYS), source.choice(AROUND), source.randint(20, 48)
+    sizes = [2 * size] + [size] * 5 if make is rsa else [size]
+    # numbers of RSA and DSA begin with a 1
+    front = b"\1" if make in (rsa, dsa) else b""
+    both = [[front + source.randbytes(count - len(front)) for count in sizes] for _ in "ab"]
     state, found = source.getstate(), []
     for private in both:
         source.setstate(state)
-        found.append(around(source, build(source, private)))
+        found.append(around(source, make(source, private)))
     hidden, at = set(), 0
     for number in both[0]:
         at = found[0].index(number, at)
@@ -156,40 +153,39 @@ def siblings(data, at, end):
 
 
 def damaged(source, one, other, hidden):
-    """Damages both in the same way."""
-    kind, count = source.randrange(16), len(one)
+    """Returns both, damaged in the same way."""
+    kind, count, put = source.randrange(16), len(one), b""
     if kind < 2:
-        end = source.randrange(count)
-        return one[:end], other[:end]
-    if kind < 4:
-        at = source.randrange(count)
-        return one[at:], other[at:]
-    if kind == 4:
+        at, after = source.randrange(count), count
+    elif kind < 4:
+        at, after = 0, source.randrange(count)
+    elif kind == 4:
         # a line of PEM, or some
         at = 48 * source.randrange(1 + count // 48)
         after = at + 48 * source.randint(1, 2)
-        return one[:at] + one[after:], other[:at] + other[after:]
-    if kind == 5:
-        found = list(siblings(one, 0, count))
-        if found:
-            (a, b), (c, d) = sorted(source.sample(source.choice(found), 2))
-            return tuple(key[:a] + key[c:d] + key[b:c] + key[a:b] + key[d:] for key in (one, other))
-    places = [at for at in range(count) if at not in hidden]
-    # the headers in front matter most
-    at = source.choice(places[:24] if source.randrange(2) else places)
-    if kind in (6, 7):
-        return one[:at] + one[at + 1:], other[:at] + other[at + 1:]
-    byte = source.randrange(256)
+    elif kind == 5 and (found := list(siblings(one, 0, count))):
+        (a, b), (c, d) = sorted(source.sample(source.choice(found), 2))
+        return tuple(key[:a] + key[c:d] + key[b:c] + key[a:b] + key[d:] for key in (one, other))
+    else:
+        places = [at for at in range(count) if at not in hidden]
+        # the headers in front matter most
+        at = source.choice(places[:24] if source.randrange(2) else places)
+        after = at + 1
+        if kind not in (6, 7):
+            put = bytes([changed(source, one[at])])
+    return tuple(key[:at] + put + key[after:] for key in (one, other))
+
+
+def changed(source, byte):
+    """Returns a byte that is put in the place of another: any, one of headers, or with another bit."""
+    other = source.randrange(256)
     if source.randrange(2):
-        byte = source.choice((1, 2, 3, 4, 5, 6, 0x13, 0x20, 0x24, 0x30, 0x80, 0x81, 0x82, 0x83,
-                              0x84, 0x85, 0x9F, 0xA0, 0xA1, 0xBF, 0xFF))
-    elif source.randrange(2):
-        byte = one[at] ^ 1 << source.randrange(8)
-    return tuple(key[:at] + bytes([byte]) + key[at + 1:] for key in (one, other))
+        return source.choice(HEADS)
+    return byte ^ 1 << source.randrange(8) if source.randrange(2) else other
 
 
 def pairs(count, seed, private=None):
-    """This many pairs of damaged keys; the private bytes of each first one go into a set."""
+    """Yields this many pairs of damaged keys; the private bytes of each first one go into a set."""
     source = random.Random(seed)
     for number in range(count):
         if number % 16 == 0:
@@ -256,37 +252,33 @@ def differ(run, program, asked, batch):
     return differ(run, program, asked, batch[:half]) + differ(run, program, asked, batch[half:])
 
 
-class Library:
-    """The library for C, built for this machine."""
-
-    def __init__(self, room):
-        folder = TESTS.parent / "dist"
-        subprocess.run(["make", "-s", "-C", folder, f"BUILD={room}"], check=True)
-        self.calls = ctypes.CDLL(str(next(pathlib.Path(room).glob("libsec1.so.*.*"))))
-
-    def unveiled(self, data, most=10_000):
-        """Yields the contents of rows of DER that may be shown unasked."""
-        size, count = ctypes.c_size_t, ctypes.c_size_t()
-        room_len = 2 * len(data) + 2
-        room, lines = ctypes.create_string_buffer(room_len), (size * (6 * most))()
-        self.calls.sec1_picture_lines(data, size(len(data)), room, size(room_len), lines, size(most),
-                                      ctypes.byref(count))
-        for at in range(0, 6 * count.value, 6):
-            kind, offset, header, length, _, hidden = lines[at:at + 6]
-            if kind == 1 and not hidden:
-                yield data[offset + header:offset + header + length]
+def library(room):
+    """Returns the library for C, built for this machine in a folder."""
+    subprocess.run(["make", "-s", "-C", TESTS.parent / "dist", f"BUILD={room}"], check=True)
+    return ctypes.CDLL(str(next(pathlib.Path(room).glob("libsec1.so.*.*"))))
 
 
-def is_shown(library, data, private):
-    """Returns whether the library for C shows four private bytes, but for short contents of a tree."""
+def is_shown(calls, data, private, most=10_000):
+    """Returns whether the library for C says that a content with four private bytes may be shown
+    unasked, but for short contents of a tree."""
+    size, count = ctypes.c_size_t, ctypes.c_size_t()
+    room_len = 2 * len(data) + 2
+    room, lines = ctypes.create_string_buffer(room_len), (size * (6 * most))()
+    calls.sec1_picture_lines(data, size(len(data)), room, size(room_len), lines, size(most),
+                             ctypes.byref(count))
     least = 13 if is_tree(data) else 4
-    return any(run in private for content in library.unveiled(data) if len(content) >= least
-               for run in runs(content))
+    for at in range(0, 6 * count.value, 6):
+        kind, offset, header, length, _, hidden = lines[at:at + 6]
+        content = data[offset + header:offset + header + length]
+        if kind == 1 and not hidden and len(content) >= least:
+            if not private.isdisjoint(runs(content)):
+                return True
+    return False
 
 
 def main(arguments):
     """Draws pairs, prints each that differs and may not, and counts."""
-    program = pathlib.Path(arguments[0] if arguments else TESTS.parent / "crates/sec1_dump/out/sec1_dump")
+    program = pathlib.Path(*arguments or [TESTS.parent / "crates/sec1_dump/out/sec1_dump"])
     if not program.is_file():
         print(f"FAILED: {program} isn't there: run rt ci first\n0 passed, 1 failed")
         return 1
@@ -294,29 +286,27 @@ def main(arguments):
     every = (pair for pair in pairs(2 * PAIRS, SEED, private) if pair[0] != pair[1])
     shown = [next(every) for _ in range(20)]
     printed = run_blocks(program, ["--all"], [one for one, _ in shown])[0].decode()
-    if len(differ(run_blocks, program, ["--all"], shown)) < len(shown) or not any(
-            run in private for run in shown_runs(printed)):
+    differing = differ(run_blocks, program, ["--all"], shown)
+    if len(differing) < len(shown) or private.isdisjoint(shown_runs(printed)):
         print("FAILED: no private byte is shown with --all\n0 passed, 1 failed")
         return 1
     with tempfile.TemporaryDirectory() as room:
-        library = Library(room)
+        calls = library(room)
         while passed + failed < PAIRS:
             private.clear()
             batch = [next(every) for _ in range(BATCH)]
             is_file = passed % (BATCH * FILES) == 0
-            wrong = set()
-            for run in [run_blocks, *([run_files] if is_file else [])]:
-                for asked in ([], ["--json"]):
-                    found = differ(run, program, asked, batch)
-                    amiss = [pair for pair in found if not is_excused(pair)]
-                    excused += len(found) - len(amiss)
-                    wrong.update(amiss)
-                    printed = run(program, asked, [one for one, _ in batch])[0].decode()
-                    if any(run in private for run in shown_runs(printed)):
-                        print("FAILED: four private bytes are printed of one of these:", asked)
-                        wrong.add(batch[0])
-            if is_file:
-                wrong.update(pair for pair in batch if is_shown(library, pair[0], private))
+            wrong = {pair for pair in batch if is_file and is_shown(calls, pair[0], private)}
+            ways = [run_blocks, run_files] if is_file else [run_blocks]
+            for run, asked in itertools.product(ways, ([], ["--json"])):
+                found = differ(run, program, asked, batch)
+                amiss = [pair for pair in found if not is_excused(pair)]
+                excused += len(found) - len(amiss)
+                wrong.update(amiss)
+                printed = run(program, asked, [one for one, _ in batch])[0].decode()
+                if not private.isdisjoint(shown_runs(printed)):
+                    print("FAILED: four private bytes are printed of one of these:", asked)
+                    wrong.add(batch[0])
             for pair in wrong:
                 print("FAILED: private bytes are shown:", *(data.hex() for data in pair), flush=True)
             passed, failed = passed + len(batch) - len(wrong), failed + len(wrong)
