@@ -8,13 +8,13 @@ input, and with those of `openssl asn1parse`.
 """
 
 import base64
+import itertools
 import json
 import pathlib
 import re
 import shutil
 import subprocess
 import sys
-import tempfile
 import time
 
 import pytest
@@ -30,7 +30,7 @@ import shapes  # noqa: E402
 import table  # noqa: E402
 import text  # noqa: E402
 import words  # noqa: E402
-from pairs import element  # noqa: E402
+from pairs import element, sequence  # noqa: E402
 from values import escaped  # noqa: E402
 
 pytestmark = pytest.mark.built
@@ -54,14 +54,16 @@ def drawn(given, options=(), path=None, **part):
     return shown, "", int(not found)
 
 
-def compare(tell, cases):
-    """Compares what is printed of inputs, which are files of one run: a name and the bytes of each."""
+def compare(tell, cases, *asked, **part):
+    """Compares what is printed of inputs, or of a part of each, which are files of one run: a name
+    and the bytes of each."""
     cases = list(cases)
     for options in OPTIONS:
+        options = [*options, *asked]
         found = programs.outputs(PROGRAM, options, [data for _, data in cases])
-        for number, (name, data) in enumerate(cases):
-            wanted, _, _ = drawn(data, options, programs.path_of(number))
-            tell(f"{name} {options}: {found[number]!r}", found[number] == wanted)
+        for number, ((name, data), shown) in enumerate(zip(cases, found)):
+            wanted = drawn(data, options, programs.path_of(number), **part)[0]
+            tell(f"{name} {options}: {shown!r}", shown == wanted)
 
 
 def test_drawn(tell):
@@ -91,32 +93,29 @@ JSON = {
 }
 
 
-def test_advice(tell):
+def test_advice(tell, tmp_path):
     """What is said of files that people have in place of a key: each command makes the key of that
     very file, if OpenSSL reads it, and where none is printed, `openssl ec` makes none."""
-    commands = (words.EC % ("-inform DER ", ""), words.EC % ("", ""))
-    with tempfile.TemporaryDirectory() as folder:
-        room = advice.Room(folder)
-        tell("the tools make the files", room.make() is None)
-        cases = list(room.cases())
-        for name, data, said in cases:
-            shown, _, status = run([], data)
-            lines = shown.splitlines()
-            if name in HEADINGS:
-                tell(f"the heading of {name}", lines[0] == HEADINGS[name])
-            command = lines.pop()[2:] if said[-1].endswith(":") else None
-            tell(f"what is said of {name}", lines[-len(said) :] == said)
-            tell(f"the status of {name}", status == int(advice.KEY not in lines))
-            if command is None:
-                makes = [room.makes_key(command, name, data) for command in commands]
-                tell(f"no command makes a key of {name}", any(makes) == (name in advice.UNSAID))
-            elif shutil.which(command.split()[0]) and not command.startswith("xxd"):
-                done = room.makes_key(command, name, data)
-                tell(f"the command for {name}", done == (name not in advice.UNREAD))
-        compare(tell, ((name, data) for name, data, _ in cases))
-        for name, data, _ in cases:
-            if name in ASN1:
-                tell(f"{name}: the rows of OpenSSL", are_openssl(data))
+    room = advice.Room(tmp_path)
+    tell("the tools make the files", room.make() is None)
+    cases = list(room.cases())
+    for name, data, said in cases:
+        shown, _, status = run([], data)
+        lines = shown.splitlines()
+        if name in HEADINGS:
+            tell(f"the heading of {name}", lines[0] == HEADINGS[name])
+        command = lines.pop()[2:] if said[-1].endswith(":") else None
+        tell(f"what is said of {name}", lines[-len(said) :] == said)
+        tell(f"the status of {name}", status == int(advice.KEY not in lines))
+        if command is None:
+            makes = [room.makes_key(words.EC % (form, ""), name, data) for form in FORMS]
+            tell(f"no command makes a key of {name}", any(makes) == (name in advice.UNSAID))
+        elif shutil.which(command.split()[0]) and not command.startswith("xxd"):
+            done = room.makes_key(command, name, data)
+            tell(f"the command for {name}", done == (name not in advice.UNREAD))
+        if name in ASN1:
+            tell(f"{name}: the rows of OpenSSL", are_openssl(data))
+    compare(tell, ((name, data) for name, data, _ in cases))
 
 
 def are_openssl(data):
@@ -124,6 +123,8 @@ def are_openssl(data):
     return rows.are_openssl(rows.of(PROGRAM, data, True)[0], data)
 
 
+# How the commands of OpenSSL are told that a file is DER, or PEM.
+FORMS = ("-inform DER ", "")
 HEADINGS = {
     "ec.pem": "PEM at line 1, EC PRIVATE KEY: 121 bytes",
     "bag.pem": "PEM at line 3, EC PRIVATE KEY: 121 bytes",
@@ -131,29 +132,11 @@ HEADINGS = {
     "openssh": "PEM at line 1, OPENSSH PRIVATE KEY: no DER, not drawn",
 }
 # The files in DER that are drawn whole.
-ASN1 = (
-    "key.der",
-    "pkcs8.der",
-    "encrypted.der",
-    "ed25519.der",
-    "public.der",
-    "x509.der",
-    "request.der",
-    "cms.der",
-    "rsa.der",
-    "signature.der",
-    "explicit.der",
-    "curve.der",
-    "key.p12",
-    "dsa8.der",
-    "dh.der",
-    "curve_by.der",
-    "query.tsq",
-    "request.ocsp",
-    "chain.p7b",
-    "rsa_public.der",
-    "explicit8.der",
-)
+ASN1 = """
+    key.der pkcs8.der encrypted.der ed25519.der public.der x509.der request.der cms.der rsa.der
+    signature.der explicit.der curve.der key.p12 dsa8.der dh.der curve_by.der query.tsq
+    request.ocsp chain.p7b rsa_public.der explicit8.der
+""".split()
 
 
 def test_readme(tell):
@@ -171,105 +154,75 @@ def test_readme(tell):
 
 
 def pkcs8():
-    """The key in PKCS #8, as OpenSSL writes it: its curve is that of the container."""
-    algorithm = element(6, bytes.fromhex("2A8648CE3D0201")) + KEY[41:51]
-    key = element(0x30, KEY[2:39] + KEY[51:])
-    return element(0x30, element(2, b"\0") + element(0x30, algorithm) + element(4, key))
+    """Returns the key in PKCS #8, as OpenSSL writes it: its curve is that of the container."""
+    algorithm = shapes.algorithm_of("1.2.840.10045.2.1", KEY[41:51])
+    return sequence(shapes.ZERO, algorithm, element(4, sequence(KEY[2:39], KEY[51:])))
 
 
 def test_commands(tell):
     """Each command that is printed stands in docs/REFUSED.md, whose commands are run, or makes DER of
     the parts of a text."""
     page = (TOP / "docs/REFUSED.md").read_text()
-    commands = {
-        words.EC % (form, names)
-        for form in ("", "-inform DER ")
-        for names in ("", words.EXPLICIT)
-        if form or not names
-    }
-    commands |= {
+    for command in (
+        *(words.EC % (form, "") for form in FORMS),
+        words.EC % ("-inform DER ", words.EXPLICIT),
         words.PKCS12 % "",
         "ssh-keygen -p -m PEM -f COPY",
         "puttygen FILE -O private-openssh -o key.pem",
         words.LEGACY.strip(),
-    }
-    for command in sorted(commands):
+    ):
         tell(f"docs/REFUSED.md has `{command}`", f"`{command}`" in page)
 
 
 def test_words(tell):
     """What is said of each form that is whole stands in docs/FORMATS.md: what it is, and its end."""
     page = (TOP / "docs/FORMATS.md").read_text()
+    front = r"This is PKCS #8 \(RFC 5958\) |These are (?:two )?INTEGERs, as of |This is "
     for form in table.ALL:
         content = shapes.example(form.structure, form.structure != "ECPrivateKey", 1)
-        data = content if form.structure == "oid" else element(0x30, content)
+        data = content if form.structure == "oid" else sequence(content)
         said = next(line for line in run([], data)[0].splitlines() if line.startswith("Th"))
-        parts = re.sub("key: [^ ]*[.] It", "key: Ed25519. It", said)
-        for front in (
-            "This is PKCS #8 (RFC 5958) ",
-            "These are two INTEGERs, as of ",
-            "These are INTEGERs, as of ",
-            "This is ",
-        ):
-            parts = parts.removeprefix(front)
-        for end in (", no EC key.", ": it has no private key."):
-            parts = parts.removesuffix(end)
+        part = re.sub("key: [^ ]*[.] It", "key: Ed25519. It", re.sub(f"^(?:{front})", "", said))
+        part = part.removesuffix(", no EC key.").removesuffix(": it has no private key.")
         is_like = form.structure in ("DHParameter", "Dss-Parms", "DomainParameters")
-        tell(f"docs/FORMATS.md has {said}", is_like or parts in page)
+        tell(f"docs/FORMATS.md has {said}", is_like or part in page)
 
 
-def test_arguments(tell):
+def test_arguments(tell, tmp_path):
     """Files, standard input and options; what couldn't be read, with the system's reason."""
-    with tempfile.TemporaryDirectory() as room:
-        for name, data in (("key", KEY), ("other", b"\5\0"), ("-", b"\5\0"), ('a"\u00E4\n', KEY)):
-            pathlib.Path(room, name).write_bytes(data)
-        key, other, odd = drawn(KEY)[0], drawn(b"\5\0")[0], escaped('a"\u00E4\n')
-        for asked, given, wanted in (
-            (["key"], b"", (key, "", 0)),
-            (["other"], b"", (other, "", 1)),
-            ([], KEY, (key, "", 0)),
-            (["-"], KEY, (key, "", 0)),
-            (["./-"], KEY, (other, "", 1)),
-            (["key", "key"], b"", (f"key:\n{key}key:\n{key}", "", 0)),
-            (["other", "key"], b"", (f"other:\n{other}key:\n{key}", "", 1)),
-            (["-", "other"], KEY, (f"-:\n{key}other:\n{other}", "", 1)),
-            (['a"\u00E4\n'], b"", (key, "", 0)),
-            (['a"\u00E4\n', "key"], b"", (f"{odd}:\n{key}key:\n{key}", "", 0)),
-            (
-                ["none", "key"],
-                b"",
-                (f"key:\n{key}", "sec1_dump: none: No such file or directory (os error 2)\n", 2),
-            ),
-            (
-                ["key", "a\nb"],
-                b"",
-                (
-                    f"key:\n{key}",
-                    "sec1_dump: a\\u{A}b: No such file or directory (os error 2)\n",
-                    2,
-                ),
-            ),
-            (["."], b"", ("", "sec1_dump: .: Is a directory (os error 21)\n", 2)),
-            (["key/"], b"", ("", "sec1_dump: key/: Not a directory (os error 20)\n", 2)),
-            ([b"\xFF", "key"], b"", ("", "sec1_dump: the arguments can't be read\n", 2)),
-            (["key", "--json"], b"", drawn(KEY, ["--json"], "key")),
-            (["--", "key"], b"", (key, "", 0)),
-            (["--all", "key", "--all"], b"", drawn(KEY, ["--all"])),
-            (["--depth", "1", "--depth=0", "key"], b"", drawn(KEY, depth=0)),
-        ):
-            found = run(asked, given, cwd=room)
-            tell(f"{asked}: {found[1:]}", found == wanted)
-        lines = run(["--json", 'a"\u00E4\n', "-"], KEY, cwd=room)[0].splitlines()
-        files = [json.loads(line).get("file") for line in lines if '"form"' in line]
-        tell("the names of files in JSON", files == ['a"\u00E4\n', "-"])
-        lines = run(["--json", "./key", "../" + pathlib.Path(room).name + "/key"], cwd=room)[
-            0
-        ].splitlines()
-        files = [json.loads(line).get("file") for line in lines if '"form"' in line]
-        tell(
-            "the paths of files in JSON",
-            files == ["./key", "../" + pathlib.Path(room).name + "/key"],
-        )
+    name = 'a"\u00E4\n'
+    for file, data in (("key", KEY), ("other", b"\5\0"), ("-", b"\5\0"), (name, KEY)):
+        (tmp_path / file).write_bytes(data)
+    key, other, none = drawn(KEY)[0], drawn(b"\5\0")[0], "No such file or directory (os error 2)"
+    key_below, other_below = f"key:\n{key}", f"other:\n{other}"
+    for asked, given, shown, said, status in (
+        (["key"], b"", key, "", 0),
+        (["other"], b"", other, "", 1),
+        ([], KEY, key, "", 0),
+        (["-"], KEY, key, "", 0),
+        (["./-"], KEY, other, "", 1),
+        (["key", "key"], b"", key_below * 2, "", 0),
+        (["other", "key"], b"", other_below + key_below, "", 1),
+        (["-", "other"], KEY, f"-:\n{key}{other_below}", "", 1),
+        ([name], b"", key, "", 0),
+        ([name, "key"], b"", f"{escaped(name)}:\n{key}{key_below}", "", 0),
+        (["none", "key"], b"", key_below, f"none: {none}", 2),
+        (["key", "a\nb"], b"", key_below, f"a\\u{{A}}b: {none}", 2),
+        (["."], b"", "", ".: Is a directory (os error 21)", 2),
+        (["key/"], b"", "", "key/: Not a directory (os error 20)", 2),
+        ([b"\xFF", "key"], b"", "", "the arguments can't be read", 2),
+        (["key", "--json"], b"", *drawn(KEY, ["--json"], "key")),
+        (["--", "key"], b"", key, "", 0),
+        (["--all", "key", "--all"], b"", *drawn(KEY, ["--all"])),
+        (["--depth", "1", "--depth=0", "key"], b"", *drawn(KEY, depth=0)),
+    ):
+        found = run(asked, given, cwd=tmp_path)
+        said = said and f"sec1_dump: {said}\n"
+        tell(f"{asked}: {found[1:]}", found == (shown, said, status))
+    for files in ([name, "-"], ["./key", f"../{tmp_path.name}/key"]):
+        lines = run(["--json", *files], KEY, cwd=tmp_path)[0].splitlines()
+        named = [json.loads(line).get("file") for line in lines if '"form"' in line]
+        tell(f"the names of files in JSON: {named}", named == files)
     version = re.search(r"^## .*?(\d+\.\d+\.\d+)", (TOP / "CHANGELOG.md").read_text(), re.M)
     tell("the CHANGELOG's version", run(["--version"]) == (f"sec1_dump {version[1]}\n", "", 0))
 
@@ -277,6 +230,7 @@ def test_arguments(tell):
 def test_wrong_arguments(tell):
     """Of wrong arguments standard error names the option or the value that is wrong, and nothing is
     drawn."""
+    numbers = ("", "x", "1x", "-1", "0x10", " 1", "1.5", "16777216", "18446744073709551616")
     for asked, named in (
         (["--other"], "--other"),
         (["--all=1"], "--all"),
@@ -285,39 +239,20 @@ def test_wrong_arguments(tell):
         (["-", "--dept", "1"], "--dept"),
         (["--depth"], "--depth"),
         (["--offset"], "--offset"),
-        *(
-            ([f"--{option}={number}"], f"--{option}")
-            for option in ("depth", "offset")
-            for number in (
-                "",
-                "x",
-                "1x",
-                "-1",
-                "0x10",
-                " 1",
-                "1.5",
-                "16777216",
-                "18446744073709551616",
-            )
-        ),
+        *(([f"--depth={number}"], "--depth") for number in numbers),
+        *(([f"--offset={number}"], "--offset") for number in numbers),
         (["--depth", "-1"], "-1"),
         (["--offset", "-1"], "-1"),
     ):
         shown, said, status = run(asked, KEY)
-        tell(
-            f"{asked}: {said!r}, {status}",
-            (shown, status) == ("", 2)
-            and said.startswith("error: ")
-            and named in said.split("\n")[0],
-        )
+        is_named = said.startswith("error: ") and named in said.split("\n")[0]
+        tell(f"{asked}: {said!r}, {status}", (shown, status) == ("", 2) and is_named)
 
 
 def test_parts(tell):
     """One element of an input alone, and the rows that few elements are around."""
-    der, pem = KEY + b"\5\0", b"-----BEGIN KEY-----\n%b\n-----END KEY-----\n" % base64.b64encode(
-        KEY
-    )
-    bits = element(3, b"\0" + element(0x30, element(2, b"\5")))
+    der = KEY + b"\5\0"
+    pem = b"-----BEGIN KEY-----\n%b\n-----END KEY-----\n" % base64.b64encode(KEY)
     inputs = {
         "a key and more": der,
         "a key in PEM": pem,
@@ -326,7 +261,7 @@ def test_parts(tell):
         "PKCS #8": pkcs8(),
         "a key that is cut": KEY[:60],
         "an indefinite length": b"\x30\x80" + KEY[2:] + b"\0\0",
-        "a BIT STRING of elements": bits,
+        "a BIT STRING of elements": element(3, b"\0", sequence(element(2, b"\5"))),
         "no element": b"\xC3" * 40,
         "a text": b"hello",
         "no byte": b"",
@@ -353,17 +288,10 @@ def test_parts(tell):
     for depth, wanted in ((0, [0]), (1, [0, 2, 5, 39, 51]), (2, [0, 2, 5, 39, 41, 51, 53])):
         lines = run(["--depth", str(depth)], KEY)[0].splitlines()
         tell(f"the rows of --depth {depth}", [int(line[:4]) for line in lines[:-1]] == wanted)
-    for offset in (0, 1, 2, 5, 7, 27, 29, 41, 53, 60, 121):
-        for depth in (None, 0, 1, 2, 64):
-            for options in OPTIONS:
-                asked = [*options, "--offset", str(offset)] + (
-                    [] if depth is None else ["--depth", str(depth)]
-                )
-                found = programs.outputs(PROGRAM, asked, inputs.values())
-                for number, (name, data) in enumerate(inputs.items()):
-                    path = programs.path_of(number)
-                    wanted = drawn(data, options, path, offset=offset, depth=depth)[0]
-                    tell(f"{name} {asked}", found[number] == wanted)
+    offsets, depths = (0, 1, 2, 5, 7, 27, 29, 41, 53, 60, 121), (None, 0, 1, 2, 64)
+    for offset, depth in itertools.product(offsets, depths):
+        asked = ["--offset", str(offset), *([] if depth is None else ["--depth", str(depth)])]
+        compare(tell, inputs.items(), *asked, offset=offset, depth=depth)
 
 
 def test_help(tell):
@@ -386,103 +314,78 @@ def test_help(tell):
 
 
 def test_full(tell):
-    """A device that is full, and a file and a pipe that nobody can write to."""
+    """A device that is full, and standard input that is closed."""
+    said = b"sec1_dump: standard output: No space left on device (os error 28)\n"
     for asked in (["-"], ["--json", "-"], ["--help"], ["--version"], ["-", "-"]):
         with open("/dev/full", "wb") as full:
-            ended = subprocess.run(
-                [PROGRAM, *asked], input=KEY, stdout=full, stderr=subprocess.PIPE
-            )
-        said = b"sec1_dump: standard output: No space left on device (os error 28)\n"
+            command = [PROGRAM, *asked]
+            ended = subprocess.run(command, input=KEY, stdout=full, stderr=subprocess.PIPE)
         tell(f"a full device {asked}", (ended.returncode, ended.stderr) == (2, said))
     closed = subprocess.run(["sh", "-c", '"$0" <&-', PROGRAM], capture_output=True)
     said = b"sec1_dump: standard input: Bad file descriptor (os error 9)\n"
-    tell(
-        f"closed input: {closed.stderr}",
-        (closed.returncode, closed.stdout, closed.stderr)
-        in ((2, b"", said), (1, drawn(b"")[0].encode(), b"")),
-    )
+    found = (closed.stdout, closed.stderr, closed.returncode)
+    is_right = found in ((b"", said, 2), (drawn(b"")[0].encode(), b"", 1))
+    tell(f"closed input: {closed.stderr}", is_right)
 
 
-def test_limit(tell):
+def test_limit(tell, tmp_path):
     """The greatest input, and one byte more."""
-    with tempfile.TemporaryDirectory() as room:
-        file = pathlib.Path(room, "file")
-        file.write_bytes(element(4, bytes(LIMIT - 5)))
-        shown = f"   0 04 83 FF FF FA 16777210  OCTET STRING, 16777210 bytes\n{advice.NO_KEY}.\n"
-        tell("the greatest input", run([file]) == (shown, "", 1))
-        with file.open("ab") as more:
-            more.write(b"\0")
-        said = f"sec1_dump: {file}: more than 16,777,215 bytes\n"
-        tell("an input of a byte more", run([file]) == ("", said, 2))
+    file = tmp_path / "file"
+    file.write_bytes(element(4, bytes(LIMIT - 5)))
+    shown = f"   0 04 83 FF FF FA 16777210  OCTET STRING, 16777210 bytes\n{words.NO_KEY}.\n"
+    tell("the greatest input", run([file]) == (shown, "", 1))
+    with file.open("ab") as more:
+        more.write(b"\0")
+    said = f"sec1_dump: {file}: more than 16,777,215 bytes\n"
+    tell("an input of a byte more", run([file]) == ("", said, 2))
 
 
-def test_requests(tell):
+def test_requests(tell, refuse, tmp_path):
     """Each request for memory refused in turn: all of the picture is printed, or a beginning of it."""
-    with tempfile.TemporaryDirectory() as room:
-        library, count = f"{room}/refuse.so", pathlib.Path(room, "count")
-        build = ["cc", "-O1", "-shared", "-fPIC", "-o", library, TOP / "tests/refuse.c", "-ldl"]
-        built = subprocess.run(build, capture_output=True).returncode == 0
-        tell("an allocator that refuses", built)
-        if not built:
-            return
+    count = tmp_path / "count"
+    reason = r"(standard input: |the arguments )?(out of memory|can't be read)"
 
-        def refusing(number, asked, given):
-            """Runs the program with the request of this number refused: how it ended, the number
-            of requests, and whether one was refused."""
-            wanted = {"LD_PRELOAD": library, "REFUSE_COUNT": str(count), "REFUSE": str(number)}
-            ended = run(asked, given, env=wanted)
-            requests, refused = count.read_text().split()
-            return ended, int(requests), refused == "1"
+    def refusing(number, asked, given):
+        """Runs the program with the request of this number refused: how it ended, the number of
+        requests, and whether one was refused."""
+        wanted = {"LD_PRELOAD": refuse, "REFUSE_COUNT": count, "REFUSE": str(number)}
+        ended = run(asked, given, env=wanted)
+        requests, refused = count.read_text().split()
+        return ended, int(requests), refused == "1"
 
-        for given in (KEY, KEY.hex().encode(), b'\x30\7\x0C\5\xC3\xA4"\\a'):
-            for asked in ([], ["--json"]):
-                whole, requests, _ = refusing(1_000_000, asked, given)
-                tell("what is printed where none is refused", whole == drawn(given, asked))
-                tell("requests for memory are seen", 4 < requests < 500)
-                for number in range(1, requests + 1):
-                    ended, _, is_refused = refusing(number, asked, given)
-                    out = (
-                        whole[0].startswith(ended[0])
-                        and ended[2] == 2
-                        and re.fullmatch(
-                            r"sec1_dump: (standard input: |the arguments )?(out of memory|can't be read)\n",
-                            ended[1],
-                        )
-                    )
-                    tell(
-                        f"request {number} of {requests}: {ended[1:]}",
-                        is_refused and (ended == whole or bool(out)),
-                    )
+    for given in (KEY, KEY.hex().encode(), b'\x30\7\x0C\5\xC3\xA4"\\a'):
+        for asked in ([], ["--json"]):
+            whole, requests, _ = refusing(1_000_000, asked, given)
+            tell("what is printed where none is refused", whole == drawn(given, asked))
+            tell("requests for memory are seen", 4 < requests < 500)
+            for number in range(1, requests + 1):
+                ended, _, is_refused = refusing(number, asked, given)
+                shown, said, status = ended
+                is_front = whole[0].startswith(shown) and status == 2
+                is_front = is_front and re.fullmatch(f"sec1_dump: {reason}\n", said)
+                is_right = is_refused and (ended == whole or is_front)
+                tell(f"request {number} of {requests}: {said}, {status}", is_right)
 
 
-def keys(text):
-    """The names and the bytes of stored keys."""
-    name = ""
-    for line in text.splitlines():
-        if line.startswith("#"):
-            name = line[2:]
-        else:
-            yield name, bytes.fromhex(line)
+def keys(lines):
+    """Returns the digits and the bytes of stored keys."""
+    return [(it, bytes.fromhex(it)) for it in lines.splitlines() if not it.startswith("#")]
 
 
 def test_keys(tell):
     """The stored keys, damaged copies of them, and keys that differ in the private key alone."""
     stored = (TOP / "tests/keys/openssl.txt").read_text()
-    compare(tell, keys(stored))
     damage = [sys.executable, TOP / "tests/keys/damage.py"]
     copies = subprocess.run(damage, input=stored, capture_output=True, text=True, check=True)
-    compare(tell, ((f"damaged: {name}", data) for name, data in keys(copies.stdout)))
-    for name, data in list(keys(stored))[::8]:
+    compare(tell, keys(stored) + keys(copies.stdout))
+    for name, data in keys(stored)[::8]:
         tell(f"{name}: the rows of OpenSSL", are_openssl(data))
     for count in (0, 1, 28, 32, 66, 200):
-        fields = [element(2, b"\1"), element(4, b"\5" * count), element(4, b"\xFA" * count)]
-        one, other = (element(0x30, fields[0] + field) for field in fields[1:])
+        one, other = (sequence(shapes.ONE, element(4, it * count)) for it in (b"\5", b"\xFA"))
         for asked in ([], ["--json"]):
             tell(f"{count} bytes that are hidden", run(asked, one) == run(asked, other))
-            shown = [*asked, "--all"]
-            tell(
-                f"{count} bytes that are shown", count == 0 or run(shown, one) != run(shown, other)
-            )
+            is_same = run([*asked, "--all"], one) == run([*asked, "--all"], other)
+            tell(f"{count} bytes that are shown", is_same == (count == 0))
 
 
 def test_structures(tell):
@@ -500,28 +403,20 @@ def test_shapes(tell):
     """Each shape, by the second reader."""
     compare(tell, shapes.every())
     for levels in (1, 63, 64, 65, 70):
-        shown = run([], shapes.nested(levels))[0]
-        tell(
-            f"{levels} levels have a row each, up to 64",
-            shown.count("SEQUENCE") == (levels if levels < 65 else 0),
-        )
-    check_masks(tell, [data for _, data in shapes.every() if not text.is_text(data)])
-    tell(
-        "no line but the last is too long",
-        all(
-            len(line) <= 100
-            for _, data in shapes.shapes()
-            for line in run([], data)[0].splitlines()
-        ),
-    )
+        count = run([], shapes.nested(levels))[0].count("SEQUENCE")
+        tell(f"{count} rows of {levels} levels", count == (levels if levels <= 64 else 0))
+    lines = (line for data in shapes.shapes() for line in run([], data)[0].splitlines())
+    tell("no line but the last is too long", all(len(line) <= 100 for line in lines))
 
 
-def check_masks(tell, inputs):
+def test_masks(tell):
     """The picture of DER doesn't depend on what isn't shown, but where a known file is named."""
     inputs = [
         data
-        for data in inputs
-        if text.parts(data)[0].form == "der" and not any(begins(data) for _, begins in words.KNOWN)
+        for _, data in shapes.every()
+        if not text.is_text(data)
+        and text.parts(data)[0].form == "der"
+        and not any(begins(data) for _, begins in words.KNOWN)
     ]
     masks = [guard.mask_of(data) for data in inputs]
     both = (programs.outputs(PROGRAM, [], given) for given in (inputs, masks))
@@ -529,22 +424,22 @@ def check_masks(tell, inputs):
         tell(f"the mask of {data.hex()}", one is not None and one == other)
 
 
-def test_large(tell):
+def test_large(tell, tmp_path):
     """A megabyte of elements: the rows, and the memory that they take above that for a small key."""
-    numbers = element(0x30, b"\2\1\5" * 349_000)
-    empty = element(0x30, b"\x30\0" * 524_000)
-    tell(
-        "a NULL, and as many behind it",
-        run([], b"\5\0" * 524_288)[0].splitlines()
-        == [
-            "   0             1048576  1048576 bytes not drawn",
-            "These are 1048576 bytes: no DER.",
-        ],
-    )
-    least = {True: peak(["--json"], KEY), False: peak([], KEY)}
-    for name, data, count in (("INTEGERs", numbers, 349_000), ("empty SEQUENCEs", empty, 524_000)):
+    nulls = run([], b"\5\0" * 524_288)[0].splitlines()
+    undrawn = "   0             1048576  1048576 bytes not drawn"
+    tell("NULLs side by side", nulls == [undrawn, "These are 1048576 bytes: no DER."])
+    small, large = tmp_path / "small", tmp_path / "large"
+    small.write_bytes(KEY)
+    least = {True: peak(["--json"], small), False: peak([], small)}
+    for name, inside, count in (
+        ("INTEGERs", b"\2\1\5", 349_000),
+        ("empty SEQUENCEs", b"\x30\0", 524_000),
+    ):
+        data = sequence(inside * count)
+        large.write_bytes(data)
         for asked in (["--all"], ["--all", "--json"], [], ["--json"]):
-            more = peak(asked, data) - least["--json" in asked]
+            more = peak(asked, large) - least["--json" in asked]
             most = len(data) * (1 if "--json" in asked else 2) + MEGABYTE
             tell(f"{name} {asked}: {more} bytes of memory, of {most}", more <= most)
         drawn_rows, _ = rows.of(PROGRAM, data, True)
@@ -552,30 +447,24 @@ def test_large(tell):
         tell(f"{name}: the rows are the input", rows.cover(drawn_rows, len(data)))
 
 
-def peak(asked, data):
-    """The memory in bytes that the program has had at most when it has drawn a file, and waits for
-    standard input."""
-    with tempfile.NamedTemporaryFile() as file:
-        file.write(data)
-        file.flush()
-        command = [PROGRAM, *asked, file.name, "-"]
-        with subprocess.Popen(command, stdin=subprocess.PIPE, stdout=subprocess.DEVNULL) as ran:
-            before = None
-            while ran.poll() is None:
-                # its state, and the time that it has taken
-                state, *others = (
-                    pathlib.Path(f"/proc/{ran.pid}/stat").read_text().rsplit(")", 1)[1].split()
-                )
-                now = (state, others[10], others[11])
-                if now == before and state == "S":
-                    break
-                before = now
-                time.sleep(0.1)
-            found = re.search(
-                r"VmHWM:\s+(\d+) kB", pathlib.Path(f"/proc/{ran.pid}/status").read_text()
-            )
-            ran.communicate(KEY)
-        return int(found[1]) * 1024
+def peak(asked, file):
+    """Returns the memory in bytes that the program has had at most when it has drawn a file, and
+    waits for standard input."""
+    command = [PROGRAM, *asked, file, "-"]
+    with subprocess.Popen(command, stdin=subprocess.PIPE, stdout=subprocess.DEVNULL) as ran:
+        of_process = pathlib.Path(f"/proc/{ran.pid}")
+        before = None
+        while ran.poll() is None:
+            # its state, and the time that it has taken
+            state, *others = (of_process / "stat").read_text().rsplit(")", 1)[1].split()
+            now = (state, others[10], others[11])
+            if now == before and state == "S":
+                break
+            before = now
+            time.sleep(0.1)
+        found = re.search(r"VmHWM:\s+(\d+) kB", (of_process / "status").read_text())
+        ran.communicate(KEY)
+    return int(found[1]) * 1024
 
 
 def test_rows(tell):
