@@ -12,7 +12,8 @@ class Row:
 
     def __init__(self, at, depth, stop, head=None, kind=None, expected=None):
         self.at, self.depth, self.stop, self.head, self.kind = at, depth, stop, head, kind
-        self.start = head.start if head else at
+        # an end-of-contents is a header alone
+        self.start = head.start if head else at if kind == "not drawn" else stop
         # the bytes that the header has beyond the end of the row
         self.missing = head.start + head.length - stop if head and head.length is not None else 0
         # the fields that could stand here, where none of them does
@@ -207,6 +208,6 @@ def mask_of(data):
     mask = bytearray(data)
     for row in rows_of(data, Plan(data)):
         start, filler = row.start + row.shown, b"\xFF" if row.kind == "not drawn" else b"\0"
-        if not row.opened and row.kind != "end-of-contents":
+        if not row.opened:
             mask[start:row.stop] = filler * (row.stop - start)
     return bytes(mask)

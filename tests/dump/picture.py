@@ -63,24 +63,19 @@ def expected_of(fields):
         found.append(f"{field.name}, {kind}" if field.name else kind)
         if field.is_needed:
             return ", or ".join(found)
-    return ", or ".join([*found, "the end"]) if found else "the end"
+    return ", or ".join([*found, "the end"])
 
 
 def own_content(picture, row):
     """Returns the bytes of a content that have no other row."""
-    return b"" if row.opened or row.kind == "end-of-contents" else picture.data[row.start:row.stop]
+    return b"" if row.opened else picture.data[row.start:row.stop]
 
 
 def lines_of(picture, row):
     """Returns the lines of a row."""
-    label = row.label
-    if row.kind == "end-of-contents":
-        header, count = b"\0\0", "0"
-    else:
-        header = picture.data[row.at:row.start]
-        count = str(row.stop - row.at) if row.head is None else (
-            "?" if row.head.length is None else str(row.head.length))
-    head = "".join(f" {byte:02X}" for byte in header)
+    label, header = row.label, picture.data[row.at:row.start]
+    length = row.head.length if row.head else row.stop - row.start
+    head, count = "".join(f" {byte:02X}" for byte in header), "?" if length is None else str(length)
     front = f"{row.at:>4}{head}{' ' * max(1, 20 - len(head) - len(count))}{count}  "
     told = "  " * min(row.depth, 16) + (f"{row.depth}: " if row.depth > 16 else "") + label.text
     name = row.name and row.name + ", not shown" * row.secret
@@ -98,12 +93,12 @@ def lines_of(picture, row):
 
 def object_of(picture, row):
     """Returns the members of a row; None is one that doesn't apply."""
-    label, head, is_end = row.label, row.head, row.kind == "end-of-contents"
+    label, head = row.label, row.head
     content = own_content(picture, row) if picture.everything else b""
     members = {
         "depth": row.depth, "offset": row.at, "type": label.type, "name": row.name,
-        "header_len": 2 if is_end else row.start - row.at, "oid": label.oid,
-        "len": 0 if is_end else row.stop - row.start, "value": label.note or label.value,
+        "header_len": row.start - row.at, "oid": label.oid, "value": label.note or label.value,
+        "len": None if head and head.length is None else row.stop - row.start,
         "faults": [{"kind": kind, "words": said} for kind, said in row.marks] or None,
         "secret": row.secret or None, "content": content.hex().upper() or None}
     if head:
@@ -111,8 +106,6 @@ def object_of(picture, row):
                     "constructed": head.constructed,
                     "opened": row.opened and not head.constructed or None,
                     "announced": head.length if row.missing else None}
-        if head.length is None:
-            del members["len"]
     return members
 
 

@@ -146,8 +146,7 @@ class Label:
             return
         self.content = data[row.start:row.start + row.shown]
         is_bits = head.is_type(3)
-        # of an indefinite length, what is there
-        self.length = row.stop - row.start if head.length is None else head.length
+        self.length = head.length
         self.text = f"{self.type}, {count_of(max(0, self.length - is_bits))}"
         # of a point the form says more than its bits
         self.is_point = bool(row.field) and row.field.kind == "point"

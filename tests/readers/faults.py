@@ -431,7 +431,7 @@ FAULTS = {"tests/keys/reader.py": [
     ("a private field that is shown", "row.secret = is_hidden[[ and not everything~>]]"),
     ("an opened string isn't said", '"opened": [[row.opened and not head.constructed or ~>]]None'),
     ("private bytes of JSON", 'own_content(picture, row)[[ if picture.everything else b""~>]]'),
-    ("the length of an indefinite one", 'del members["len"]', "pass"),
+    ("the length of an indefinite one", '"len": [[None if head and head.length is None else ~>]]row.'),
     ("the note of a point isn't its value", "label.note or label.value", "label.value"),
     ("the mark of another row", "next((row.at for row in told.picture.rows if row.marks)",
      "next((row.at for row in picture.rows[::-1] if row.marks)"),
