@@ -114,13 +114,8 @@ def test_advice(tell, tmp_path):
             done = room.makes_key(command, name, data)
             tell(f"the command for {name}", done == (name not in advice.UNREAD))
         if name in ASN1:
-            tell(f"{name}: the rows of OpenSSL", are_openssl(data))
+            tell(f"{name}: the rows of OpenSSL", rows.are_openssl(PROGRAM, data))
     compare(tell, ((name, data) for name, data, _ in cases))
-
-
-def are_openssl(data):
-    """Returns whether the rows of DER are OpenSSL's: with --all each header is one."""
-    return rows.are_openssl(rows.of(PROGRAM, data, True)[0], data)
 
 
 # How the commands of OpenSSL are told that a file is DER, or PEM.
@@ -379,7 +374,7 @@ def test_keys(tell):
     copies = subprocess.run(damage, input=stored, capture_output=True, text=True, check=True)
     compare(tell, keys(stored) + keys(copies.stdout))
     for name, data in keys(stored)[::8]:
-        tell(f"{name}: the rows of OpenSSL", are_openssl(data))
+        tell(f"{name}: the rows of OpenSSL", rows.are_openssl(PROGRAM, data))
     for count in (0, 1, 28, 32, 66, 200):
         one, other = (sequence(shapes.ONE, element(4, it * count)) for it in (b"\5", b"\xFA"))
         for asked in ([], ["--json"]):
@@ -395,7 +390,7 @@ def test_structures(tell):
         name, digits = line.split()
         data = bytes.fromhex(digits)
         cases += [(name, data), (f"{name}, cut off", data[: len(data) // 2])]
-        tell(f"{name}: the rows of OpenSSL", are_openssl(data))
+        tell(f"{name}: the rows of OpenSSL", rows.are_openssl(PROGRAM, data))
     compare(tell, cases)
 
 

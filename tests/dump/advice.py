@@ -120,14 +120,16 @@ class Room:
         lines, joined = text.splitlines(True), b"".join(text.split(b"\n")[1:-2])
         explicit, label = self.read("explicit.der"), "EC PRIVATE KEY"
         yield [KEY], {
-            "key.der": key, "cr.pem": text.replace(b"\n", b"\r"), "no_end.pem": b"".join(lines[:-1]),
+            "key.der": key, "no_end.pem": b"".join(lines[:-1]),
+            "cr.pem": text.replace(b"\n", b"\r"),
             "header.pem": lines[0] + b"Comment: me\n\n" + b"".join(lines[1:]),
             "label.pem": pem("KEY", key), "rsa_and_key.pem": self.read("rsa.pem") + text,
             "key.hex": key.hex(), "key.b64": base64.b64encode(key)}
         yield [KEY, WRITES], {
             "ec.pem": text, "bag.pem": b"Bag Attributes\n    friendlyName: me\n" + text,
             "mark.pem": b"\xEF\xBB\xBF" + text, "crlf.pem": text.replace(b"\n", b"\r\n"),
-            "blanks.pem": text.replace(b"\n", b" \t\n"), "two_lines.pem": text.replace(b"\n", b"\n\n"),
+            "blanks.pem": text.replace(b"\n", b" \t\n"),
+            "two_lines.pem": text.replace(b"\n", b"\n\n"),
             "one_line.pem": lines[0] + joined + b"\n" + lines[-1],
             "curve_and_key.pem": pem("EC PARAMETERS", key[41:51]) + text,
             "certificate_and_key.pem": self.read("x509.pem") + text,

@@ -45,8 +45,8 @@ def sequence(*contents):
 
 
 def ec_key(source, private, is_inside=False):
-    """Returns an ECPrivateKey of RFC 5915: with its curve and its point, or without one or both; one
-    inside of PKCS #8 has no curve."""
+    """Returns an ECPrivateKey of RFC 5915: with its curve and its point, or without one or both;
+    inside of PKCS #8 without its curve."""
     form = source.randrange(4)
     fields = [element(2, b"\1"), element(4, private)]
     if form & 1 and not is_inside:
@@ -177,7 +177,7 @@ def damaged(source, one, other, hidden):
 
 
 def changed(source, byte):
-    """Returns a byte that is put in the place of another: any, one of headers, or with another bit."""
+    """Returns what is put in the place of a byte: any, one of headers, or it with another bit."""
     other = source.randrange(256)
     if source.randrange(2):
         return source.choice(HEADS)

@@ -17,7 +17,7 @@ def of(program, data, everything=False):
     """Returns the rows of an input in DER, and the number of its bytes; none of a text."""
     asked = [program, "--json", *(["--all"] if everything else [])]
     ended = subprocess.run(asked, input=data, capture_output=True, timeout=3600)
-    front, *rows, _ = [json.loads(line) for line in ended.stdout.splitlines()]
+    front, *rows, _ = map(json.loads, ended.stdout.splitlines())
     return (rows, front["bytes"]) if front["form"] == "der" else ([], None)
 
 
@@ -36,12 +36,14 @@ def cover(rows, count):
     return at == count
 
 
-def are_openssl(rows, data):
-    """Returns whether rows are those of OpenSSL, but for the rows inside strings: their offsets,
-    depths and lengths, and whether their contents are elements."""
-    ended = subprocess.run(["openssl", "asn1parse", "-inform", "DER"], input=data, capture_output=True)
+def are_openssl(program, data):
+    """Returns whether the rows of DER are those of OpenSSL, but for the rows inside strings: their
+    offsets, depths and lengths, and whether their contents are elements. With --all each header is
+    one."""
+    command = ["openssl", "asn1parse", "-inform", "DER"]
+    ended = subprocess.run(command, input=data, capture_output=True)
     found, inside = [], None
-    for row in rows:
+    for row in of(program, data, True)[0]:
         if inside is not None and row["depth"] > inside:
             continue
         inside = row["depth"] if row.get("opened") else None
@@ -49,7 +51,8 @@ def are_openssl(rows, data):
             return False
         kind = "cons" if row["constructed"] else "prim"
         found.append((row["offset"], row["depth"], row["header_len"], row["len"], kind))
-    theirs = [(*map(int, line[:4]), line[4]) for line in THEIRS.findall(ended.stdout.decode("latin-1"))]
+    lines = THEIRS.findall(ended.stdout.decode("latin-1"))
+    theirs = [(*map(int, line[:4]), line[4]) for line in lines]
     return ended.returncode == 0 and theirs == found
 
 

@@ -12,8 +12,6 @@ KEY = bytes.fromhex(
     "307702010104202d01ca44ef8a07fdb8664555f78a1e0d807c93655d1936ee7c8979bacff71a0ba00a06082a8648ce"
     "3d030107a14403420004485bfbba7f3270c4c8424b68bac0aca161c6d61f63f4370f71a8141d1f279811cbf2c62f4a"
     "0e960ae0513446119371fd70d30ccdff9228be0a5f4a4adf4aea2a")
-
-
 NULL, ZERO, ONE = b"\5\0", element(2, b"\0"), element(2, b"\1")
 
 

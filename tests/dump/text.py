@@ -43,7 +43,8 @@ class Part:
 
 
 def decoded(written):
-    """Returns the bytes that base64 encodes, or None: with padding, unused bits of 0, and blanks."""
+    """Returns the bytes that base64 with blanks encodes, or None: with padding, and unused bits of
+    0."""
     written = written.translate(None, b" \t\r\n")
     try:
         found = base64.b64decode(written, validate=True)
