@@ -178,7 +178,8 @@ def forms():
     long = b"\4\x81\x80" + bytes(128)
     for fields in (ONE + long, ONE + long + NULL, ONE + b"\4\x81\1\7", ONE + b"\4\5\7",
                    element(2, b"\0\1") + key, b"\2\x81\1\1" + key, ONE + b"\x24\3\4\1\7", key,
-                   element(1, b"\1") + key, element(2, b"\2") + key, ONE + ONE + key, ONE):
+                   element(1, b"\1") + key, element(2, b"\2") + key, ONE + ONE + key, ONE,
+                   ONE + b"\4\x80" + NULL + b"\0\0", b"\4\x80" + key + b"\0\0" + key):
         cut = sequence(fields, bytes(9))[:len(fields) + 2]
         yield from (sequence(fields), element(0x31, fields), cut)
         yield from (b"\x30\x80" + fields + b"\0\0", b"\x30\x80" + fields)
