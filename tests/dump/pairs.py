@@ -64,6 +64,15 @@ def container(source, private):
     return sequence(element(2, b"\0"), sequence(EC, curve), inner)
 
 
+def edwards(source, private):
+    """Returns the PKCS #8 of RFC 8410, of Ed25519 or X25519, with its public key or without."""
+    has_public = source.randrange(2)
+    algorithm = element(6, bytes.fromhex(source.choice(("2B6570", "2B656E"))))
+    public = element(0x81, b"\0", source.randbytes(len(private))) if has_public else b""
+    inner = element(4, element(4, private))
+    return sequence(element(2, bytes([has_public])), sequence(algorithm), inner, public)
+
+
 def integers(source, private, sizes):
     """Returns INTEGERs after a version: some of so many bytes, and the private ones."""
     values = [b"\1" + source.randbytes(size - 1) for size in sizes]
@@ -106,10 +115,12 @@ AROUND = [
     lambda source, key: public(source) + key,
     lambda source, key: key + public(source),
 ]
-# How a key is made of its private parts: an EC key, one in PKCS #8, an OCTET STRING, RSA, DSA.
+# How a key is made of its private parts: an EC key, one in PKCS #8, one of Ed25519, an OCTET STRING,
+# RSA, DSA.
 KEYS = [
     *[lambda source, private: ec_key(source, *private)] * 5,
     *[lambda source, private: container(source, *private)] * 2,
+    lambda source, private: edwards(source, *private),
     lambda source, private: element(4, *private), rsa, dsa,
 ]
 
