@@ -110,6 +110,10 @@ pub fn draw_and_list(
     len: &mut usize,
     count: &mut usize,
 ) -> u32
+    ensures fits { length (picture_text false input.now) ≤ length text.old
+        → length (listed (picture_lines false input.now)) ≤ length lines.old
+        → length text.old + min (2 * text_len input.now + 2) (2 ^ 64 - 1) ≤ length room.old
+        → result ≡ 0 }
     ensures text { result ≡ 0
         → take len.new text.new ≡ lines_text (picture_lines false input.now) }
     ensures lines { result ≡ 0
@@ -137,9 +141,14 @@ pub fn list_two_keys(
     count: &mut usize,
     second_count: &mut usize,
 ) -> u32
-    ensures { (k l : Key) → IsKeyOf k a.now → IsKeyOf l b.now → k.parameters ≡ l.parameters
-        → k.public_key ≡ l.public_key → length k.private_key ≡ length l.private_key
-        → length a.now ≤ max_content_len → result ≡ 0
+    ensures fits { length (listed (picture_lines false a.now)) ≤ length first.old
+        → length (listed (picture_lines false b.now)) ≤ length second.old
+        → min (2 * text_len a.now + 2) (2 ^ 64 - 1) ≤ length room.old
+        → min (2 * text_len b.now + 2) (2 ^ 64 - 1) ≤ length room.old → result ≡ 0 }
+    ensures alike { (k l : Key) → IsKeyOf k a.now → IsKeyOf l b.now
+        → k.parameters ≡ l.parameters → k.public_key ≡ l.public_key
+        → length k.private_key ≡ length l.private_key → length a.now ≤ max_content_len
+        → result ≡ 0
         → take count.new first.new ≡ take second_count.new second.new }
 {
     laws::keys_are_drawn_alike(a, b);
