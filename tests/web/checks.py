@@ -343,15 +343,14 @@ def memory(page):
     look = """new Promise((resolve) => { const worker = workers.at(-1);
       worker.addEventListener('message', ({ data }) => resolve(data.seen), { once: true });
       worker.postMessage({ look: true }); })"""
-    given = {name: data for name, data, _ in SECRETS}
-    for name, data in [*given.items(), ("all", EMPTY), *inputs.LARGE.items()]:
+    for name, data, *_ in [*SECRETS, ("all", EMPTY), *inputs.LARGE]:
         page.choose(page.store(name, data))
         if name == "all":
             page.run("$('#all').click()")
             page.wait("$$('#list .row').length > 4")
         left, size = page.run(look)
         page.want(left, -1, f"{name}: where a byte of the memory is another")
-        if name in ["key.der", *inputs.LARGE]:
+        if name in ("key.der", "numbers.der", "empty.der"):
             page.want(size <= 4 << 20, True, f"{name}: a memory of {size} bytes")
 
 
@@ -564,8 +563,10 @@ def several_files(page):
 
 def large(page):
     """A megabyte is drawn, and its rows as they are scrolled to."""
-    for name, data in inputs.LARGE.items():
-        wanted = page.give(name, data).items
+    for name, data, lines in inputs.LARGE:
+        given = page.give(name, data)
+        wanted = given.items
+        page.want([row.words for row in given.rows] == lines, True, f"the rows of {name}")
         for key, at in (("End", len(wanted) - 1), ("PageUp", None), ("Home", 0), ("PageDown", None),
                         ("ArrowDown", None)):
             before = page.run(SELECTED)[0]

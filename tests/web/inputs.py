@@ -81,12 +81,22 @@ def secrets():
 SECRETS = list(secrets())
 
 
-# A megabyte of numbers, and one of empty elements.
-LARGE = {
-    "numbers.der": element(0x30, b"".join(b"\x0A\2\x55" + bytes([at % 256])
-                                          for at in range(262_000))),
-    "empty.der": element(0x30, b"\5\0" * 524_100),
-}
+def large():
+    """Yields a megabyte of numbers, and one of empty elements: the name, the bytes, and the lines of
+    the rows, as docs/FORMATS.md has them."""
+    numbers = [0x5500 + at % 256 for at in range(262_000)]
+    parts = [b"\x0A\2" + it.to_bytes(2, "big") for it in numbers]
+    for name, parts, words in (
+            ("numbers.der", parts, [f"ENUMERATED {it}" for it in numbers]),
+            ("empty.der", [b"\5\0"] * 524_100, ["NULL"] * 524_100)):
+        data, size = element(0x30, b"".join(parts)), len(parts[0])
+        head = parts[0][:2].hex(" ").upper()
+        lines = [f"{place:>4} {head}{size - 2:>14}    {said}"
+                 for place, said in zip(range(5, len(data), size), words)]
+        yield name, data, [f"   0 {data[:5].hex(' ').upper()} {len(data) - 5}  SEQUENCE", *lines]
+
+
+LARGE = list(large())
 
 
 def damaged(numbers, data):
