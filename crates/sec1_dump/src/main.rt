@@ -27,44 +27,51 @@ one can't be read or shown, or for wrong arguments.
 
 Example: sec1_dump --depth 1 key.pem";
 
+/// Returns the option `--NAME`, which takes no value.
+fn flag<'a>(alloc: Global, name: &'static str, help: &'static str) -> Arg<'a> {
+    Arg::new(alloc, name)
+        .long(name)
+        .action(ArgAction::SetTrue)
+        .help(help)
+}
+
+/// Returns the option `--NAME`, whose value is a number of bytes or of elements.
+fn number<'a>(alloc: Global, name: &'static str, help: &'static str) -> Arg<'a> {
+    Arg::new(alloc, name)
+        .long(name)
+        .value_name("N")
+        .value_parser(value_parser!(usize).range(0..=16_777_215))
+        .help(help)
+}
+
 /// Returns the arguments that these words give.
 ///
 /// # Errors
 ///
 /// A mistake in the words, or a request for help or for the version.
 fn parsed<'a>(alloc: Global, words: &'a [String]) -> Result<ArgMatches<'a>, Error> {
-    let all = Arg::new(alloc, "all")
-        .long("all")
-        .action(ArgAction::SetTrue)
-        .help("Shows the content of each element too, private keys among them");
-    let json = Arg::new(alloc, "json")
-        .long("json")
-        .action(ArgAction::SetTrue)
-        .help("Prints lines of JSON");
-    let offset = Arg::new(alloc, "offset")
-        .long("offset")
-        .value_name("N")
-        .value_parser(value_parser!(usize).range(0..=16_777_215))
-        .help("Draws the element that begins after N bytes alone");
-    let depth = Arg::new(alloc, "depth")
-        .long("depth")
-        .value_name("N")
-        .value_parser(value_parser!(usize).range(0..=16_777_215))
-        .help("Draws no element that more than N others are around");
-    let file = Arg::new(alloc, "FILE")
-        .num_args(1..)
-        .action(ArgAction::Append)
-        .help("DER, PEM, hexadecimal or base64; standard input if absent or -");
+    let offset = "Draws the element that begins after N bytes alone";
+    let depth = "Draws no element that more than N others are around";
+    let every = vec![in alloc;
+        flag(
+            alloc,
+            "all",
+            "Shows the content of each element too, private keys among them"
+        ),
+        flag(alloc, "json", "Prints lines of JSON"),
+        number(alloc, "offset", offset),
+        number(alloc, "depth", depth),
+        Arg::new(alloc, "FILE")
+            .num_args(1..)
+            .action(ArgAction::Append)
+            .help("DER, PEM, hexadecimal or base64; standard input if absent or -"),
+    ]?;
     Command::new(alloc, "sec1_dump")
         .version("0.2.0")
         .about("Draws any file that people have in place of a key, and says what it is")
         .after_help(MORE)
         .args_override_self(true)
-        .arg(all)?
-        .arg(json)?
-        .arg(offset)?
-        .arg(depth)?
-        .arg(file)?
+        .args(every)?
         .try_get_matches_from(words)
 }
 
