@@ -51,6 +51,14 @@ fn answer<H: Files>(rt: &H, alloc: Global, line: &str) -> Result<String, AllocEr
         b"write" => files::write(rt, alloc, rest),
         b"read" => files::read(rt, alloc, rest),
         b"file" => files::answer(rt, alloc, rest),
+        b"refuse" => refusals::answer(rt, alloc, rest),
+        _ => results_of(alloc, name, rest),
+    }
+}
+
+/// Makes a call that reads and writes no file, and returns the line of its result.
+fn results_of(alloc: Global, name: &[u8], rest: &[u8]) -> Result<String, AllocError> {
+    match name {
         b"encode" => results::encode(alloc, rest),
         b"document" => results::document(alloc, rest),
         b"failed" => results::failed(alloc, rest),
@@ -59,7 +67,6 @@ fn answer<H: Files>(rt: &H, alloc: Global, line: &str) -> Result<String, AllocEr
         b"show_key" => shown::key(alloc, rest),
         b"hidden" => shown::hidden(alloc, rest),
         b"show_point" => shown::point(alloc, rest),
-        b"refuse" => refusals::answer(rt, alloc, rest),
         _ => structures::answer(alloc, name, rest),
     }
 }
