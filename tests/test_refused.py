@@ -1,6 +1,6 @@
-"""The built tests in which memory, reads and writes are refused one by one, over the allocator that
-refuses. test_calls.py has the calls of sec1 and sec1_der that allocate, and test_program.py has
-sec1_inspect."""
+"""The built tests of sec1 and sec1_der in which memory, reads and writes are refused one by one, over
+the allocator that refuses: `./test all` builds them. test_calls.py has the calls of sec1 and sec1_der
+that allocate, and test_program.py has sec1_inspect."""
 
 import os
 import re
@@ -8,27 +8,23 @@ import subprocess
 
 import pytest
 
-pytestmark = [pytest.mark.built, pytest.mark.core]
+pytestmark = [pytest.mark.built, pytest.mark.slow]
 
 # What the tests have to print: how a document grows, and which calls make no request.
-PRINTED = {
-    "sec1_tests": [
-        "SecretDocument::read_der_from grows by 4,096 bytes",
-        "SecretDocument::write_der_to: no request",
-        "from_der, encoded_len, encode_to_slice: no request",
-        "try_from, encoded_len, encode_to_slice, check_tree: no request",
-        "from_bytes, cmp, compress: no request",
-        "from_str, from_json: no request",
-    ],
-    "sec1_inspect": [],
-}
+PRINTED = [
+    "SecretDocument::read_der_from grows by 4,096 bytes",
+    "SecretDocument::write_der_to: no request",
+    "from_der, encoded_len, encode_to_slice: no request",
+    "try_from, encoded_len, encode_to_slice, check_tree: no request",
+    "from_bytes, cmp, compress: no request",
+    "from_str, from_json: no request",
+]
 
 
-@pytest.mark.parametrize("crate", PRINTED)
-def test_refused(program, refuse, tmp_path, tell, crate):
-    tests = program(crate, f"{crate}_tests")
-    environment = {**os.environ, "TMPDIR": str(tmp_path), "LD_PRELOAD": str(refuse)}
-    how = {"cwd": tmp_path, "env": environment, "capture_output": True, "text": True}
+def try_refused(tests, refuse, folder, tell):
+    """Runs those of a crate's built tests, and returns the lines that they print."""
+    environment = {**os.environ, "TMPDIR": str(folder), "LD_PRELOAD": str(refuse)}
+    how = {"cwd": folder, "env": environment, "capture_output": True, "text": True}
 
     def run(word):
         return subprocess.run([tests, word], timeout=3600, check=False, **how)
@@ -38,5 +34,10 @@ def test_refused(program, refuse, tmp_path, tell, crate):
         ran = run(name)
         tell(f"{name}: {ran.stderr[:300]}", ran.returncode == 0)
         printed += ran.stdout.splitlines()
-    for line in PRINTED[crate]:
+    return printed
+
+
+def test_refused(program, refuse, tmp_path, tell):
+    printed = try_refused(program("sec1_tests", "sec1_tests_tests"), refuse, tmp_path, tell)
+    for line in PRINTED:
         tell(f"it isn't printed that {line}", line in printed)
