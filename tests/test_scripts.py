@@ -13,7 +13,7 @@ SCRIPTS = {
     "tests/web/run": [SLOW],
     "tests/documents": [],
     "tests/plant rust": [SLOW],
-    "tests/doors": [],
+    "tests/doors": [SLOW],
     "tests/plant web": [SLOW],
     "tests/plant python": [SLOW],
     "tests/plant js": [SLOW],
