@@ -1,5 +1,5 @@
-"""The built tests of sec1 and sec1_der in which memory, reads and writes are refused one by one, over
-the allocator that refuses: `./test all` builds them. test_calls.py has the calls of sec1 and sec1_der
+"""The built tests of sec1 and sec1_der in which memory, reads and writes are refused one by one,
+over the allocator that refuses. The gate builds them. test_calls.py has the calls of these crates
 that allocate, and test_program.py has sec1_inspect."""
 
 import os

@@ -3,13 +3,10 @@
 //! streams and files; [`checks`] and [`der::checks`] have what is proved of definitions, of
 //! constants and of `==`.
 //!
-//! They are in a crate of their own, so that each library is proved once, and all of it is under
-//! `cfg(test)`, so that what is proved here is proved once too.
+//! They are in a crate of their own, so that each library is proved once.
 #![tactic(auto)]
 
-#[cfg(test)]
 pub mod checks;
-#[cfg(test)]
 pub mod der;
 #[cfg(test)]
 mod errors;
