@@ -69,7 +69,8 @@ class Crate:
 
     @property
     def is_used(self):
-        return any(self.name in used for used in uses_of(self.top).values())
+        """Whether another crate of the checkout uses it."""
+        return any(self.name in used for used in uses_of(TOP).values())
 
 
 def lines_of(top):

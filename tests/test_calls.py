@@ -12,7 +12,7 @@ import pytest
 import stored
 from calls.rows import GROWTH, WHOLE, element, key, line, rows, short_rows, sum_of, tree_rows
 
-pytestmark = pytest.mark.built
+pytestmark = [pytest.mark.built, pytest.mark.slow]
 
 DER, WHOLE = element(0x30, key(4)), bytes.fromhex(WHOLE)
 HOUR = 3600

@@ -12,7 +12,7 @@ from certificates import damage, sizes
 from certificates.answers import answer
 from conftest import TOP
 
-pytestmark = pytest.mark.built
+pytestmark = [pytest.mark.built, pytest.mark.slow]
 
 
 def lines_in(name):

@@ -13,7 +13,7 @@ from conftest import TOP, lines_of
 from keys import damage
 from keys.answers import answer
 
-pytestmark = pytest.mark.built
+pytestmark = [pytest.mark.built, pytest.mark.slow]
 
 KEYS = TOP / "tests/keys"
 MADE = (KEYS / "openssl.txt").read_text().splitlines()

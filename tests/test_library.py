@@ -13,7 +13,7 @@ import subprocess
 import pytest
 from conftest import TOP, lines_of
 
-pytestmark = pytest.mark.built
+pytestmark = pytest.mark.library
 
 DIST = TOP / "dist"
 CC = os.environ.get("CC", "cc")

@@ -9,7 +9,7 @@ import sys
 import pytest
 from conftest import TOP, lacking, lines_of, needs
 
-pytestmark = [pytest.mark.built, pytest.mark.slow]
+pytestmark = [pytest.mark.library, pytest.mark.slow]
 
 DIST, OUT = TOP / "dist", TOP / "crates/sec1_c/out"
 LIBRARY = TOP / "bindings/js/library.js"

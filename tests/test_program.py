@@ -10,7 +10,6 @@ import time
 
 import pytest
 from conftest import TOP
-from test_refused import try_refused
 
 pytestmark = [pytest.mark.built, pytest.mark.core]
 
@@ -213,7 +212,3 @@ def test_requests(program, room, refuse, tmp_path, tell, words, letters, ended):
         tell(f"request {number}: {found}, {refused} refused", (found, refused) == (wanted, 1))
     found, *_ = run_refusing(made + 1)
     tell(f"one request more: {found}", found == ended)
-
-
-def test_built_tests(program, refuse, tmp_path, tell):
-    try_refused(program("sec1_inspect", "sec1_inspect_tests"), refuse, tmp_path, tell)

@@ -1,6 +1,6 @@
-"""The built tests of sec1 and sec1_der in which memory, reads and writes are refused one by one,
-over the allocator that refuses. The gate builds them. test_calls.py has the calls of these crates
-that allocate, and test_program.py has sec1_inspect."""
+"""The built tests of sec1, sec1_der and sec1_inspect in which memory, reads and writes are refused
+one by one, over the allocator that refuses. The gate builds them. test_calls.py has the calls of
+these crates that allocate."""
 
 import os
 import re
@@ -21,12 +21,13 @@ PRINTED = [
 ]
 
 
-def try_refused(tests, refuse, folder, tell):
-    """Runs those of a crate's built tests, and returns the lines that they print."""
-    environment = {**os.environ, "TMPDIR": str(folder), "LD_PRELOAD": str(refuse)}
-    how = {"cwd": folder, "env": environment, "capture_output": True, "text": True}
+@pytest.mark.parametrize("crate, lines", [("sec1_tests", PRINTED), ("sec1_inspect", [])])
+def test_refused(program, refuse, tmp_path, tell, crate, lines):
+    environment = {**os.environ, "TMPDIR": str(tmp_path), "LD_PRELOAD": str(refuse)}
+    how = {"cwd": tmp_path, "env": environment, "capture_output": True, "text": True}
 
     def run(word):
+        tests = program(crate, f"{crate}_tests")
         return subprocess.run([tests, word], timeout=3600, check=False, **how)
 
     printed = []
@@ -34,10 +35,5 @@ def try_refused(tests, refuse, folder, tell):
         ran = run(name)
         tell(f"{name}: {ran.stderr[:300]}", ran.returncode == 0)
         printed += ran.stdout.splitlines()
-    return printed
-
-
-def test_refused(program, refuse, tmp_path, tell):
-    printed = try_refused(program("sec1_tests", "sec1_tests_tests"), refuse, tmp_path, tell)
-    for line in PRINTED:
+    for line in lines:
         tell(f"it isn't printed that {line}", line in printed)
