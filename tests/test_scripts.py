@@ -7,7 +7,7 @@
 
 import pytest
 
-BUILT, CORE, SLOW = pytest.mark.built, pytest.mark.core, pytest.mark.slow
+BUILT, SLOW = pytest.mark.built, pytest.mark.slow
 # Those that take long stand between others, since a worker of xdist takes two at a time.
 SCRIPTS = {
     "tests/web/run": [SLOW],
