@@ -132,7 +132,7 @@ def copy_crate(crate, to, kept):
 
 
 @contextlib.contextmanager
-def room_of(crate, kept):
+def room_of(crate, kept, of_below=("rlib",)):
     """Gives the crate in a room of its own, over the libraries below it as they are built."""
     below = below_of(crate.top, crate.name)
     with tempfile.TemporaryDirectory(prefix=f"{crate.name}-") as made:
@@ -142,7 +142,7 @@ def room_of(crate, kept):
         (room / "crates.txt").write_text("".join(f"{it}\n" for it in uses))
         shutil.copy2(crate.top / "HANDLES", room)
         for used in below:
-            copy_crate(Crate(crate.top, used), room / "crates" / used, ["rlib"])
+            copy_crate(Crate(crate.top, used), room / "crates" / used, of_below)
         copy_crate(crate, room / "crates" / crate.name, kept)
         yield Crate(room, crate.name)
 

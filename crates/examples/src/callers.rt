@@ -23,8 +23,13 @@ pub mod open_kinds;
 pub mod own_record;
 pub mod whole_elements;
 
+// What any input is.
+pub mod pictures;
+pub mod unseen_keys;
+
 // By which kind bytes are refused, and what a refusal leaves.
 pub mod failed_readers;
+pub mod fault_places;
 pub mod header_kinds;
 pub mod said_kinds;
 pub mod type_kinds;

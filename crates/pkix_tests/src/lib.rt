@@ -1,9 +1,8 @@
 //! Tests of `der_types`, `curves`, `pkix`, `der_view` and `examples` by their public calls, with
 //! values from outside.
 //!
-//! [`equality`] and [`picture_equality`] have what is proved of `==` and `clone`, [`checks`] worked
-//! examples, and [`view_callers`] what a user writes over `der_view`, proved from its public
-//! contracts alone, as `examples` is over the other libraries.
+//! [`equality`] and [`picture_equality`] have what is proved of `==` and `clone`, and [`checks`]
+//! worked examples.
 //!
 //! They are in a crate of their own, so that each of these is proved once.
 #![tactic(auto)]
@@ -37,7 +36,6 @@ mod said;
 mod sets;
 #[cfg(test)]
 mod values;
-pub mod view_callers;
 #[cfg(test)]
 mod writing;
 
