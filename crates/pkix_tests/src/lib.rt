@@ -4,23 +4,27 @@
 //! [`equality`] and [`picture_equality`] have what is proved of `==` and `clone`, and [`checks`]
 //! worked examples.
 //!
-//! They are in a crate of their own, so that each of these is proved once.
+//! They are in a crate of their own, so that each of these is proved once. All of it is compiled for
+//! tests alone, so that it is too.
 #![tactic(auto)]
 
 #[cfg(test)]
 mod algorithm_test;
 #[cfg(test)]
 mod callers;
+#[cfg(test)]
 pub mod checks;
 #[cfg(test)]
 mod contents;
 #[cfg(test)]
 mod curve_names;
+#[cfg(test)]
 pub mod equality;
 #[cfg(test)]
 mod faults;
 #[cfg(test)]
 mod keys;
+#[cfg(test)]
 pub mod picture_equality;
 #[cfg(test)]
 mod pictures;

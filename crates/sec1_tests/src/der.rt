@@ -1,4 +1,5 @@
 //! Tests of `sec1_der`.
+#[cfg(test)]
 pub mod checks;
 #[cfg(test)]
 mod nested;
