@@ -12,7 +12,7 @@ import inputs
 import made
 import programs
 from browsers import Failed
-from expected import after, drawn, view
+from expected import View, after, drawn, view
 from inputs import CERTIFICATE, EMPTY, KEY, SECRETS, TWO_BLOCKS, element, pem
 from page import FOCUSED, SAID, SELECTED, Page, about, private_in, row_at
 
@@ -564,14 +564,13 @@ def several_files(page):
 def large(page):
     """A megabyte is drawn, and its rows as they are scrolled to."""
     for name, data, lines in inputs.LARGE:
-        given = page.give(name, data)
-        wanted = given.items
-        page.want([row.words for row in given.rows] == lines, True, f"the rows of {name}")
-        for key, at in (("End", len(wanted) - 1), ("PageUp", None), ("Home", 0), ("PageDown", None),
+        rows = page.give(name, data).rows
+        page.want([row.words for row in rows] == lines, True, f"the rows of {name}")
+        for key, at in (("End", len(rows) - 1), ("PageUp", None), ("Home", 0), ("PageDown", None),
                         ("ArrowDown", None)):
             before = page.run(SELECTED)[0]
             page.press(key)
-            compare_sight(page, wanted, at)
+            compare_sight(page, rows, at)
             if key.startswith("Page"):
                 moved = page.run(SELECTED)[0] - before
                 page.want(abs(moved) >= 5, True, f"{key} moves by {moved}")
@@ -579,17 +578,17 @@ def large(page):
             page.run("(() => { const list = $('#list');"
                      f"list.scrollTop = {share} * (list.scrollHeight - list.clientHeight);"
                      "})()")
-            at = min(int(share * len(wanted)), len(wanted) - 1)
+            at = min(int(share * len(rows)), len(rows) - 1)
             page.wait(f"$('{row_at(at)}') !== null", f"the rows at {share} of the list aren't made")
-            compare_sight(page, wanted)
+            compare_sight(page, rows)
         if not page.browser.is_scripted:
             page.browser.size(1280, 300)
             page.browser.size(1280, 1000)
             page.wait(f"{BOX}[1]", "the rows fill a box that has grown")
-            compare_sight(page, wanted)
+            compare_sight(page, rows)
             page.browser.size()
-        look_for(page, wanted[-1].columns[0])
-        page.see(SELECTED, [len(wanted) - 1], "a row that is found out of sight")
+        look_for(page, rows[-1].columns[0])
+        page.see(SELECTED, [len(rows) - 1], "a row that is found out of sight")
         look_for(page, "sequence")
         page.see(SELECTED, [0], "the first row, found from the last one on")
         fold = f"$('{row_at(0)} .fold').click()"
@@ -599,11 +598,14 @@ def large(page):
         page.want(len(page.rows()) > 10, True, "the rows of an unfolded root")
 
 
-def compare_sight(page, wanted, selected=None):
+def compare_sight(page, rows, selected=None):
     """Compares the rows that are made of a long picture, which fill the box."""
     found = page.rows()
     first = found[0].index
-    page.want([row[:5] for row in found], wanted[first:first + len(found)], "the rows in sight")
+    # Of those in sight alone: a line takes long to be taken apart.
+    items = View(rows[first:first + len(found)], [b""]).items
+    page.want([row[:5] for row in found],
+              [item._replace(index=first + item.index) for item in items], "the rows in sight")
     compare_box(page, selected)
 
 
@@ -851,12 +853,11 @@ def messages(page):
 
 def stored_files(page):
     """Keys, damaged keys and certificates, as the library draws them."""
-    for name, data in inputs.stored():
-        page.choose(page.store("stored", data))
+    for number, (name, data) in enumerate(inputs.stored()):
+        page.choose(page.store(f"stored-{number}", data))
         with about(f"{name}: {data.hex()[:80]}"):
             given = page.compare(data)
             page.want(len(page.rows()), len(given.rows), "how many rows")
-        page.clear()
 
 
 def needs(page):
