@@ -345,8 +345,10 @@ FAULTS = {"raw.rs": [
 UNREADABLE = "could not compile"
 # A test file that has an allocator of its own, and so is a program of its own.
 ALONE = "wiping"
-# What takes most of the time is run where all else passes.
-SLOW = ["openssl", "agrees_on", "files_are_read_as_their_headers"]
+# What takes long is run where the other tests pass, and what takes longest where all else passes.
+LONG = ["openssl", "against_library"]
+LONGEST = ["agrees_on_points", "agrees_on_keys", "agrees_on_identifiers",
+           "files_are_read_as_their_headers"]
 BUILD = "env CARGO_TARGET_DIR=target CARGO_PROFILE_DEV_DEBUG=0 cargo --offline".split()
 CARGO = ["-p", "bridgeacacia-sec1", "--features", "std,pem"]
 
@@ -376,6 +378,9 @@ def commands(_, file=""):
     compared with what a second reader draws."""
     draws = [[*BUILD, "build", *CARGO, "--example", "view"],
              [sys.executable, "-B", PROGRAMS, "--several", "target/debug/examples/view"]]
-    tests = [test("all", *(word for it in SLOW for word in ("--skip", it))), test(ALONE)]
+    skipped = [word for it in LONG + LONGEST for word in ("--skip", it)]
+    tests = [test("all", *skipped), test("all", *LONG), test(ALONE)]
     both = draws + tests if "examples" in file else tests + draws
-    return both + [test("all", it) for it in SLOW]
+    # The last reads documents of files.
+    longest = LONGEST[::-1] if "document" in file else LONGEST
+    return both + [test("all", it) for it in longest]
