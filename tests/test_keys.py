@@ -11,7 +11,7 @@ import pytest
 import stored
 from conftest import TOP, lines_of
 from keys import damage
-from keys.answers import answer
+from keys.reader import answer
 
 pytestmark = [pytest.mark.built, pytest.mark.slow]
 

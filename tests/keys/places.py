@@ -27,14 +27,11 @@ def fault(reader, key):
 
 def damages(reader):
     """Returns each damage to the key: an index, the byte there, and the fault."""
-    numbers = random.Random(5915)
-    found = []
+    numbers, found = random.Random(5915), []
     for at, byte in enumerate(KEY):
         others = [0x00, 0x80, 0x81, 0xA1, 0xFF, (byte + 1) % 256, (byte - 1) % 256]
-        for other in [*others, numbers.randrange(256)]:
-            if other != byte:
-                damaged = KEY[:at] + bytes([other]) + KEY[at + 1 :]
-                found.append((at, other, *fault(reader, damaged)))
+        found += [(at, other, *fault(reader, KEY[:at] + bytes([other]) + KEY[at + 1 :]))
+                  for other in [*others, numbers.randrange(256)] if other != byte]
     return found
 
 

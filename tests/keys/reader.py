@@ -77,3 +77,17 @@ def key(data):
     demand(at == end, "TrailingData", at)
     demand(end == len(data), "TrailingData", end)
     return private, curve, public
+
+
+def digits(data):
+    return data.hex().upper() or "-"
+
+
+def answer(line):
+    """Returns what crates/replay has to print for a line."""
+    try:
+        private, curve, public = key(bytes.fromhex(line.split(" ")[1]))
+    except Refused as refused:
+        return f"refused: {refused.args[0]}"
+    curve = "none" if curve is None else ".".join(map(str, curve))
+    return f"{digits(private)} {curve} {'none' if public is None else digits(public)} same"

@@ -44,10 +44,9 @@ def load(path, text=None):
 
 def differs_on_keys(path, text):
     """What is stored of keys, and the faults that the tests of der_view::faults want."""
-    answers, places = load("tests/keys/answers.py"), load("tests/keys/places.py")
-    answers.reader = load(path, text)
-    return (any(answers.answer(line) != said for line, said in reversed(stored.pairs("keys")))
-            or places.stored_damages() != places.damages(answers.reader))
+    reader, places = load(path, text), load("tests/keys/places.py")
+    return (any(reader.answer(line) != said for line, said in reversed(stored.pairs("keys")))
+            or places.stored_damages() != places.damages(reader))
 
 
 def differs_on_certificates(path, text):
