@@ -9,7 +9,7 @@ import itertools
 import pytest
 import stored
 from certificates import damage, sizes
-from certificates.answers import answer
+from certificates.reader import answer
 from conftest import TOP
 
 pytestmark = [pytest.mark.built, pytest.mark.slow]

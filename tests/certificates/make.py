@@ -6,11 +6,10 @@ and what it made but doesn't read.
 """
 import contextlib
 import os
+import re
 import subprocess
 import tempfile
 from pathlib import Path
-
-from fields import fields_of
 
 HERE = Path(__file__).resolve().parent
 # How OpenSSL reads a structure of each word.
@@ -138,12 +137,83 @@ SELF_SIGNED = "req -x509 -new -config /dev/stdin -key"
 GENERATE = "asn1parse -genconf /dev/stdin -noout -out /dev/stdout"
 # The lines of both files.
 STRUCTURES, FOUND = [], []
+# A line of `openssl asn1parse`.
+LINE = re.compile(r" *(\d+):d=(\d+) +hl=(\d+) +l= *(\d+) +(?:cons|prim): (.*?) *(?::(.*))?$")
 
 
 def openssl(words, given=b""):
     """Runs OpenSSL with these words, and returns what it writes."""
     command = ["openssl", *words.split()]
     return subprocess.run(command, input=given, capture_output=True, check=True).stdout
+
+
+class Node:
+    """An element as OpenSSL finds it: its tag in words, its bytes, which are cut out at the offsets
+    that are printed, what it says and contains."""
+
+    def __init__(self, data, line):
+        *numbers, self.tag, self.text = LINE.match(line).groups()
+        at, self.depth, header, size = map(int, numbers)
+        self.whole = data[at : at + header + size]
+        self.content = self.whole[header:].hex() or "empty"
+        self.nodes = []
+
+    @classmethod
+    def tree(cls, data):
+        """Returns the outermost element."""
+        path = []
+        for line in openssl("asn1parse -inform DER", data).decode(errors="replace").splitlines():
+            node = cls(data, line)
+            del path[node.depth :]
+            if path:
+                path[-1].nodes.append(node)
+            path.append(node)
+        return path[0]
+
+
+def found(nodes, number):
+    """Returns the content of the element with this tag of a context, or `-`."""
+    return next((it.content for it in nodes if it.tag == f"cont [ {number} ]"), "-")
+
+
+def algorithm(node):
+    name, *parameters = node.nodes
+    return name.content, parameters[0].whole.hex() if parameters else "-"
+
+
+def time(node):
+    return {"UTCTIME": "u:", "GENERALIZEDTIME": "g:"}[node.tag] + node.text
+
+
+def public_key_info(top):
+    return [*algorithm(top.nodes[0]), top.nodes[1].content]
+
+
+def private_key_info(top):
+    version, name, key, *others = top.nodes
+    fields = [str(int(version.text, 16)), *algorithm(name), key.content]
+    return [*fields, found(others, 0), found(others, 1)]
+
+
+def certificate(top):
+    signed, outer, bits = top.nodes
+    version, parts = "0", signed.nodes
+    if parts[0].tag == "cont [ 0 ]":
+        version, parts = parts[0].nodes[0].text, parts[1:]
+    serial, inner, issuer, validity, subject, key, *others = parts
+    extensions = [it.nodes[0].content for it in others if it.tag == "cont [ 3 ]"]
+    return [str(int(version, 16) + 1), serial.content, ":".join(algorithm(inner)), issuer.content,
+            *map(time, validity.nodes), subject.content, *public_key_info(key), found(others, 1),
+            found(others, 2), *(extensions or "-"), ":".join(algorithm(outer)), bits.content]
+
+
+# What is found of a structure of each word: numbers and times are those that OpenSSL prints.
+FINDERS = {
+    "certificate": certificate,
+    "public-key-info": public_key_info,
+    "private-key-info": private_key_info,
+    "signature": lambda top: [node.text.lower() for node in top.nodes],
+}
 
 
 def add(word, name, *steps, given=b""):
@@ -159,9 +229,8 @@ def add(word, name, *steps, given=b""):
         reason = error.stderr.decode(errors="replace").partition("\n")[0]
         print(f"{what}: {word}, {name}: {reason}")
     if what != "not made":
-        parsed = openssl("asn1parse -inform DER", given).decode(errors="replace").splitlines()
         STRUCTURES.append(f"{word} {given.hex()}")
-        FOUND.extend([f"# {name}", " ".join(fields_of(word, given, parsed))])
+        FOUND.extend([f"# {name}", " ".join(FINDERS[word](Node.tree(given)))])
 
 
 def configured(part):

@@ -8,6 +8,8 @@ element its tag, its length, its end and its content, and then of what follows i
 import contextlib
 import re
 
+from certificates import writer
+
 LIMIT = 0x0FFFFFFF
 BOOLEAN, INTEGER, BIT_STRING, OCTET_STRING, IDENTIFIER = 0x01, 0x02, 0x03, 0x04, 0x06
 UTC_TIME, GENERALIZED_TIME, SEQUENCE, SET = 0x17, 0x18, 0x30, 0x31
@@ -40,33 +42,28 @@ class Elements:
     def is_next(self, tag):
         return self.more() and self.data[self.at] == tag
 
-    def byte(self):
-        demand(self.more(), "Truncated")
-        self.at += 1
-        return self.data[self.at - 1]
+    def take(self, count):
+        """Reads so many bytes."""
+        demand(self.at + count <= len(self.data), "Truncated")
+        self.at += count
+        return self.data[self.at - count : self.at]
 
     def length(self):
         """Reads a length in its one form (X.690 section 10.1)."""
-        first = self.byte()
+        (first,) = self.take(1)
         if first < 0x80:
             return first
-        count = first - 0x80
-        demand(1 <= count <= 4, "Length")
-        demand(self.at + count <= len(self.data), "Truncated")
-        digits = self.data[self.at : self.at + count]
-        self.at += count
+        demand(0x81 <= first <= 0x84, "Length")
+        digits = self.take(first - 0x80)
         number = int.from_bytes(digits, "big")
         demand(digits[0] != 0 and 0x80 <= number <= LIMIT, "Length")
         return number
 
     def read(self, tag):
         """Reads an element with this tag, or with any for None. Returns its content."""
-        found = self.byte()
+        (found,) = self.take(1)
         demand(is_tag(found) if tag is None else found == tag, "Tag")
-        end = self.length() + self.at
-        demand(end <= len(self.data), "Truncated")
-        start, self.at = self.at, end
-        return self.data[start:end]
+        return self.take(self.length())
 
     def read_whole(self):
         """Reads an element of any tag, whose content may be anything. Returns its bytes."""
@@ -115,9 +112,7 @@ def unsigned(content):
 
 def identifier(content):
     """X.690 section 8.19.2: subidentifiers; none begins with 80, and the last one ends."""
-    demand(content and content[-1] < 0x80)
-    for place, byte in enumerate(content):
-        demand(byte != 0x80 or place > 0 and content[place - 1] >= 0x80)
+    demand(re.fullmatch(rb"(([\x81-\xff][\x80-\xff]*)?[\x00-\x7f])+", content))
     return content
 
 
@@ -281,9 +276,14 @@ READERS = {
 }
 
 
-def read(word, data):
-    """Returns the fields of the structure."""
-    elements = Elements(data)
-    fields = READERS[word](elements)
-    elements.finish()
-    return fields
+def answer(line):
+    """Returns what crates/replay has to print for a line."""
+    word, text = line.split(" ")
+    elements = Elements(bytes.fromhex(text))
+    try:
+        fields = READERS[word](elements)
+        elements.finish()
+    except Refused as refused:
+        return f"refused: {refused.args[0]}"
+    same = "same" if writer.write(word, fields) == elements.data else "different"
+    return " ".join([*fields, same])
