@@ -6,6 +6,7 @@ or end, and single calls.
 """
 import functools
 import itertools
+import re
 
 from certificates.reader import Elements, Refused, demand
 from certificates.writer import element
@@ -63,7 +64,7 @@ def point_rows(is_refused):
     for size, encoding in points():
         lower, upper = encoding.hex().encode(), encoding.hex().upper().encode()
         calls = [(f"to_bytes {sum_of(encoding)}", 1), (f"to_lower_hex {sum_of(lower)}", 1)]
-        calls += [(f"to_upper_hex {sum_of(upper)}", 1), (f"to_json {sum_of(upper)}", 1)]
+        calls += [(f"{name} {sum_of(upper)}", 1) for name in ("to_upper_hex", "to_json")]
         # a text grows once for each piece that is printed, and is then twice as long as the first
         calls += [(f"Display {sum_of(upper)}", (len(upper) + PRINTED - 1) // PRINTED)]
         yield f"point {size} {encoding.hex()}", line("point", calls, is_refused)
@@ -106,71 +107,72 @@ def key_rows(is_refused):
         yield f"key {shape(count, curve, public_len)}", line("key", calls, is_refused)
 
 
+def written(how, after, data):
+    """What is said of bytes that are written over a stream which fails behind so many of them."""
+    fails = how != "None" and after < len(data)
+    return f"Io {sum_of(data[:after])}" if fails else f"Ok {sum_of(data)}"
+
+
 def break_row(how, after, step, private_len):
     der = element(0x30, key(private_len))
-    taken, whole = sum_of(der[:after]), sum_of(der)
-    reads, writes = f"{whole} of {len(der)}", f"Ok {whole}"
-    if how != "None":
-        # the end is read too, and isn't written
-        reads = f"Io of {after}" if after <= len(der) else reads
-        writes = f"Io {taken}" if after < len(der) else writes
+    # the end is read too, and isn't written
+    fails = how != "None" and after <= len(der)
+    reads = f"Io of {after}" if fails else f"{sum_of(der)} of {len(der)}"
+    writes = written(how, after, der)
     asked = f"break {how} {after} {step} {private_len}"
     return asked, f"break, {reads}, {reads}, {writes}, {writes}"
 
 
 # the kinds of std's errors, but for one that can't be named
 KINDS = """NotFound PermissionDenied ConnectionRefused ConnectionReset HostUnreachable
-    NetworkUnreachable ConnectionAborted NotConnected AddrInUse AddrNotAvailable NetworkDown BrokenPipe
-    AlreadyExists WouldBlock NotADirectory IsADirectory DirectoryNotEmpty ReadOnlyFilesystem
-    FilesystemLoop StaleNetworkFileHandle InvalidInput InvalidData TimedOut WriteZero StorageFull
-    NotSeekable QuotaExceeded FileTooLarge ResourceBusy ExecutableFileBusy Deadlock CrossesDevices
-    TooManyLinks InvalidFilename ArgumentListTooLong Interrupted Unsupported UnexpectedEof OutOfMemory
-    InProgress Other""".split()
+    NetworkUnreachable ConnectionAborted NotConnected AddrInUse AddrNotAvailable NetworkDown
+    BrokenPipe AlreadyExists WouldBlock NotADirectory IsADirectory DirectoryNotEmpty
+    ReadOnlyFilesystem FilesystemLoop StaleNetworkFileHandle InvalidInput InvalidData TimedOut
+    WriteZero StorageFull NotSeekable QuotaExceeded FileTooLarge ResourceBusy ExecutableFileBusy
+    Deadlock CrossesDevices TooManyLinks InvalidFilename ArgumentListTooLong Interrupted Unsupported
+    UnexpectedEof OutOfMemory InProgress Other""".split()
+
+
+def breaks():
+    """How a stream fails, behind how many bytes, how many it moves at once, and the length of the
+    private key."""
+    longer = (4081, 4082, 4083, 5000, 8177, 8178, 8179)
+    yield from itertools.product(KINDS, (0, 1, 2, 5, 11, 12), [4], [4])
+    for how in ("WouldBlock", "Interrupted", "Other"):
+        yield from ((how, after, step, 4) for step in (1, 3, 100) for after in range(13))
+        for private_len in longer:
+            whole = len(element(0x30, key(private_len)))
+            near = {it + more for it in (4, 4096, 4100, 8192, whole) for more in (-1, 0, 1)}
+            yield from ((how, it, 5000, private_len) for it in sorted(near) if it <= whole + 1)
+    # each read and each write of the 121 bytes of a key fails once
+    yield from (("Other", after, 1, 114) for after in range(122))
+    steps = (1, 2, 3, 7, 100, 4095, 4096, 4097)
+    yield from itertools.product(["None"], [0], steps, (0, 4, 66, 300, *longer))
+    # contents of these lengths, in pieces of six sizes in turn
+    for length in (120, 200, 4096, 4097, 10000, 12001, 100000, 1000000, 1048575, 1048576):
+        yield from (("None", turn, 0, private_len_of(length)) for turn in range(6))
 
 
 def break_rows():
-    for how, after in itertools.product(KINDS, (0, 1, 2, 5, 11, 12)):
-        yield break_row(how, after, 4, 4)
-    for how in ("WouldBlock", "Interrupted", "Other"):
-        for step, after in itertools.product((1, 3, 100), range(13)):
-            yield break_row(how, after, step, 4)
-        for private_len in (4081, 4082, 4083, 5000, 8177, 8178, 8179):
-            whole = len(element(0x30, key(private_len)))
-            near = (4, 4096, 4100, 8192, whole)
-            for after in sorted({place + more for place in near for more in (-1, 0, 1)}):
-                if after <= whole + 1:
-                    yield break_row(how, after, 5000, private_len)
-    # each read and each write of the 121 bytes of a key fails once
-    for after in range(122):
-        yield break_row("Other", after, 1, 114)
-    lengths = (0, 4, 66, 300, 4081, 4082, 4083, 5000, 8177, 8178, 8179)
-    for step, private_len in itertools.product((1, 2, 3, 7, 100, 4095, 4096, 4097), lengths):
-        yield break_row("None", 0, step, private_len)
-    # contents of these lengths, in pieces of six sizes in turn
-    for length in (120, 200, 4096, 4097, 10000, 12001, 100000, 1000000, 1048575, 1048576):
-        for turn in range(6):
-            yield break_row("None", turn, 0, private_len_of(length))
+    return itertools.starmap(break_row, breaks())
 
 
 def encode_rows():
     """A key that is written into a slice of bytes AA: whether it fits, and whether it is a key."""
-    shapes = [(0, room) for room in range(10)]
-    shapes += [(count, len(element(0x30, key(count))) + more)
-               for count in (122, 123) for more in (-1, 0, 1)]
-    shapes += [(114, 130)]
-    for count, room in shapes:
+    near = [(count, len(element(0x30, key(count))) + more)
+            for count in (122, 123) for more in (-1, 0, 1)]
+    for count, room in [*((0, room) for room in range(10)), *near, (114, 130)]:
         der = element(0x30, key(count))
-        fits = len(der) <= room
-        left = der + b"\xAA" * (room - len(der)) if fits else b"\xAA" * room
-        result = str(len(der)) if fits else "Buffer"
-        is_read = "true" if fits and len(der) == room else "false"
-        yield f"encode {count} {room}", f"encode {result} {left.hex()} read {is_read}"
+        fits, is_read = len(der) <= room, str(len(der) == room).lower()
+        left = (der if fits else b"").ljust(room, b"\xAA").hex()
+        result = len(der) if fits else "Buffer"
+        yield f"encode {count} {room}", f"encode {result} {left} read {is_read}"
 
 
 # A key of P-256 with both fields, and without its curve (RFC 5915 section 3).
 PRIVATE = "69624171561a63340de0e7d869f2a05492558e1a04868b6a9f854a866788188d"
-PUBLIC = ("a144034200041cacffb55f2f2cefd89d89eb374b2681152452802deea09916068137d839cf7fc481a44492304d7ef66a"
-          "c117befe83a8d08f155f2b52f9f618dd447029048e0f")
+PUBLIC = ("a144034200041cacffb55f2f2cefd89d89eb374b2681152452802deea09916068137d839cf7fc481a4449230"
+          "4d7ef66ac117befe83a8d08f155f2b52f9f618dd447029048e0f")
 WHOLE = f"30770201010420{PRIVATE}a00a0608{CURVE}{PUBLIC}"
 WITHOUT_CURVE = f"306b0201010420{PRIVATE}{PUBLIC}"
 
@@ -179,13 +181,10 @@ def piece_row(how, after, step, data, error, taken):
     """Bytes over streams: by which error they are no document, if they are none, and how many of
     them are taken until then."""
     read = f"{error or sum_of(data)} of {taken}"
-    found = document_row(data)[1].split(" ")[1]
-    writes = f"Ok {sum_of(data)}"
-    if how != "None" and after < len(data):
-        writes = f"Io {sum_of(data[:after])}"
-    written = f"{writes}, {writes}" if found.isdigit() else f"no document, {found} 0 0"
+    found, writes = document_row(data)[1].split(" ")[1], written(how, after, data)
+    writes = f"{writes}, {writes}" if found.isdigit() else f"no document, {found} 0 0"
     asked = f"pieces {how} {after} {step} {data.hex()}"
-    return asked, f"pieces, {sum_of(data)}, {read}, {read}, {written}"
+    return asked, f"pieces, {sum_of(data)}, {read}, {read}, {writes}"
 
 
 def piece_rows():
@@ -218,7 +217,7 @@ def piece_rows():
 
 
 def document_rows():
-    """Documents, and whether the bytes are a tree; over a stream they are what they are in memory."""
+    """Documents, and whether the bytes are a tree: over a stream as in memory."""
     wrapped, octet = b"", element(4, b"\xAA")
     for level in range(64):
         wrapped = element(0x30, wrapped)
@@ -321,14 +320,11 @@ def tree_rows():
 
 
 def short_rows():
-    """For each first byte the lines of each list of up to two bytes, and of those with a third one."""
+    """For each first byte the lines of each list of up to two bytes, and with a third one."""
     for first in range(256):
-        begin = bytes([first])
-        rows = [document_row(b""), document_row(begin)]
-        for second in range(256):
-            for rest in (b"", b"\x00", b"\x05", b"\x80"):
-                rows.append(document_row(begin + bytes([second]) + rest))
-        yield rows
+        longer = (bytes([first, second]) + rest
+                  for second in range(256) for rest in (b"", b"\x00", b"\x05", b"\x80"))
+        yield [*map(document_row, [b"", bytes([first]), *longer])]
 
 
 def failed_rows():
@@ -396,12 +392,12 @@ def parts_rows():
 
 def text_row(size, text):
     """A text of a point has the digits of its encoding, all letters in one case."""
-    has_one_case = text in (text.lower(), text.upper())
-    is_even = len(text) % 2 == 0 and all(digit in "0123456789abcdefABCDEF" for digit in text)
-    encoding = bytes.fromhex(text) if has_one_case and is_even else b""
-    if parts_of(size, encoding) == "PointEncoding":
-        return f"text {size} {text}", "text PointEncoding PointEncoding none"
-    return f"text {size} {text}", f"text {encoding.hex()} {encoding.hex()} {encoding.hex().upper()}"
+    is_text = re.fullmatch("([0-9a-f]{2})*|([0-9A-F]{2})*", text)
+    digits = text.lower() if is_text else ""
+    said = f"{digits} {digits} {digits.upper()}"
+    if parts_of(size, bytes.fromhex(digits)) == "PointEncoding":
+        said = "PointEncoding PointEncoding none"
+    return f"text {size} {text}", f"text {said}"
 
 
 def text_rows():
@@ -409,8 +405,7 @@ def text_rows():
         yield text_row(1, text)
     whole = PUBLIC[10:]
     for text in (whole, "02" + "11" * 32, "04" + "11" * 32 + "22" * 32, whole[:66]):
-        yield text_row(32, text.upper())
-        yield text_row(32, text)
+        yield from (text_row(32, text.upper()), text_row(32, text))
 
 
 CURVES = {
