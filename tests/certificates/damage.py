@@ -5,14 +5,13 @@ so that the fault stands deeper, or there is none.
 import contextlib
 import random
 
+from certificates.reader import Elements
+
 COUNT = 20_000
 CONSTRUCTED = 0x20
 
 # Contents to try, by the tag: some are right, some aren't.
-INTEGERS = ["", "00", "01", "02", "03", "7f", "80", "ff"]
-INTEGERS += ["0000", "007f", "0080", "00ff", "ff00", "ff7f", "ff80", "ffff"]
 BITS = ["", "00", "01", "07", "08", "0041", "0140", "0141", "0780", "07c0", "0800", "ff00"]
-NAMES = ["", "00", "2a", "80", "2a80", "2a81", "8001", "2a8001", "2a8100", "2aff7f", "2a" * 60]
 UTC_TIMES = [
     "000229000000Z", "010229000000Z", "500101000000Z", "491231235959Z", "001301000000Z",
     "000001000000Z", "000100000000Z", "000132000000Z", "000431000000Z", "000101240000Z",
@@ -28,11 +27,12 @@ GENERALIZED_TIMES = [
 ]
 CONTENTS = {
     0x01: ["", "00", "01", "fe", "ff", "ffff"],
-    0x02: INTEGERS,
+    0x02: ["", "00", "01", "02", "03", "7f", "80", "ff", "0000", "007f", "0080", "00ff", "ff00",
+           "ff7f", "ff80", "ffff"],
     0x03: BITS,
     0x04: ["", "00"],
     0x05: ["", "00"],
-    0x06: NAMES,
+    0x06: ["", "00", "2a", "80", "2a80", "2a81", "8001", "2a8001", "2a8100", "2aff7f", "2a" * 60],
     0x17: [text.encode().hex() for text in UTC_TIMES],
     0x18: [text.encode().hex() for text in GENERALIZED_TIMES],
     0x81: BITS,
@@ -74,15 +74,8 @@ class Node:
 
 
 def parse(data):
-    nodes, at = [], 0
-    while at < len(data):
-        start, size = at + 2, data[at + 1]
-        if size >= 0x80:
-            start += size - 0x80
-            size = int.from_bytes(data[at + 2 : start], "big")
-        nodes.append(Node(data[at], data[start : start + size]))
-        at = start + size
-    return nodes
+    elements = Elements(data)
+    return [Node(data[elements.at], elements.read(None)) for _ in iter(elements.more, False)]
 
 
 class Damage(random.Random):
@@ -211,11 +204,11 @@ class Damage(random.Random):
         of_bytes = [self.change_byte, self.change_bit, self.take_byte_out, self.put_byte_in,
                     self.cut_off, self.append, self.double_part]
         of_elements = [
-            self.change_content, self.change_content, self.change_content, self.shorten_content,
-            self.lengthen_content, self.try_content, self.try_content, self.take_element_out,
-            self.repeat_element, self.swap_neighbours, self.put_element_in, self.put_false_in,
-            self.add_to_set, self.append_inside, self.empty_element, self.change_tag,
-            self.needless_digits, self.wrong_length, self.cut_inside,
+            *[self.change_content] * 3, self.shorten_content, self.lengthen_content,
+            *[self.try_content] * 2, self.take_element_out, self.repeat_element,
+            self.swap_neighbours, self.put_element_in, self.put_false_in, self.add_to_set,
+            self.append_inside, self.empty_element, self.change_tag, self.needless_digits,
+            self.wrong_length, self.cut_inside,
         ]
         change = self.choice(of_bytes + of_elements)
         (damaged,) = [bytearray(data)] if change in of_bytes else parse(data)

@@ -65,10 +65,10 @@ class Elements:
         demand(is_tag(found) if tag is None else found == tag, "Tag")
         return self.take(self.length())
 
-    def read_whole(self):
-        """Reads an element of any tag, whose content may be anything. Returns its bytes."""
+    def read_whole(self, check=lambda elements: elements.read(None)):
+        """Has this function read an element, by default any. Returns its bytes."""
         start = self.at
-        self.read(None)
+        check(self)
         return self.data[start : self.at]
 
     def finish(self):
@@ -83,12 +83,7 @@ class Elements:
 
     def each(self, check):
         """Has this function read each element, and returns their bytes."""
-        members = []
-        while self.more():
-            start = self.at
-            check(self)
-            members.append(self.data[start : self.at])
-        return members
+        return [self.read_whole(check) for _ in iter(self.more, False)]
 
 
 def digits(data):
@@ -132,26 +127,20 @@ def is_moment(year, text):
     return is_day and hour < 24 and minute < 60 and second < 60
 
 
-def utc_time(content):
-    """X.690 section 11.8 and RFC 5280 section 4.1.2.5.1: YYMMDDhhmmssZ."""
-    demand(re.fullmatch(rb"[0-9]{12}Z", content))
-    year = int(content[:2])
-    demand(is_moment(year + (2000 if year < 50 else 1900), content[2:12]))
-    return "u:" + content.decode()
-
-
-def generalized_time(content):
-    """X.690 section 11.7: YYYYMMDDhhmmssZ; a fraction of the second doesn't end in 0."""
-    demand(re.fullmatch(rb"[0-9]{14}(\.[0-9]*[1-9])?Z", content))
-    demand(is_moment(int(content[:4]), content[4:14]))
-    return "g:" + content.decode()
-
-
 def time(elements):
     """RFC 5280 section 4.1: Time, a UTCTime or else a GeneralizedTime."""
     if elements.is_next(UTC_TIME):
-        return utc_time(elements.read(UTC_TIME))
-    return generalized_time(elements.read(GENERALIZED_TIME))
+        # X.690 section 11.8 and RFC 5280 section 4.1.2.5.1: YYMMDDhhmmssZ
+        content = elements.read(UTC_TIME)
+        demand(re.fullmatch(rb"[0-9]{12}Z", content))
+        year = int(content[:2])
+        demand(is_moment(year + (2000 if year < 50 else 1900), content[2:12]))
+        return "u:" + content.decode()
+    # X.690 section 11.7: YYYYMMDDhhmmssZ; a fraction of the second doesn't end in 0
+    content = elements.read(GENERALIZED_TIME)
+    demand(re.fullmatch(rb"[0-9]{14}(\.[0-9]*[1-9])?Z", content))
+    demand(is_moment(int(content[:4]), content[4:14]))
+    return "g:" + content.decode()
 
 
 def algorithm(elements):
@@ -219,29 +208,24 @@ def optional(elements, tag, check):
     return check(elements.read(tag)) if elements.is_next(tag) else None
 
 
-def key(elements):
+def public_key_info(elements):
     """RFC 5280 section 4.1: SubjectPublicKeyInfo."""
     with elements.inside(SEQUENCE) as inside:
         return [*algorithm(inside), digits(bits(inside.read(BIT_STRING)))]
 
 
-def to_be_signed(elements):
-    """RFC 5280 section 4.1: TBSCertificate."""
-    with elements.inside(SEQUENCE) as inside:
-        fields = [str(version(inside)[0] + 1), digits(integer(inside.read(INTEGER)))]
-        fields += [":".join(algorithm(inside)), name(inside)]
-        with inside.inside(SEQUENCE) as validity:
-            fields += [time(validity), time(validity)]
-        fields += [name(inside), *key(inside)]
-        fields += [digits(optional(inside, tag, bits)) for tag in (0x81, 0x82)]
-        return [*fields, digits(optional(inside, 0xA3, extensions))]
-
-
 def certificate(elements):
-    """RFC 5280 section 4.1: Certificate."""
-    with elements.inside(SEQUENCE) as inside:
-        fields = to_be_signed(inside)
-        return [*fields, ":".join(algorithm(inside)), digits(bits(inside.read(BIT_STRING)))]
+    """RFC 5280 section 4.1: Certificate, of which a TBSCertificate is signed."""
+    with elements.inside(SEQUENCE) as outer:
+        with outer.inside(SEQUENCE) as inside:
+            fields = [str(version(inside)[0] + 1), digits(integer(inside.read(INTEGER)))]
+            fields += [":".join(algorithm(inside)), name(inside)]
+            with inside.inside(SEQUENCE) as validity:
+                fields += [time(validity), time(validity)]
+            fields += [name(inside), *public_key_info(inside)]
+            fields += [digits(optional(inside, tag, bits)) for tag in (0x81, 0x82)]
+            fields.append(digits(optional(inside, 0xA3, extensions)))
+        return [*fields, ":".join(algorithm(outer)), digits(bits(outer.read(BIT_STRING)))]
 
 
 def key_attribute(elements):
@@ -251,7 +235,7 @@ def key_attribute(elements):
         inside.read(SET)
 
 
-def private_key(elements):
+def private_key_info(elements):
     """RFC 5958 section 2: OneAsymmetricKey. Version 0 has no public key."""
     with elements.inside(SEQUENCE) as inside:
         number = inside.read(INTEGER)
@@ -268,20 +252,12 @@ def signature(elements):
         return [digits(unsigned(inside.read(INTEGER))) for _ in range(2)]
 
 
-READERS = {
-    "certificate": certificate,
-    "public-key-info": key,
-    "private-key-info": private_key,
-    "signature": signature,
-}
-
-
 def answer(line):
-    """Returns what crates/replay has to print for a line."""
+    """Returns what crates/replay has to print for a line. The function of a word has its name."""
     word, text = line.split(" ")
     elements = Elements(bytes.fromhex(text))
     try:
-        fields = READERS[word](elements)
+        fields = globals()[word.replace("-", "_")](elements)
         elements.finish()
     except Refused as refused:
         return f"refused: {refused.args[0]}"

@@ -32,13 +32,9 @@ def private_key_info(version, name, parameters, key, attributes, public):
     return element(0x30, head, tail)
 
 
-def number(field):
-    digits = data(field)
-    return element(0x02, b"\0" if digits[0] >= 0x80 else b"", digits)
-
-
-def signature(r, s):
-    return element(0x30, number(r), number(s))
+def signature(*numbers):
+    digits = map(data, numbers)
+    return element(0x30, *(element(0x02, b"\0" * (it[0] >= 0x80), it) for it in digits))
 
 
 def time(field):
@@ -59,13 +55,6 @@ def certificate(version, serial, inner, issuer, start, end, subject, *others):
     return element(0x30, signed, algorithm(*outer.split(":")), element(0x03, data(bits)))
 
 
-WRITERS = {
-    "certificate": certificate,
-    "public-key-info": public_key_info,
-    "private-key-info": private_key_info,
-    "signature": signature,
-}
-
-
 def write(word, fields):
-    return WRITERS[word](*fields)
+    """Writes the structure by the function that has its name."""
+    return globals()[word.replace("-", "_")](*fields)
