@@ -27,10 +27,8 @@ def lines_of(name):
 def pairs(kind):
     """Returns the lines of a kind that the program reads, each with the one that it prints."""
     asked = [line for line in lines_of("stdin") if not line.startswith("#")]
-    printed = lines_of("stdout")
-    if len(asked) != len(printed):
-        raise ValueError(f"{len(asked)} lines are stored, and {len(printed)} for them")
-    return [pair for pair in zip(asked, printed) if kind_of(pair[0]) == kind]
+    pairs = zip(asked, lines_of("stdout"), strict=True)
+    return [pair for pair in pairs if kind_of(pair[0]) == kind]
 
 
 def stored(name, kind):

@@ -59,8 +59,7 @@ def test_answers_by_hand():
 
 
 def test_number_of_stored_keys():
-    lines = [it for it in stored.stored("stdin", "keys") if not it.startswith("#")]
-    assert len(lines) == 656 + 2000 + 135
+    assert len(stored.pairs("keys")) == 656 + 2000 + 135
 
 
 @pytest.fixture(scope="module")
@@ -69,12 +68,8 @@ def copies():
     made each other value; and what the reader says of them."""
     (key,) = (bytes.fromhex(it) for it in BY_HAND if it.startswith("307702"))
     changed = [key[:count] for count in range(len(key))] + [key + b"\0"]
-    changed += [
-        key[:place] + bytes([other]) + key[place + 1 :]
-        for place, byte in enumerate(key)
-        for other in range(256)
-        if other != byte
-    ]
+    changed += [key[:place] + bytes([other]) + key[place + 1 :]
+                for place, byte in enumerate(key) for other in range(256) if other != byte]
     lines = [f"{stored.KEY} {it.hex().upper()}" for it in changed]
     return lines, [*map(answer, lines)]
 
@@ -91,15 +86,10 @@ def test_number_of_changed_copies(copies):
 
 
 def test_openssl_finds_the_private_keys(tmp_path):
-    keys = [it for it in MADE if not it.startswith("#")][:80]
-    said = [it.split(" ")[0] for it in stored.stored("stdout", "keys")[:80]]
-    pairs = [(key, private) for key, private in zip(keys, said) if private != "refused:"]
-    found = [key for key, private in pairs if private in octets(tmp_path / "key", key)]
-    assert pairs and found == [key for key, _ in pairs]
-
-
-def octets(file, key):
-    """Returns the octet strings that OpenSSL finds in a key."""
-    file.write_bytes(bytes.fromhex(key))
-    lines = lines_of("openssl", "asn1parse", "-inform", "DER", "-in", file)
-    return [it.rpartition(":")[2] for it in lines if "OCTET STRING" in it]
+    command = ["openssl", "asn1parse", "-inform", "DER", "-in", tmp_path / "key"]
+    pairs = [it for it in stored.pairs("keys")[:80] if not it[1].startswith("refused")]
+    assert pairs
+    for line, said in pairs:
+        (tmp_path / "key").write_bytes(bytes.fromhex(line.split(" ")[1]))
+        octets = [it.rpartition(":")[2] for it in lines_of(*command) if "OCTET STRING" in it]
+        assert said.split(" ")[0] in octets

@@ -75,19 +75,19 @@ def private_len_of(length):
     return next(it for it in range(length - 16, length) if len(key(it)) == length)
 
 
+def beside(*numbers):
+    """These numbers, each between those one less and one more."""
+    return [it + more for it in numbers for more in (-1, 0, 1)]
+
+
 def key_shapes():
     """The private key's length, the curve and the public key's length."""
     yield from itertools.product(LENGTHS, (None, CURVE), (None, 65))
-    # contents of a whole number of steps, one byte less and one more
-    for steps in (1, 2, 3, 25):
-        for more in (-1, 0, 1):
-            yield private_len_of(steps * GROWTH + more), None, None
-    # each length up to 140, and those beside powers of two
-    powers = (2**place + more for place in range(8, 17) for more in (-1, 0, 1))
-    for count in sorted({*range(141), *powers}):
-        yield count, None, None
-    yield 0, None, 0
-    yield 0, CURVE, 100000
+    # contents of a whole number of steps; each length up to 140, and those beside powers of two
+    counts = [private_len_of(it) for it in beside(*(steps * GROWTH for steps in (1, 2, 3, 25)))]
+    counts += sorted({*range(141), *beside(*(2**place for place in range(8, 17)))})
+    yield from ((count, None, None) for count in counts)
+    yield from [(0, None, 0), (0, CURVE, 100000)]
 
 
 def shape(count, curve, public_len):
@@ -142,8 +142,8 @@ def breaks():
         yield from ((how, after, step, 4) for step in (1, 3, 100) for after in range(13))
         for private_len in longer:
             whole = len(element(0x30, key(private_len)))
-            near = {it + more for it in (4, 4096, 4100, 8192, whole) for more in (-1, 0, 1)}
-            yield from ((how, it, 5000, private_len) for it in sorted(near) if it <= whole + 1)
+            near = sorted({*beside(4, 4096, 4100, 8192, whole)})
+            yield from ((how, it, 5000, private_len) for it in near if it <= whole + 1)
     # each read and each write of the 121 bytes of a key fails once
     yield from (("Other", after, 1, 114) for after in range(122))
     steps = (1, 2, 3, 7, 100, 4095, 4096, 4097)
@@ -159,8 +159,7 @@ def break_rows():
 
 def encode_rows():
     """A key that is written into a slice of bytes AA: whether it fits, and whether it is a key."""
-    near = [(count, len(element(0x30, key(count))) + more)
-            for count in (122, 123) for more in (-1, 0, 1)]
+    near = [(count, it) for count in (122, 123) for it in beside(len(element(0x30, key(count))))]
     for count, room in [*((0, room) for room in range(10)), *near, (114, 130)]:
         der = element(0x30, key(count))
         fits, is_read = len(der) <= room, str(len(der) == room).lower()
@@ -235,11 +234,10 @@ def document_rows():
         ("3006020200010400", "8 3"), ("30110201010400a00406022a03a00406022a03", "19 7"),
         ("3081050201010400", "Length Length"),
     ]
-    for inner in (wrapped, octet):
-        outer = element(0x30, inner)
+    for outer in (element(0x30, wrapped), element(0x30, octet)):
         tests += [(outer.hex(), f"{len(outer)} Depth")]
     for tag in range(256):
-        for der in (bytes([tag, 0]), element(tag, element(4, bytes(130)))):
+        for der in (element(tag), element(tag, element(4, bytes(130)))):
             # of a constructed element the content is one element more (X.690 section 8.1.2.5)
             count = 1 + (tag & 0x20 != 0 and len(der) > 2)
             is_tag = tag != 0 and tag % 32 != 31
@@ -335,8 +333,8 @@ def failed_rows():
         ("1f000400", "Tag"), ("048105aabbccddee", "Length"),
     ):
         yield f"failed {digits}", f"failed {kind} {after}"
-    yield "failed 0400", "failed Ok false None Truncated Failed Failed Failed Failed true"
-    yield "failed 04000500", "failed Ok false Some(5) Tag Failed Failed Failed Failed true"
+    for digits, said in (("0400", "None Truncated"), ("04000500", "Some(5) Tag")):
+        yield f"failed {digits}", f"failed Ok false {said} Failed Failed Failed Failed true"
 
 
 TAGS = ("Identity", "", "CompressedEvenY", "CompressedOddY", "Uncompressed", "Compact",
@@ -372,17 +370,13 @@ def part_encodings():
         yield 2, bytes.fromhex(digits)
     yield from points()
     for size in (28, 32, 48, 66):
-        yield size, b"\2\1" + bytes(size - 1)
-        yield size, b"\3\2" + bytes(size - 1)
-        compressed, whole = b"\2" + b"\x11" * size, b"\4" + b"\x11" * size + b"\x22" * size
-        for point in (compressed, whole):
-            yield size, point
-            yield size, point + b"\0"
-            for first in range(256):
-                if size == 32 or first < 9:
-                    yield size, bytes([first]) + point[1:]
-            for count in range(len(point) if size == 32 else 3):
-                yield size, point[:count]
+        encodings = [b"\2\1" + bytes(size - 1), b"\3\2" + bytes(size - 1)]
+        for point in (b"\2" + b"\x11" * size, b"\4" + b"\x11" * size + b"\x22" * size):
+            encodings += [point, point + b"\0"]
+            # of 32 bytes with each first byte, and each beginning
+            encodings += [bytes([it]) + point[1:] for it in range(256 if size == 32 else 9)]
+            encodings += [point[:it] for it in range(len(point) if size == 32 else 3)]
+        yield from ((size, encoding) for encoding in encodings)
 
 
 def parts_rows():

@@ -205,7 +205,7 @@ def version(elements):
 
 
 def optional(elements, tag, check):
-    return check(elements.read(tag)) if elements.is_next(tag) else None
+    return digits(check(elements.read(tag))) if elements.is_next(tag) else "-"
 
 
 def public_key_info(elements):
@@ -223,8 +223,8 @@ def certificate(elements):
             with inside.inside(SEQUENCE) as validity:
                 fields += [time(validity), time(validity)]
             fields += [name(inside), *public_key_info(inside)]
-            fields += [digits(optional(inside, tag, bits)) for tag in (0x81, 0x82)]
-            fields.append(digits(optional(inside, 0xA3, extensions)))
+            fields += [optional(inside, tag, bits) for tag in (0x81, 0x82)]
+            fields.append(optional(inside, 0xA3, extensions))
         return [*fields, ":".join(algorithm(outer)), digits(bits(outer.read(BIT_STRING)))]
 
 
@@ -241,9 +241,8 @@ def private_key_info(elements):
         number = inside.read(INTEGER)
         demand(number in (V1, V2))
         fields = [str(number[0]), *algorithm(inside), digits(inside.read(OCTET_STRING))]
-        attributes = optional(inside, 0xA0, lambda content: set_of(content, key_attribute))
-        public = optional(inside, 0x81, bits) if number == V2 else None
-    return [*fields, digits(attributes), digits(public)]
+        fields.append(optional(inside, 0xA0, lambda content: set_of(content, key_attribute)))
+        return [*fields, optional(inside, 0x81, bits) if number == V2 else "-"]
 
 
 def signature(elements):

@@ -3,8 +3,6 @@ line that says what was done."""
 import random
 import sys
 
-HEAD = 8
-
 
 def damage(numbers, data):
     """Returns what is done to the bytes, and what they are then."""
@@ -12,7 +10,8 @@ def damage(numbers, data):
     kind = numbers.randrange(10)
     if kind <= 2:
         # headers stand at the beginning, and behind the private key
-        place = numbers.choice([numbers.randrange(HEAD), len(data) // 2 - 4 + numbers.randrange(8), place])
+        starts = [0, len(data) // 2 - 4]
+        place = numbers.choice([*(it + numbers.randrange(8) for it in starts), place])
         data[place] = (data[place] + numbers.choice([1, 255, 0x80, 0x20])) % 256
         return f"byte {place} changed", data
     if kind == 3:
@@ -42,8 +41,7 @@ def damage(numbers, data):
 
 def copies(lines):
     """Returns the lines of the damaged copies of the keys in these lines."""
-    keys = [bytes.fromhex(line) for line in lines if not line.startswith("#")]
-    keys = [key for key in keys if len(key) <= 129]
+    keys = [bytes.fromhex(it) for it in lines if not it.startswith("#") and len(it) <= 2 * 129]
     numbers, seen = random.Random(2026), dict.fromkeys(keys)
     while len(seen) < 2_000 + len(set(keys)):
         what, data = damage(numbers, bytearray(numbers.choice(keys)))

@@ -6,7 +6,7 @@ LIMIT = 0x0FFFFFFF
 
 
 class Refused(Exception):
-    """The bytes are no key; the arguments are the kind of the refusal and the offset of the fault."""
+    """The bytes are no key; the arguments are the kind of the refusal and the fault's offset."""
 
 
 def demand(holds, kind, at):
