@@ -5,7 +5,8 @@ what the key below them is.
 
 import pathlib
 
-CRATE = pathlib.Path(__file__).resolve().parent.parent / "crates/replay"
+TESTS = pathlib.Path(__file__).resolve().parent
+CRATE = TESTS.parent / "crates/replay"
 KINDS = ("keys", "certificates", "calls")
 KEY = "ec-private-key"
 STRUCTURES = ("certificate", "private-key-info", "public-key-info", "signature")
@@ -19,22 +20,22 @@ def kind_of(line):
     return "certificates" if word in STRUCTURES else "calls"
 
 
-def lines_of(name):
-    """Returns all lines of a stored file."""
-    return (CRATE / name).read_text().splitlines()
+def lines_in(file):
+    """Returns the lines of a file in tests/, but for those that say what the next one is."""
+    return [it for it in (TESTS / file).read_text().splitlines() if not it.startswith("#")]
 
 
 def pairs(kind):
     """Returns the lines of a kind that the program reads, each with the one that it prints."""
-    asked = [line for line in lines_of("stdin") if not line.startswith("#")]
-    pairs = zip(asked, lines_of("stdout"), strict=True)
-    return [pair for pair in pairs if kind_of(pair[0]) == kind]
+    every = zip(lines_in(CRATE / "stdin"), lines_in(CRATE / "stdout"), strict=True)
+    return [pair for pair in every if kind_of(pair[0]) == kind]
 
 
 def stored(name, kind):
     """Returns the lines of a kind in a stored file."""
     if name == "stdin":
-        return [line for line in lines_of(name) if kind_of(line) == kind]
+        lines = (CRATE / name).read_text().splitlines()
+        return [line for line in lines if kind_of(line) == kind]
     return [said for _, said in pairs(kind)]
 
 

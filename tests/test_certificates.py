@@ -10,15 +10,9 @@ import pytest
 import stored
 from certificates import damage, sizes
 from certificates.reader import answer
-from conftest import TOP
+from stored import lines_in
 
 pytestmark = [pytest.mark.built, pytest.mark.slow]
-
-
-def lines_in(name):
-    """Returns the lines of a file of certificates/, but for those that say what the next one is."""
-    lines = (TOP / "tests/certificates" / name).read_text().splitlines()
-    return [it for it in lines if not it.startswith("#")]
 
 
 @pytest.fixture
@@ -34,7 +28,8 @@ def compare(replay, tell):
 
 
 def test_structures_of_openssl(compare):
-    compare(lines_in("openssl.txt"), [f"{it} same" for it in lines_in("fields.txt")])
+    found = [f"{it} same" for it in lines_in("certificates/fields.txt")]
+    compare(lines_in("certificates/openssl.txt"), found)
 
 
 # In these files a structure is followed by the line for it.
@@ -43,7 +38,7 @@ BY_HAND = "hand.txt", "times.txt"
 
 @pytest.mark.parametrize("name", BY_HAND)
 def test_structures_by_hand(compare, name):
-    lines = lines_in(name)
+    lines = lines_in(f"certificates/{name}")
     compare(lines[::2], lines[1::2])
 
 
@@ -52,12 +47,12 @@ def test_contents_of_many_sizes(compare):
 
 
 def test_damaged_structures(compare):
-    compare(damage.copies(lines_in("openssl.txt")))
+    compare(damage.copies(lines_in("certificates/openssl.txt")))
 
 
 @pytest.mark.parametrize("at, name", enumerate(["stdin", "stdout"]))
 def test_stored_structures(pytestconfig, at, name):
-    lines = [it for file in BY_HAND for it in lines_in(file)]
+    lines = [it for file in BY_HAND for it in lines_in(f"certificates/{file}")]
     if pytestconfig.getoption("--write"):
         stored.write("certificates", lines[::2], lines[1::2])
     assert stored.stored(name, "certificates") == lines[at::2]

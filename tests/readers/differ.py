@@ -25,11 +25,6 @@ def text_of(path):
     return (TOP / path).read_text()
 
 
-def lines_of(path):
-    """Returns the lines of a file of the repository, but for those that begin with `#`."""
-    return [line for line in text_of(path).splitlines() if not line.startswith("#")]
-
-
 def load(path, text=None):
     """Returns the module of a file, with this text in the place of its own."""
     module = types.ModuleType(pathlib.Path(path).stem)
@@ -54,8 +49,8 @@ def differs_on_certificates(path, text):
     reader, writer = (
         load(file, text if file == path else None) for file in READERS if "certificates" in file)
     reader.writer = writer
-    found = [f"{line} same" for line in lines_of("tests/certificates/fields.txt")]
-    pairs = stored.pairs("certificates") + [*zip(lines_of("tests/certificates/openssl.txt"), found)]
+    asked, found = (stored.lines_in(f"certificates/{it}.txt") for it in ("openssl", "fields"))
+    pairs = stored.pairs("certificates") + [(one, f"{it} same") for one, it in zip(asked, found)]
     return any(reader.answer(line) != said for line, said in pairs)
 
 
