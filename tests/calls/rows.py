@@ -96,15 +96,15 @@ def shape(count, curve, public_len):
 
 
 def key_rows(is_refused):
-    for count, curve, public_len in key_shapes():
-        content = key(count, curve, public_len)
+    names = """to_der document_ref document encode_msg from_der read_der_from from_sec1_der
+        read_sec1_der_from to_sec1_der write_sec1_der_to""".split()
+    for lengths in key_shapes():
+        content = key(*lengths)
         result = sum_of(element(0x30, content))
         growth = (len(content) + GROWTH - 1) // GROWTH
-        requests = {"to_der": 1, "document_ref": 1, "document": 1, "encode_msg": 1, "from_der": 1}
-        requests |= {"read_der_from": growth, "from_sec1_der": 1, "read_sec1_der_from": growth + 1}
-        requests |= {"to_sec1_der": 1, "write_sec1_der_to": 1}
-        calls = [(f"{name} {result}", number) for name, number in requests.items()]
-        yield f"key {shape(count, curve, public_len)}", line("key", calls, is_refused)
+        requests = {"read_der_from": growth, "read_sec1_der_from": growth + 1}
+        calls = [(f"{name} {result}", requests.get(name, 1)) for name in names]
+        yield f"key {shape(*lengths)}", line("key", calls, is_refused)
 
 
 def written(how, after, data):
@@ -151,10 +151,6 @@ def breaks():
     # contents of these lengths, in pieces of six sizes in turn
     for length in (120, 200, 4096, 4097, 10000, 12001, 100000, 1000000, 1048575, 1048576):
         yield from (("None", turn, 0, private_len_of(length)) for turn in range(6))
-
-
-def break_rows():
-    return itertools.starmap(break_row, breaks())
 
 
 def encode_rows():
@@ -379,9 +375,8 @@ def part_encodings():
         yield from ((size, encoding) for encoding in encodings)
 
 
-def parts_rows():
-    for size, encoding in part_encodings():
-        yield f"parts {size} {encoding.hex()}", parts_of(size, encoding)
+def parts_row(size, encoding):
+    return f"parts {size} {encoding.hex()}", parts_of(size, encoding)
 
 
 def text_row(size, text):
@@ -451,8 +446,7 @@ def show_rows():
 def rows(is_refused=False):
     """Each line of the stored input, and its line of the output: as it is where requests for memory
     are refused, or with memory to spare."""
-    yield from point_rows(is_refused)
-    yield from key_rows(is_refused)
-    for rows_of in (break_rows, piece_rows, encode_rows, document_rows, failed_rows, parts_rows,
-                    text_rows, show_rows):
-        yield from rows_of()
+    return itertools.chain(
+        point_rows(is_refused), key_rows(is_refused), itertools.starmap(break_row, breaks()),
+        piece_rows(), encode_rows(), document_rows(), failed_rows(),
+        itertools.starmap(parts_row, part_encodings()), text_rows(), show_rows())
