@@ -157,7 +157,7 @@ def draw(given, everything=False, as_json=False, path=None, offset=0, depth=None
         if data is not None and offset:
             data, said = element_at(data, offset), [f"No element begins at offset {offset}."]
         if data is None:
-            lines += said + (["  " + command] if command else [])
+            lines += [*said, *(["  " + command] if command else [])]
             values.append(last_of(False, said, command))
             continue
         # no command reads a part of a file
