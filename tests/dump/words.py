@@ -86,8 +86,8 @@ class Words:
         return f"{known or many}: no DER."
 
     def is_damaged(self, row):
-        """Returns whether a row says what no command repairs: neither lengths and strings as in BER,
-        nor bytes after the root, nor a curve that is given by its parameters."""
+        """Returns whether a row says what no command repairs: neither lengths and strings as in
+        BER, nor bytes after the root, nor a curve that is given by its parameters."""
         kinds = {kind for kind, _ in row.marks}
         if row.kind == "not drawn" and "rest" not in kinds:
             return True
@@ -190,22 +190,21 @@ class Words:
         return self.version() == 1 and not has_unused and is_curve
 
     def say_sizes(self):
-        """Says which lengths don't fit the curve. Returns whether a key fits, as far as is known."""
-        size, order = SIZES.get(self.curve()[0], (None, None))
+        """Says which lengths don't fit the curve. Returns whether a key fits, as far as known."""
+        name, point, fits, count = self.curve()[0], self.find("the point"), True, len(self.lines)
+        size, order = SIZES.get(name, (None, None))
         depth = {"ECPrivateKey": 1, "ec8": 3}.get(self.form)
         key = self.find("privateKey", depth) if depth else None
-        point, fits, count = self.find("the point"), True, len(self.lines)
         if size and key and key.stop - key.start != order and not key.opened:
             there = count_of(key.stop - key.start)
-            self.lines.append(f"Its private key has {there}, where {self.curve()[0]} has {order}.")
+            self.lines.append(f"Its private key has {there}, where {name} has {order}.")
         if point and point.shown > 1:
             unused, form = self.content(point)[:2]
             wanted, there = {2: size, 3: size}.get(form, 2 * (size or 0)), point.head.length - 2
             is_plain = form in (2, 3, 4, 6, 7)
             fits = is_plain and unused == 0
             if size and is_plain and there != wanted:
-                self.lines.append(
-                    f"Its point has {count_of(there)}, where {self.curve()[0]} has {wanted}.")
+                self.lines.append(f"Its point has {count_of(there)}, where {name} has {wanted}.")
         return fits and count == len(self.lines)
 
 
