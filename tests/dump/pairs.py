@@ -1,9 +1,9 @@
 #!/usr/bin/env python3
-"""Pairs of damaged keys, alone and in containers: two keys that differ in their private bytes alone,
-damaged in the same way. `sec1_dump` must print the same of both, as text and as JSON, unless the
-damage made headers of private bytes in a whole tree, as the second reader sees it too. No four private
-bytes in a row may be in what is printed, but for such headers, nor in a content that the library for
-C says isn't hidden.
+"""Pairs of damaged keys, alone and in containers: two keys that differ in their private bytes
+alone, damaged in the same way. `sec1_dump` must print the same of both, as text and as JSON, unless
+the damage made headers of private bytes in a whole tree, as the second reader sees it too. No four
+private bytes in a row may be in what is printed, but for such headers, nor in a content that the
+library for C says isn't hidden.
 
     tests/dump/pairs.py [PROGRAM]   draws 200,000 pairs
 
@@ -23,6 +23,7 @@ import tempfile
 import picture
 import programs
 from ber import Header, NoElement, is_tree
+from table import arcs_of
 
 TESTS = pathlib.Path(__file__).resolve().parent.parent
 # so many pairs in batches of so many, which are blocks of PEM; each 50th batch is files of DER too
@@ -46,15 +47,16 @@ def sequence(*contents):
     return element(0x30, *contents)
 
 
-def identifier(digits):
-    """Returns the OBJECT IDENTIFIER with this content."""
-    return element(6, bytes.fromhex(digits))
+def identifier(dotted):
+    """Returns an OBJECT IDENTIFIER."""
+    return element(6, arcs_of(dotted))
 
 
-EC, ED25519, X25519 = map(identifier, ("2A8648CE3D0201", "2B6570", "2B656E"))
+EC, ED25519, X25519, BAG, DATA = map(identifier, (
+    "1.2.840.10045.2.1", "1.3.101.112", "1.3.101.110", "1.2.840.113549.1.12.10.1.1",
+    "1.2.840.113549.1.7.1"))
 CURVES = [*map(identifier, (
-    "2A8648CE3D030107", "2B81040022", "2B8104000A", "2B2403030208010107"))]
-BAG, DATA = map(identifier, ("2A864886F70D010C0A0101", "2A864886F70D010701"))
+    "1.2.840.10045.3.1.7", "1.3.132.0.34", "1.3.132.0.10", "1.3.36.3.3.2.8.1.1.7"))]
 
 
 def ec_key(source, private, is_inside=False):
@@ -111,8 +113,8 @@ def public(source):
     return sequence(sequence(EC, CURVES[0]), element(3, b"\0\4", source.randbytes(64)))
 
 
-# What a key is in: AsymmetricKeyPackage (RFC 5958), SafeContents and SafeBag (RFC 7292), data of CMS
-# (RFC 5652), a SEQUENCE of an OCTET STRING; and what it is behind, or before.
+# What a key is in: AsymmetricKeyPackage (RFC 5958), SafeContents and SafeBag (RFC 7292), data of
+# CMS (RFC 5652), a SEQUENCE of an OCTET STRING; and what it is behind, or before.
 AROUND = [
     *[lambda source, key: key] * 3,
     lambda source, key: sequence(key),
@@ -123,8 +125,8 @@ AROUND = [
     lambda source, key: public(source) + key,
     lambda source, key: key + public(source),
 ]
-# How a key is made of its private parts: an EC key, one in PKCS #8, one of Ed25519, an OCTET STRING,
-# RSA, DSA.
+# How a key is made of its private parts: an EC key, one in PKCS #8, one of Ed25519, an OCTET
+# STRING, RSA, DSA.
 KEYS = [*[ec_key] * 5, *[container] * 2, edwards, lambda _, private: element(4, private), rsa, dsa]
 
 
@@ -186,16 +188,13 @@ def damaged(source, one, other, hidden):
         at = source.choice(places[:24] if source.randrange(2) else places)
         after = at + 1
         if kind not in (6, 7):
-            put = bytes([changed(source, one[at])])
+            # any byte, one of headers, or the same with another bit
+            put = bytes([source.randrange(256)])
+            if source.randrange(2):
+                put = bytes([source.choice(HEADS)])
+            elif source.randrange(2):
+                put = bytes([one[at] ^ 1 << source.randrange(8)])
     return tuple(key[:at] + put + key[after:] for key in (one, other))
-
-
-def changed(source, byte):
-    """Returns what is put in the place of a byte: any, one of headers, or it with another bit."""
-    other = source.randrange(256)
-    if source.randrange(2):
-        return source.choice(HEADS)
-    return byte ^ 1 << source.randrange(8) if source.randrange(2) else other
 
 
 def pairs(count, seed, private=None):
@@ -215,8 +214,8 @@ def runs(data):
 
 
 def shown_runs(text):
-    """Yields each four bytes that a text has: in hexadecimal, as characters, in base64, as escapes of
-    a picture or of JSON."""
+    """Yields each four bytes that a text has: in hexadecimal, as characters, in base64, as escapes
+    of a picture or of JSON."""
     for digits in re.findall(r"(?:[0-9A-Fa-f]{2} ?){4,}", text):
         yield from runs(bytes.fromhex(digits))
     for quoted in re.findall(r'"(?:[^"\\\n]|\\.)*', text):
@@ -230,8 +229,8 @@ def shown_runs(text):
 
 
 def shows_private(printed, private, pair):
-    """Returns whether private bytes of the first of two inputs are in what is printed of it, but for
-    those in headers that the second reader sees too: the damage made them of private bytes."""
+    """Returns whether private bytes of the first of two inputs are in what is printed of it, but
+    for those in headers that the second reader sees too: the damage made them of private bytes."""
     # bytes of one key may be in what is printed of another by chance
     seen, (one, other) = private.intersection(shown_runs(printed)), pair
     if not seen:
@@ -313,12 +312,11 @@ def main(arguments):
                 for pair, one, other in zip(batch, ones, others):
                     may_differ = one != other and bool(one and other) and is_excused(pair)
                     excused += may_differ
-                    if not one or one != other and not may_differ:
+                    is_wrong = not one or one != other and not may_differ
+                    if is_wrong or shows_private(one, private, pair):
                         wrong.add(pair)
-                    elif shows_private(one, private, pair):
-                        wrong.add(pair)
-            for pair in wrong:
-                print("FAILED: private bytes are shown:", *(data.hex() for data in pair), flush=True)
+            for one, other in wrong:
+                print("FAILED: private bytes are shown:", one.hex(), other.hex(), flush=True)
             passed, failed = passed + len(batch) - len(wrong), failed + len(wrong)
     if excused > PAIRS // 250:
         print(f"FAILED: {excused} pairs differ for the second reader too")
