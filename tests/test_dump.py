@@ -38,6 +38,9 @@ PROGRAM = TOP / "crates/sec1_dump/out/sec1_dump"
 LIMIT = 16_777_215
 MEGABYTE = 1 << 20
 KEY = shapes.KEY
+# The key in PKCS #8, as OpenSSL writes it: its curve is that of the container.
+PKCS8 = sequence(shapes.ZERO, shapes.algorithm_of("1.2.840.10045.2.1", KEY[41:51]),
+                 element(4, sequence(KEY[2:39], KEY[51:])))
 
 
 def run(arguments, given=b"", **more):
@@ -54,9 +57,9 @@ def drawn(given, options=(), path=None, **part):
 
 
 def compare(tell, cases, *asked, **part):
-    """Compares what is printed of inputs, or of a part of each, which are files of one run: a name
-    and the bytes of each."""
-    names, given = zip(*cases)
+    """Compares what is printed of inputs, or of a part of each, which are files of one run: the
+    name and the bytes of each, before what else a case has."""
+    names, given, *_ = zip(*cases)
     for options in ([], ["--all"], ["--json"], ["--all", "--json"]):
         options = [*options, *asked]
         found = programs.outputs(PROGRAM, options, given)
@@ -75,15 +78,15 @@ def test_drawn(tell):
     lines = run(["--json"], KEY[:60])[0].splitlines()
     for number, line in JSON.items():
         tell(f"line {number} of JSON", lines[number - 1] == line)
-    compare(tell, ((name, data) for name, data, *_ in by_hand))
+    compare(tell, by_hand)
 
 
 # Of a key that is cut off after 60 bytes: what docs/FORMATS.md says of the members.
 JSON = {
     1: '{"bytes":60,"form":"der"}',
-    2: '{"announced":119,"class":"universal","constructed":true,"depth":0,"faults":[{"kind":"missing",'
-    '"words":"61 of 119 bytes missing"}],"header_len":2,"len":58,"name":"ECPrivateKey","offset":0,'
-    '"tag":16,"type":"SEQUENCE"}',
+    2: '{"announced":119,"class":"universal","constructed":true,"depth":0,"faults":[{"kind":'
+    '"missing","words":"61 of 119 bytes missing"}],"header_len":2,"len":58,"name":"ECPrivateKey",'
+    '"offset":0,"tag":16,"type":"SEQUENCE"}',
     4: '{"class":"universal","constructed":false,"depth":1,"header_len":2,"len":32,'
     '"name":"privateKey","offset":5,"secret":true,"tag":4,"type":"OCTET STRING"}',
     7: '{"depth":1,"header_len":0,"len":9,"offset":51,"type":"not drawn"}',
@@ -114,7 +117,7 @@ def test_advice(tell, tmp_path):
             tell(f"the command for {name}", done == (name not in advice.UNREAD))
         if name in ASN1:
             tell(f"{name}: the rows of OpenSSL", rows.are_openssl(PROGRAM, data))
-    compare(tell, ((name, data) for name, data, _ in cases))
+    compare(tell, cases)
 
 
 # How the commands of OpenSSL are told that a file is DER, or PEM.
@@ -135,10 +138,8 @@ ASN1 = """
 
 def test_readme(tell):
     """The pictures in the README of the program, each below a line that names its input."""
-    inputs = {
-        "A key with another tag for the private key": KEY[:5] + b"\6" + KEY[6:],
-        "A key in PKCS #8": pkcs8(),
-    }
+    inputs = {"A key with another tag for the private key": KEY[:5] + b"\6" + KEY[6:],
+              "A key in PKCS #8": PKCS8}
     text = (TOP / "crates/sec1_dump/README.md").read_text()
     shown = dict(re.findall(r"^(.+):\n\n```text\n((?:(?!```).*\n)*)```$", text, re.M))
     tell("the inputs of the README", shown.keys() == inputs.keys())
@@ -147,15 +148,8 @@ def test_readme(tell):
         tell(f"the reader's picture: {name}", drawn(data)[0] == shown.get(name))
 
 
-def pkcs8():
-    """Returns the key in PKCS #8, as OpenSSL writes it: its curve is that of the container."""
-    algorithm = shapes.algorithm_of("1.2.840.10045.2.1", KEY[41:51])
-    return sequence(shapes.ZERO, algorithm, element(4, sequence(KEY[2:39], KEY[51:])))
-
-
 def test_commands(tell):
-    """Each command that is printed stands in docs/REFUSED.md, whose commands are run, or makes DER of
-    the parts of a text."""
+    """Each command that is printed stands in docs/REFUSED.md, whose commands are run."""
     page = (TOP / "docs/REFUSED.md").read_text()
     for command in (
         *(words.EC % (form, "") for form in FORMS), words.EC % ("-inform DER ", words.EXPLICIT),
@@ -166,7 +160,7 @@ def test_commands(tell):
 
 
 def test_words(tell):
-    """What is said of each form that is whole stands in docs/FORMATS.md: what it is, and its end."""
+    """What is said of each form that is whole stands in docs/FORMATS.md."""
     page = (TOP / "docs/FORMATS.md").read_text()
     front = r"This is PKCS #8 \(RFC 5958\) |These are (?:two )?INTEGERs, as of |This is "
     for form in table.ALL:
@@ -240,7 +234,7 @@ def test_parts(tell):
     pem = b"-----BEGIN KEY-----\n%b\n-----END KEY-----\n" % base64.b64encode(KEY)
     inputs = {
         "a key and more": der, "a key in PEM": pem, "two keys in PEM": pem + pem,
-        "a key in hexadecimal": KEY.hex().encode(), "PKCS #8": pkcs8(),
+        "a key in hexadecimal": KEY.hex().encode(), "PKCS #8": PKCS8,
         "a key that is cut": KEY[:60], "an indefinite length": b"\x30\x80" + KEY[2:] + b"\0\0",
         "a BIT STRING of elements": element(3, b"\0", sequence(element(2, b"\5"))),
         "no element": b"\xC3" * 40, "a text": b"hello", "no byte": b"",
@@ -248,7 +242,7 @@ def test_parts(tell):
         "64 levels": shapes.nested(64), "70 levels": shapes.nested(70)}
     # what begins where, by hand: an element, and one in a string that is drawn
     for offset, data, part in ((2, der, KEY[2:5]), (41, der, KEY[41:51]), (53, der, KEY[53:]),
-                               (29, pkcs8(), pkcs8()[29:])):
+                               (29, PKCS8, PKCS8[29:])):
         lines, _, is_key = picture.drawn(part, runs=False)
         found = run(["--offset", str(offset)], data)
         tell(f"what begins at {offset}", found == ("\n".join(lines) + "\n", "", int(not is_key)))
@@ -308,9 +302,9 @@ def test_limit(tell, tmp_path):
 
 
 def test_requests(tell, refuse, tmp_path):
-    """Each request for memory refused in turn: all of the picture is printed, or a beginning of it."""
+    """Each request for memory refused in turn: the picture is printed, or a beginning of it."""
     count = tmp_path / "count"
-    reason = r"(standard input: |the arguments )?(out of memory|can't be read)"
+    reason = "sec1_dump: (standard input: |the arguments )?(out of memory|can't be read)\n"
 
     def refusing(number, asked, given):
         """Runs the program with the request of this number refused: how it ended, the number of
@@ -328,8 +322,7 @@ def test_requests(tell, refuse, tmp_path):
             for number in range(1, requests + 1):
                 ended, _, is_refused = refusing(number, asked, given)
                 shown, said, status = ended
-                is_front = whole[0].startswith(shown) and status == 2
-                is_front = is_front and re.fullmatch(f"sec1_dump: {reason}\n", said)
+                is_front = whole[0].startswith(shown) and status == 2 and re.fullmatch(reason, said)
                 is_right = is_refused and (ended == whole or is_front)
                 tell(f"request {number} of {requests}: {said}, {status}", is_right)
 
@@ -353,13 +346,10 @@ def test_keys(tell):
 
 def test_structures(tell):
     """Containers, certificates and public keys, as they are stored and cut off in the middle."""
-    cases = []
-    for line in (TOP / "tests/certificates/openssl.txt").read_text().splitlines():
-        name, digits = line.split()
-        data = bytes.fromhex(digits)
-        cases += [(name, data), (f"{name}, cut off", data[: len(data) // 2])]
+    for name, data in programs.structures():
         tell(f"{name}: the rows of OpenSSL", rows.are_openssl(PROGRAM, data))
-    compare(tell, cases)
+    cut = [(f"{name}, cut off", data[:len(data) // 2]) for name, data in programs.structures()]
+    compare(tell, [*programs.structures(), *cut])
 
 
 def test_shapes(tell):
@@ -384,7 +374,7 @@ def test_masks(tell):
 
 
 def test_large(tell, tmp_path):
-    """A megabyte of elements: the rows, and the memory that they take above that for a small key."""
+    """A megabyte of elements: the rows, and the memory that they take more than a small key."""
     nulls = run([], b"\5\0" * 524_288)[0].splitlines()
     undrawn = "   0             1048576  1048576 bytes not drawn"
     tell("NULLs side by side", nulls == [undrawn, "These are 1048576 bytes: no DER."])

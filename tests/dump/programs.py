@@ -33,12 +33,18 @@ def drawn_by_hand():
         yield lines[0][2:], data, lines[asked].split()[1:], text, int(lines[-1][2:])
 
 
+def structures():
+    """The name and the bytes of each stored structure."""
+    for line in (HERE.parent / "certificates/openssl.txt").read_text().splitlines():
+        name, digits = line.split()
+        yield name, bytes.fromhex(digits)
+
+
 def stored():
     """The same of stored keys, structures and damaged keys, by the second reader."""
-    lines, others = ((HERE.parent / folder / "openssl.txt").read_text().splitlines()
-                     for folder in ("keys", "certificates"))
+    lines = (HERE.parent / "keys/openssl.txt").read_text().splitlines()
     keys = [bytes.fromhex(line) for line in lines if not line.startswith("#")]
-    others = [bytes.fromhex(line.split()[1]) for line in others]
+    others = [data for _, data in structures()]
     numbers, damaged = random.Random(2026), []
     for key in numbers.sample(keys, 60):
         at = numbers.randrange(len(key))

@@ -2,14 +2,13 @@
 those of `openssl asn1parse`.
 """
 import json
-import pathlib
 import random
 import re
 import subprocess
 
 from pairs import pairs
+from programs import structures
 
-TESTS = pathlib.Path(__file__).resolve().parent.parent
 THEIRS = re.compile(r"^ *(\d+):d=(\d+) +hl= *(\d+) l= *(\d+) (cons|prim):", re.M)
 
 
@@ -60,10 +59,7 @@ def damaged():
     """The name and the bytes of stored structures, cut off and with a byte changed, of damaged
     keys, and of bytes at random."""
     numbers = random.Random(690)
-    lines = (TESTS / "certificates/openssl.txt").read_text().splitlines()
-    for line in lines[::3]:
-        name, digits = line.split()
-        data = bytes.fromhex(digits)
+    for name, data in [*structures()][::3]:
         at = numbers.randrange(len(data))
         # before that one there is a byte that no text has
         yield f"{name}, cut off at {at}", b"\x30" + data[1:at] if at > 9 else b"\x30\1"
