@@ -39,11 +39,9 @@ def identifier(content):
 
 
 def is_named(content):
-    """Returns whether sec1 reads an identifier: at most 39 bytes, arcs below 2^32."""
-    dotted = identifier(content)
-    return dotted is not None and len(content) <= 39 and all(
-        int(arc) >> 32 == 0 for arc in dotted.split(".")[1:]) and (
-        int(dotted.split(".")[1]) + 80 < 1 << 32 or dotted[0] != "2")
+    """Returns whether sec1 reads an identifier: at most 39 bytes, each number below 2^32."""
+    arcs = subidentifiers(content)
+    return arcs is not None and len(content) <= 39 and max(arcs) >> 32 == 0
 
 
 def escaped(characters):
@@ -71,10 +69,9 @@ def characters_of(number, content):
 def time_of(number, content):
     """Returns the text of a time, or None."""
     digits = 2 if number == 23 else 4
-    form = rb"(\d{%d})(\d\d)(\d\d)(\d\d)(\d\d)(\d\d)%sZ" % (
-        digits, b"" if number == 23 else rb"(\.\d*[1-9])?")
+    form = rb"(\d{%d})" % digits + rb"(\d\d)" * 5 + rb"(\.\d*[1-9])?Z"
     found = re.fullmatch(form, content)
-    if not found:
+    if not found or number == 23 and found[7]:
         return None
     year, month, day, hour, minute, second = map(int, found.groups()[:6])
     if number == 23:
@@ -84,7 +81,7 @@ def time_of(number, content):
     if not 1 <= month <= 12 or not 1 <= day <= days[month - 1] or (
             hour > 23 or minute > 59 or second > 59):
         return None
-    fraction = (found[7] or b"").decode() if number == 24 else ""
+    fraction = (found[7] or b"").decode()
     return f"{year:04}-{month:02}-{day:02} {hour:02}:{minute:02}:{second:02}{fraction}Z"
 
 
