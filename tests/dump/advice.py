@@ -15,10 +15,12 @@ from itertools import chain
 from shapes import block
 from text import ASKS as PASSWORD
 from text import OF_PEM, PUTTY
-from words import ASKS, KEYS, NAMING, NO_KEY, SAID, WRITES
+from words import ASKS, KEYS, NAMING, NO_KEY, WRITES
 
 KEY = "This is an EC private key (RFC 5915) on P-256."
 CONTAINER = "This is PKCS #8 (RFC 5958) with an EC key."
+ENCRYPTED = "This is encrypted PKCS #8 (RFC 5958)."
+PKCS12 = "This is PKCS #12 (RFC 7292)."
 OTHER = "This is PKCS #8 (RFC 5958) with another key: %s. It has no EC key."
 KEYLESS = "This is %s: it has no private key."
 NO_EC = "This is %s, no EC key."
@@ -158,10 +160,10 @@ class Room:
         for name in ("encrypted", "des", "rc2", "triple"):
             data = self.read(f"{name}.der")
             block_of = pem("ENCRYPTED PRIVATE KEY", data)
-            yield [SAID["encrypted"], ASKS], {f"{name}.der": data, f"{name}.pem": block_of}
+            yield [ENCRYPTED, ASKS], {f"{name}.der": data, f"{name}.pem": block_of}
         yield [PASSWORD], {"proc_type.pem": self.read("proc_type.pem")}
         yield [OPENSSH], {"openssh": self.read("ssh_ec"), "ssh_rsa": self.read("ssh_rsa")}
-        yield [SAID["PFX"], KEYS], {name: self.read(name) for name in ("key.p12", "old.p12")}
+        yield [PKCS12, KEYS], {name: self.read(name) for name in ("key.p12", "old.p12")}
 
     def almost(self):
         """Yields the same of PEM that is almost that, and of base64: OpenSSL reads none."""
