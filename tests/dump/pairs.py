@@ -248,8 +248,8 @@ def is_excused(pair):
 
 
 def blocks(program, asked, given):
-    """Returns what the program prints of each of these inputs, which are blocks of PEM of one file;
-    None if it doesn't print something of each."""
+    """Returns what the program prints of each of these inputs, which are blocks of PEM of one file,
+    with the status of all; None if it doesn't print something of each."""
     text = b"".join(b"-----BEGIN KEY-----\n%b\n-----END KEY-----\n" % base64.b64encode(data)
                     for data in given)
     ended = subprocess.run([program, *asked], input=text, capture_output=True, timeout=3600)
@@ -258,7 +258,7 @@ def blocks(program, asked, given):
     is_whole = not first and not ended.stderr and len(found) == len(given)
     # of each there is more than where it is
     is_whole = is_whole and all(it.count("\n") > 1 for it in found)
-    return found if is_whole else [None] * len(given)
+    return [f"{it}{ended.returncode}\n" for it in found] if is_whole else [None] * len(given)
 
 
 def library(room):
