@@ -18,7 +18,7 @@ import sys
 import time
 
 import pytest
-from conftest import TOP
+from conftest import TOP, lines_of
 
 sys.path.insert(0, str(TOP / "tests/dump"))
 import advice  # noqa: E402
@@ -37,8 +37,10 @@ pytestmark = pytest.mark.built
 PROGRAM = TOP / "crates/sec1_dump/out/sec1_dump"
 LIMIT = 16_777_215
 MEGABYTE = 1 << 20
-OPTIONS = ([], ["--all"], ["--json"], ["--all", "--json"])
 KEY = shapes.KEY
+# The key in PKCS #8, as OpenSSL writes it: its curve is that of the container.
+PKCS8 = sequence(shapes.ZERO, shapes.algorithm_of("1.2.840.10045.2.1", KEY[41:51]),
+                 element(4, sequence(KEY[2:39], KEY[51:])))
 
 
 def run(arguments, given=b"", **more):
@@ -55,36 +57,36 @@ def drawn(given, options=(), path=None, **part):
 
 
 def compare(tell, cases, *asked, **part):
-    """Compares what is printed of inputs, or of a part of each, which are files of one run: a name
-    and the bytes of each."""
-    cases = list(cases)
-    for options in OPTIONS:
+    """Compares what is printed of inputs, or of a part of each, which are files of one run: the
+    name and the bytes of each, before what else a case has."""
+    names, given, *_ = zip(*cases)
+    for options in ([], ["--all"], ["--json"], ["--all", "--json"]):
         options = [*options, *asked]
-        found = programs.outputs(PROGRAM, options, [data for _, data in cases])
-        for number, ((name, data), shown) in enumerate(zip(cases, found)):
+        found = programs.outputs(PROGRAM, options, given)
+        for number, (name, data, shown) in enumerate(zip(names, given, found)):
             wanted = drawn(data, options, programs.path_of(number), **part)[0]
             tell(f"{name} {options}: {shown!r}", shown == wanted)
 
 
 def test_drawn(tell):
     """The pictures that were drawn by hand, by the program and by the second reader."""
-    for name, data, asked, text, status in programs.drawn_by_hand():
-        tell(f"drawn by hand: {name}", run(asked, data) == (text, "", status))
+    by_hand = list(programs.drawn_by_hand())
+    for name, data, asked, text, status in by_hand:
         tell(f"the reader's: {name}", drawn(data, asked) == (text, "", status))
-    for name, data, asked, text, status in programs.stored():
+    for name, data, asked, text, status in [*by_hand, *programs.stored()]:
         tell(f"{name} {asked}", run(asked, data) == (text, "", status))
     lines = run(["--json"], KEY[:60])[0].splitlines()
     for number, line in JSON.items():
         tell(f"line {number} of JSON", lines[number - 1] == line)
-    compare(tell, ((name, data) for name, data, *_ in programs.drawn_by_hand()))
+    compare(tell, by_hand)
 
 
 # Of a key that is cut off after 60 bytes: what docs/FORMATS.md says of the members.
 JSON = {
     1: '{"bytes":60,"form":"der"}',
-    2: '{"announced":119,"class":"universal","constructed":true,"depth":0,"faults":[{"kind":"missing",'
-    '"words":"61 of 119 bytes missing"}],"header_len":2,"len":58,"name":"ECPrivateKey","offset":0,'
-    '"tag":16,"type":"SEQUENCE"}',
+    2: '{"announced":119,"class":"universal","constructed":true,"depth":0,"faults":[{"kind":'
+    '"missing","words":"61 of 119 bytes missing"}],"header_len":2,"len":58,"name":"ECPrivateKey",'
+    '"offset":0,"tag":16,"type":"SEQUENCE"}',
     4: '{"class":"universal","constructed":false,"depth":1,"header_len":2,"len":32,'
     '"name":"privateKey","offset":5,"secret":true,"tag":4,"type":"OCTET STRING"}',
     7: '{"depth":1,"header_len":0,"len":9,"offset":51,"type":"not drawn"}',
@@ -115,7 +117,7 @@ def test_advice(tell, tmp_path):
             tell(f"the command for {name}", done == (name not in advice.UNREAD))
         if name in ASN1:
             tell(f"{name}: the rows of OpenSSL", rows.are_openssl(PROGRAM, data))
-    compare(tell, ((name, data) for name, data, _ in cases))
+    compare(tell, cases)
 
 
 # How the commands of OpenSSL are told that a file is DER, or PEM.
@@ -136,10 +138,8 @@ ASN1 = """
 
 def test_readme(tell):
     """The pictures in the README of the program, each below a line that names its input."""
-    inputs = {
-        "A key with another tag for the private key": KEY[:5] + b"\6" + KEY[6:],
-        "A key in PKCS #8": pkcs8(),
-    }
+    inputs = {"A key with another tag for the private key": KEY[:5] + b"\6" + KEY[6:],
+              "A key in PKCS #8": PKCS8}
     text = (TOP / "crates/sec1_dump/README.md").read_text()
     shown = dict(re.findall(r"^(.+):\n\n```text\n((?:(?!```).*\n)*)```$", text, re.M))
     tell("the inputs of the README", shown.keys() == inputs.keys())
@@ -148,29 +148,19 @@ def test_readme(tell):
         tell(f"the reader's picture: {name}", drawn(data)[0] == shown.get(name))
 
 
-def pkcs8():
-    """Returns the key in PKCS #8, as OpenSSL writes it: its curve is that of the container."""
-    algorithm = shapes.algorithm_of("1.2.840.10045.2.1", KEY[41:51])
-    return sequence(shapes.ZERO, algorithm, element(4, sequence(KEY[2:39], KEY[51:])))
-
-
 def test_commands(tell):
-    """Each command that is printed stands in docs/REFUSED.md, whose commands are run, or makes DER of
-    the parts of a text."""
+    """Each command that is printed stands in docs/REFUSED.md, whose commands are run."""
     page = (TOP / "docs/REFUSED.md").read_text()
     for command in (
-        *(words.EC % (form, "") for form in FORMS),
-        words.EC % ("-inform DER ", words.EXPLICIT),
-        words.PKCS12 % "",
-        "ssh-keygen -p -m PEM -f COPY",
+        *(words.EC % (form, "") for form in FORMS), words.EC % ("-inform DER ", words.EXPLICIT),
+        words.PKCS12 % "", words.LEGACY.strip(), "ssh-keygen -p -m PEM -f COPY",
         "puttygen FILE -O private-openssh -o key.pem",
-        words.LEGACY.strip(),
     ):
         tell(f"docs/REFUSED.md has `{command}`", f"`{command}`" in page)
 
 
 def test_words(tell):
-    """What is said of each form that is whole stands in docs/FORMATS.md: what it is, and its end."""
+    """What is said of each form that is whole stands in docs/FORMATS.md."""
     page = (TOP / "docs/FORMATS.md").read_text()
     front = r"This is PKCS #8 \(RFC 5958\) |These are (?:two )?INTEGERs, as of |This is "
     for form in table.ALL:
@@ -225,20 +215,14 @@ def test_arguments(tell, tmp_path):
 def test_wrong_arguments(tell):
     """Of wrong arguments standard error names the option or the value that is wrong, and nothing is
     drawn."""
+    cases = [
+        (["--other"], "--other"), (["--all=1"], "--all"), (["--json=1"], "--json"),
+        (["-x", "-"], "-x"), (["-", "--dept", "1"], "--dept")]
     numbers = ("", "x", "1x", "-1", "0x10", " 1", "1.5", "16777216", "18446744073709551616")
-    for asked, named in (
-        (["--other"], "--other"),
-        (["--all=1"], "--all"),
-        (["--json=1"], "--json"),
-        (["-x", "-"], "-x"),
-        (["-", "--dept", "1"], "--dept"),
-        (["--depth"], "--depth"),
-        (["--offset"], "--offset"),
-        *(([f"--depth={number}"], "--depth") for number in numbers),
-        *(([f"--offset={number}"], "--offset") for number in numbers),
-        (["--depth", "-1"], "-1"),
-        (["--offset", "-1"], "-1"),
-    ):
+    for option in ("--depth", "--offset"):
+        cases += [([option], option), ([option, "-1"], "-1")]
+        cases += [([f"{option}={number}"], option) for number in numbers]
+    for asked, named in cases:
         shown, said, status = run(asked, KEY)
         is_named = said.startswith("error: ") and named in said.split("\n")[0]
         tell(f"{asked}: {said!r}, {status}", (shown, status) == ("", 2) and is_named)
@@ -249,28 +233,16 @@ def test_parts(tell):
     der = KEY + b"\5\0"
     pem = b"-----BEGIN KEY-----\n%b\n-----END KEY-----\n" % base64.b64encode(KEY)
     inputs = {
-        "a key and more": der,
-        "a key in PEM": pem,
-        "two keys in PEM": pem + pem,
-        "a key in hexadecimal": KEY.hex().encode(),
-        "PKCS #8": pkcs8(),
-        "a key that is cut": KEY[:60],
-        "an indefinite length": b"\x30\x80" + KEY[2:] + b"\0\0",
+        "a key and more": der, "a key in PEM": pem, "two keys in PEM": pem + pem,
+        "a key in hexadecimal": KEY.hex().encode(), "PKCS #8": PKCS8,
+        "a key that is cut": KEY[:60], "an indefinite length": b"\x30\x80" + KEY[2:] + b"\0\0",
         "a BIT STRING of elements": element(3, b"\0", sequence(element(2, b"\5"))),
-        "no element": b"\xC3" * 40,
-        "a text": b"hello",
-        "no byte": b"",
+        "no element": b"\xC3" * 40, "a text": b"hello", "no byte": b"",
         "a header that is cut": b"\x30\3\2\1",
-        "64 levels": shapes.nested(64),
-        "70 levels": shapes.nested(70),
-    }
+        "64 levels": shapes.nested(64), "70 levels": shapes.nested(70)}
     # what begins where, by hand: an element, and one in a string that is drawn
-    for offset, data, part in (
-        (2, der, KEY[2:5]),
-        (41, der, KEY[41:51]),
-        (53, der, KEY[53:]),
-        (29, pkcs8(), pkcs8()[29:]),
-    ):
+    for offset, data, part in ((2, der, KEY[2:5]), (41, der, KEY[41:51]), (53, der, KEY[53:]),
+                               (29, PKCS8, PKCS8[29:])):
         lines, _, is_key = picture.drawn(part, runs=False)
         found = run(["--offset", str(offset)], data)
         tell(f"what begins at {offset}", found == ("\n".join(lines) + "\n", "", int(not is_key)))
@@ -297,13 +269,8 @@ def test_help(tell):
     for words_of in ("private is hidden", "status is 0", "16,777,215", "Example: sec1_dump "):
         tell(f"help says {words_of}", words_of in shown)
     tell("help says what the program draws", "in place of a key" in shown.split("\n")[0])
-    for word, says in (
-        ("--all", "private keys"),
-        ("--json", "JSON"),
-        ("[FILE]...", "PEM"),
-        ("--offset", "begins after N bytes"),
-        ("--depth", "more than N"),
-    ):
+    for word, says in (("--all", "private keys"), ("--json", "JSON"), ("[FILE]...", "PEM"),
+                       ("--offset", "begins after N bytes"), ("--depth", "more than N")):
         lines = [line for line in shown.split("\n") if word in line.split()[:1]]
         tell(f"help says what {word} is for", len(lines) == 1 and says in lines[0])
 
@@ -316,11 +283,10 @@ def test_full(tell):
             command = [PROGRAM, *asked]
             ended = subprocess.run(command, input=KEY, stdout=full, stderr=subprocess.PIPE)
         tell(f"a full device {asked}", (ended.returncode, ended.stderr) == (2, said))
-    closed = subprocess.run(["sh", "-c", '"$0" <&-', PROGRAM], capture_output=True)
-    said = b"sec1_dump: standard input: Bad file descriptor (os error 9)\n"
+    closed = subprocess.run(["sh", "-c", '"$0" <&-', PROGRAM], capture_output=True, text=True)
+    said = "sec1_dump: standard input: Bad file descriptor (os error 9)\n"
     found = (closed.stdout, closed.stderr, closed.returncode)
-    is_right = found in ((b"", said, 2), (drawn(b"")[0].encode(), b"", 1))
-    tell(f"closed input: {closed.stderr}", is_right)
+    tell(f"closed input: {closed.stderr}", found in (("", said, 2), drawn(b"")))
 
 
 def test_limit(tell, tmp_path):
@@ -336,9 +302,9 @@ def test_limit(tell, tmp_path):
 
 
 def test_requests(tell, refuse, tmp_path):
-    """Each request for memory refused in turn: all of the picture is printed, or a beginning of it."""
+    """Each request for memory refused in turn: the picture is printed, or a beginning of it."""
     count = tmp_path / "count"
-    reason = r"(standard input: |the arguments )?(out of memory|can't be read)"
+    reason = "sec1_dump: (standard input: |the arguments )?(out of memory|can't be read)\n"
 
     def refusing(number, asked, given):
         """Runs the program with the request of this number refused: how it ended, the number of
@@ -356,24 +322,19 @@ def test_requests(tell, refuse, tmp_path):
             for number in range(1, requests + 1):
                 ended, _, is_refused = refusing(number, asked, given)
                 shown, said, status = ended
-                is_front = whole[0].startswith(shown) and status == 2
-                is_front = is_front and re.fullmatch(f"sec1_dump: {reason}\n", said)
+                is_front = whole[0].startswith(shown) and status == 2 and re.fullmatch(reason, said)
                 is_right = is_refused and (ended == whole or is_front)
                 tell(f"request {number} of {requests}: {said}, {status}", is_right)
 
 
-def keys(lines):
-    """Returns the digits and the bytes of stored keys."""
-    return [(it, bytes.fromhex(it)) for it in lines.splitlines() if not it.startswith("#")]
-
-
 def test_keys(tell):
     """The stored keys, damaged copies of them, and keys that differ in the private key alone."""
-    stored = (TOP / "tests/keys/openssl.txt").read_text()
-    damage = [sys.executable, TOP / "tests/keys/damage.py"]
-    copies = subprocess.run(damage, input=stored, capture_output=True, text=True, check=True)
-    compare(tell, keys(stored) + keys(copies.stdout))
-    for name, data in keys(stored)[::8]:
+    lines = (TOP / "tests/keys/openssl.txt").read_text().splitlines()
+    copies = lines_of(sys.executable, TOP / "tests/keys/damage.py", given=lines)
+    stored, damaged = ([(it, bytes.fromhex(it)) for it in digits if not it.startswith("#")]
+                       for digits in (lines, copies))
+    compare(tell, stored + damaged)
+    for name, data in stored[::8]:
         tell(f"{name}: the rows of OpenSSL", rows.are_openssl(PROGRAM, data))
     for count in (0, 1, 28, 32, 66, 200):
         one, other = (sequence(shapes.ONE, element(4, it * count)) for it in (b"\5", b"\xFA"))
@@ -385,13 +346,10 @@ def test_keys(tell):
 
 def test_structures(tell):
     """Containers, certificates and public keys, as they are stored and cut off in the middle."""
-    cases = []
-    for line in (TOP / "tests/certificates/openssl.txt").read_text().splitlines():
-        name, digits = line.split()
-        data = bytes.fromhex(digits)
-        cases += [(name, data), (f"{name}, cut off", data[: len(data) // 2])]
+    for name, data in programs.structures():
         tell(f"{name}: the rows of OpenSSL", rows.are_openssl(PROGRAM, data))
-    compare(tell, cases)
+    cut = [(f"{name}, cut off", data[:len(data) // 2]) for name, data in programs.structures()]
+    compare(tell, [*programs.structures(), *cut])
 
 
 def test_shapes(tell):
@@ -406,13 +364,9 @@ def test_shapes(tell):
 
 def test_masks(tell):
     """The picture of DER doesn't depend on what isn't shown, but where a known file is named."""
-    inputs = [
-        data
-        for _, data in shapes.every()
-        if not text.is_text(data)
-        and text.parts(data)[0].form == "der"
-        and not any(begins(data) for _, begins in words.KNOWN)
-    ]
+    inputs = [data for _, data in shapes.every()
+              if not text.is_text(data) and text.parts(data)[0].form == "der"
+              and not any(begins(data) for _, begins in words.KNOWN)]
     masks = [guard.mask_of(data) for data in inputs]
     both = (programs.outputs(PROGRAM, [], given) for given in (inputs, masks))
     for data, one, other in zip(inputs, *both):
@@ -420,17 +374,15 @@ def test_masks(tell):
 
 
 def test_large(tell, tmp_path):
-    """A megabyte of elements: the rows, and the memory that they take above that for a small key."""
+    """A megabyte of elements: the rows, and the memory that they take more than a small key."""
     nulls = run([], b"\5\0" * 524_288)[0].splitlines()
     undrawn = "   0             1048576  1048576 bytes not drawn"
     tell("NULLs side by side", nulls == [undrawn, "These are 1048576 bytes: no DER."])
     small, large = tmp_path / "small", tmp_path / "large"
     small.write_bytes(KEY)
     least = {True: peak(["--json"], small), False: peak([], small)}
-    for name, inside, count in (
-        ("INTEGERs", b"\2\1\5", 349_000),
-        ("empty SEQUENCEs", b"\x30\0", 524_000),
-    ):
+    for name, inside, count in (("INTEGERs", b"\2\1\5", 349_000),
+                                ("empty SEQUENCEs", b"\x30\0", 524_000)):
         data = sequence(inside * count)
         large.write_bytes(data)
         for asked in (["--all"], ["--all", "--json"], [], ["--json"]):
@@ -447,16 +399,12 @@ def peak(asked, file):
     waits for standard input."""
     command = [PROGRAM, *asked, file, "-"]
     with subprocess.Popen(command, stdin=subprocess.PIPE, stdout=subprocess.DEVNULL) as ran:
-        of_process = pathlib.Path(f"/proc/{ran.pid}")
-        before = None
-        while ran.poll() is None:
-            # its state, and the time that it has taken
-            state, *others = (of_process / "stat").read_text().rsplit(")", 1)[1].split()
-            now = (state, others[10], others[11])
-            if now == before and state == "S":
-                break
-            before = now
+        of_process, before, now = pathlib.Path(f"/proc/{ran.pid}"), None, ("",)
+        # until it sleeps, and has taken no more time
+        while ran.poll() is None and (now != before or now[0] != "S"):
             time.sleep(0.1)
+            state, *others = (of_process / "stat").read_text().rsplit(")", 1)[1].split()
+            before, now = now, (state, others[10], others[11])
         found = re.search(r"VmHWM:\s+(\d+) kB", (of_process / "status").read_text())
         ran.communicate(KEY)
     return int(found[1]) * 1024

@@ -8,8 +8,8 @@ digits aren't compared. A name that differs on purpose is in OTHERS.
 import re
 import sys
 
-import pytest
 from conftest import TOP, lines_of
+from cryptography.hazmat import _oid
 
 sys.path.insert(0, str(TOP / "tests/dump"))
 import make_names  # noqa: E402
@@ -79,9 +79,6 @@ def test_names_of_openssl(tell):
 
 
 def test_names_of_cryptography(tell):
-    pytest.importorskip("cryptography")
-    from cryptography.hazmat import _oid
-
     compare(tell, {oid.dotted_string: {name} for oid, name in _oid._OID_NAMES.items()})
 
 

@@ -1,5 +1,6 @@
 """Headers of elements in BER (X.690 section 8.1), where their contents end, and whole trees."""
 import re
+from functools import reduce
 
 LIMIT = (1 << 24) - 1
 LEVELS = 64
@@ -18,7 +19,7 @@ class Header:
         if at >= end or data[at] in (0, 0x20):
             raise NoElement
         self.at, self.first, self.marks = at, data[at], []
-        self.number = self.first & 31
+        self.number, self.constructed = self.first & 31, self.first & 32 == 32
         at = self.high_number(data, at + 1, end) if self.number == 31 else at + 1
         self.start = self.read_length(data, at, end)
         # where the content ends, here at the latest
@@ -42,11 +43,10 @@ class Header:
         if at >= end or data[at] > 132 or data[at] == 128 and not self.constructed:
             raise NoElement
         count, at = data[at], at + 1
-        self.length = count
+        self.length = None if count == 128 else count
         if count == 128:
-            self.length = None
-            self.marks.append(("indefinite", "indefinite length (X.690 8.1.3.6); "
-                               "DER has definite ones (10.1)"))
+            said = "indefinite length (X.690 8.1.3.6); DER has definite ones (10.1)"
+            self.marks.append(("indefinite", said))
         elif count > 128:
             digits, at = data[at:at + count - 128], at + count - 128
             self.length = int.from_bytes(digits, "big")
@@ -56,10 +56,6 @@ class Header:
                 self.marks.append(("length", "length in more bytes than needed (X.690 10.1)"))
         return at
 
-    @property
-    def constructed(self):
-        return self.first & 32 == 32
-
     def is_type(self, *numbers):
         """Returns whether this is the tag of one of these types of X.680."""
         return self.first < 64 and self.number in numbers
@@ -67,10 +63,7 @@ class Header:
 
 def base_128(digits):
     """Returns the number that the low seven bits of each byte are."""
-    number = 0
-    for digit in digits:
-        number = number * 128 + digit % 128
-    return number
+    return reduce(lambda number, digit: number * 128 + digit % 128, digits, 0)
 
 
 def end_of(data, at, end, levels=LEVELS):

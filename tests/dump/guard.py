@@ -29,16 +29,6 @@ class Ended(Exception):
     """The rows have ended before the bytes."""
 
 
-def rest_of(fields, first):
-    """Returns the first field that an element with this tag can be, and those that may follow."""
-    for number, field in enumerate(fields or []):
-        if field.has_tag(first):
-            return field, fields[number + (field.presence != "*"):]
-        if field.is_needed:
-            break
-    return None, None
-
-
 class Walk:
     """The rows of bytes by a form, or of any elements if it is none; or by the fields of a
     structure, which they are inside of."""
@@ -68,8 +58,13 @@ class Walk:
         if after < len(self.data):
             self.end(after, 0)
 
-    def end(self, at, depth, expected=None):
-        """Ends the rows: what follows isn't drawn."""
+    def left(self):
+        """Returns how many bytes aren't drawn."""
+        return sum(row.stop - row.at for row in self.rows if row.kind == "not drawn")
+
+    def end(self, at, depth, fields=None):
+        """Ends the rows where these fields could stand: what follows isn't drawn."""
+        expected = ANY if fields is None and depth else fields
         self.rows.append(Row(at, depth, len(self.data), None, "not drawn", expected))
         raise Ended
 
@@ -115,11 +110,11 @@ class Walk:
             try:
                 head = Header(self.data, at, stop)
             except NoElement:
-                self.end(at, depth, ANY if fields is None else fields)
+                self.end(at, depth, fields)
             field, rest = self.next_of(fields, head)
             expected = None if field else fields
             if depth == LEVELS or (expected is not None or head.is_cut) and not self.is_loose:
-                self.end(at, depth, ANY if fields is None else fields)
+                self.end(at, depth, fields)
             at, fields = self.draw(head, depth, field, expected), rest
         if lacks:
             self.rows.append(Row(at, depth, at, None, "not drawn", fields))
@@ -128,14 +123,20 @@ class Walk:
         return at + 2 * is_end
 
     def next_of(self, fields, head):
-        """Returns the field that an element is, and those that may follow it."""
-        field, rest = rest_of(fields, head.first)
+        """Returns the first of these fields that an element can be, and those that may follow."""
         content = self.data[head.start:head.stop]
         is_there = head.length == len(content)
-        if field is None or not field.admits(content) or field.is_exact and not is_there:
-            return None, None
-        after = None if head.constructed or not is_there else fields_after(field.name, content)
-        return field, rest if after is None else after
+        for number, field in enumerate(fields or []):
+            if field.has_tag(head.first):
+                if not field.admits(content) or field.is_exact and not is_there:
+                    break
+                is_told = is_there and not head.constructed
+                after = fields_after(field.name, content) if is_told else None
+                rest = fields[number + (field.presence != "*"):]
+                return field, rest if after is None else after
+            if field.is_needed:
+                break
+        return None, None
 
     def shown(self, row):
         """Returns how many bytes are shown of a content that has no rows."""
@@ -144,7 +145,8 @@ class Walk:
             return 0
         if field is None:
             # a whole tree: short contents of a few types
-            is_short = head.is_type(6) and len(content) <= 12 or head.is_type(1) and len(content) == 1
+            is_short = head.is_type(6) and len(content) <= 12
+            is_short |= head.is_type(1) and len(content) == 1
             is_short |= head.is_type(2, 10) and len(content) <= 8 and is_valid(head, content)
             return len(content) if self.is_tree and is_short and not head.constructed else 0
         if field.kind == "point":
@@ -158,20 +160,15 @@ class Walk:
 def form_of(data):
     """Returns the form of bytes, and whether they are wholly of it; None for none. Of two that as
     many bytes don't follow it is the one that is followed to the end, or else the earlier one."""
-    best = None
-    for form in ALL:
-        walk = Walk(data, form)
-        left = sum(row.stop - row.at for row in walk.rows if row.kind == "not drawn")
-        if best is None or (left, not walk.is_whole) < best[0]:
-            best = (left, not walk.is_whole), form, walk
-    _, form, walk = best
+    walks = [(form, Walk(data, form)) for form in ALL]
+    form, walk = min(walks, key=lambda it: (it[1].left(), not it[1].is_whole))
     kids = sum(row.depth == 1 and row.head is not None for row in walk.rows)
     return (form, walk.is_whole) if walk.is_whole or kids >= 2 else (None, False)
 
 
 def is_retagged(data):
-    """Returns whether a whole tree is an ECPrivateKey (RFC 5915 section 3) whose privateKey has the tag of
-    another primitive type, and the length of one on P-224, P-256, P-384 or P-521, if no field follows."""
+    """Returns whether a whole tree is an ECPrivateKey (RFC 5915 section 3) whose privateKey has the
+    tag of another primitive type, and, if no field follows, the length of one of RAW."""
     parts = [(row.head.first, row.stop - row.start) for row in Walk(data, None, True).rows
              if row.head and row.depth == 1]
     if data[0] != 0x30 or len(parts) < 2 or parts[0] != (2, 1):
@@ -191,9 +188,8 @@ class Plan:
             self.form = ALL[0]
         self.is_cut = bool(self.form) and Walk(data, self.form).is_cut
         secrecy = self.form.secrecy if self.form else None
-        self.is_private = secrecy == PRIVATE
-        self.is_strict = (secrecy == PRIVATE and self.is_whole or
-                          secrecy in (PRIVATE, CLOSED) and not self.is_tree)
+        self.is_private, is_hidden = secrecy == PRIVATE, secrecy in (PRIVATE, CLOSED)
+        self.is_strict = self.is_private and self.is_whole or is_hidden and not self.is_tree
 
 
 def rows_of(data, plan, everything=False):

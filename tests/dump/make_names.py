@@ -1,5 +1,5 @@
 #!/usr/bin/env python3
-"""Makes crates/der_view/src/names/table.rt of the names of identifiers in crates/der_view/names.txt.
+"""Makes crates/der_view/src/names/table.rt of the names of identifiers in names.txt of that crate.
 
 Each line of names.txt is an identifier in dotted text, its name, and the standard that has it.
 """

@@ -1,9 +1,9 @@
 #!/usr/bin/env python3
-"""Pairs of damaged keys, alone and in containers: two keys that differ in their private bytes alone,
-damaged in the same way. `sec1_dump` must print the same of both, as text and as JSON, unless the
-damage made headers of private bytes in a whole tree, as the second reader sees it too. No four private
-bytes in a row may be in what is printed, but for such headers, nor in a content that the library for
-C says isn't hidden.
+"""Pairs of damaged keys, alone and in containers: two keys that differ in their private bytes
+alone, damaged in the same way. `sec1_dump` must print the same of both, as text and as JSON, unless
+the damage made headers of private bytes in a whole tree, as the second reader sees it too. No four
+private bytes in a row may be in what is printed, but for such headers, nor in a content that the
+library for C says isn't hidden.
 
     tests/dump/pairs.py [PROGRAM]   draws 200,000 pairs
 
@@ -12,6 +12,7 @@ The last line is 'N passed, M failed'.
 import base64
 import ctypes
 import itertools
+import operator
 import pathlib
 import random
 import re
@@ -20,12 +21,13 @@ import sys
 import tempfile
 
 import picture
+import programs
 from ber import Header, NoElement, is_tree
+from table import arcs_of
 
 TESTS = pathlib.Path(__file__).resolve().parent.parent
 # so many pairs in batches of so many, which are blocks of PEM; each 50th batch is files of DER too
 PAIRS, BATCH, FILES, SEED = 200_000, 1_000, 50, 2026
-CURVES = ("2A8648CE3D030107", "2B81040022", "2B8104000A", "2B2403030208010107")
 # bytes of headers
 HEADS = bytes.fromhex("010203040506132024308081828384859FA0A1BFFF")
 
@@ -36,7 +38,7 @@ def element(tag, *contents):
     count = len(content)
     if count < 128:
         return bytes([tag, count]) + content
-    octets = count.to_bytes((count.bit_length() + 7) // 8, "big")
+    octets = count.to_bytes(4, "big").lstrip(b"\0")
     return bytes([tag, 128 + len(octets)]) + octets + content
 
 
@@ -45,67 +47,74 @@ def sequence(*contents):
     return element(0x30, *contents)
 
 
+def identifier(dotted):
+    """Returns an OBJECT IDENTIFIER."""
+    return element(6, arcs_of(dotted))
+
+
+EC, ED25519, X25519, BAG, DATA = map(identifier, (
+    "1.2.840.10045.2.1", "1.3.101.112", "1.3.101.110", "1.2.840.113549.1.12.10.1.1",
+    "1.2.840.113549.1.7.1"))
+CURVES = [*map(identifier, (
+    "1.2.840.10045.3.1.7", "1.3.132.0.34", "1.3.132.0.10", "1.3.36.3.3.2.8.1.1.7"))]
+
+
 def ec_key(source, private, is_inside=False):
     """Returns an ECPrivateKey of RFC 5915: with its curve and its point, or without one or both;
     inside of PKCS #8 without its curve."""
     form = source.randrange(4)
     fields = [element(2, b"\1"), element(4, private)]
     if form & 1 and not is_inside:
-        fields.append(element(0xA0, element(6, bytes.fromhex(source.choice(CURVES)))))
+        fields.append(element(0xA0, source.choice(CURVES)))
     if form & 2:
-        point = b"\4" + source.randbytes(2 * len(private))
-        fields.append(element(0xA1, element(3, b"\0" + point)))
+        fields.append(element(0xA1, element(3, b"\0\4", source.randbytes(2 * len(private)))))
     return sequence(*fields)
 
 
 def container(source, private):
     """Returns the PKCS #8 of RFC 5958, with an EC key."""
-    curve = element(6, bytes.fromhex(source.choice(CURVES)))
-    inner = element(4, ec_key(source, private, True))
-    return sequence(element(2, b"\0"), sequence(EC, curve), inner)
+    algorithm = sequence(EC, source.choice(CURVES))
+    return sequence(element(2, b"\0"), algorithm, element(4, ec_key(source, private, True)))
 
 
 def edwards(source, private):
     """Returns the PKCS #8 of RFC 8410, of Ed25519 or X25519, with its public key or without."""
     has_public = source.randrange(2)
-    algorithm = element(6, bytes.fromhex(source.choice(("2B6570", "2B656E"))))
+    algorithm = sequence(source.choice((ED25519, X25519)))
     public = element(0x81, b"\0", source.randbytes(len(private))) if has_public else b""
     inner = element(4, element(4, private))
-    return sequence(element(2, bytes([has_public])), sequence(algorithm), inner, public)
+    return sequence(element(2, bytes([has_public])), algorithm, inner, public)
 
 
-def integers(source, private, sizes):
+def integers(source, sizes, private):
     """Returns INTEGERs after a version: some of so many bytes, and the private ones."""
     values = [b"\1" + source.randbytes(size - 1) for size in sizes]
     return sequence(*(element(2, value) for value in [b"\0", *values, *private]))
 
 
-def rsa(source, private):
+def rsa(source, *private):
     """Returns an RSA key, of numbers of few bytes."""
-    return integers(source, private, [2 * len(private[1]), 3])
+    return integers(source, [2 * len(private[1]), 3], private)
 
 
 def dsa(source, private):
     """Returns a DSA key, of numbers of few bytes."""
-    size = len(private[0])
-    return integers(source, private, [2 * size, size, 2 * size, 2 * size])
+    size = len(private)
+    return integers(source, [2 * size, size, 2 * size, 2 * size], [private])
 
 
-def identified(arcs, content):
+def identified(kind, content):
     """Returns a SEQUENCE of an identifier, and of what it says."""
-    return sequence(element(6, bytes.fromhex(arcs)), element(0xA0, content))
+    return sequence(kind, element(0xA0, content))
 
 
 def public(source):
     """Returns a public key (RFC 5480)."""
-    algorithm = sequence(EC, element(6, bytes.fromhex(CURVES[0])))
-    return sequence(algorithm, element(3, b"\0\4", source.randbytes(64)))
+    return sequence(sequence(EC, CURVES[0]), element(3, b"\0\4", source.randbytes(64)))
 
 
-EC = element(6, bytes.fromhex("2A8648CE3D0201"))
-BAG, DATA = "2A864886F70D010C0A0101", "2A864886F70D010701"
-# What a key is in: AsymmetricKeyPackage (RFC 5958), SafeContents and SafeBag (RFC 7292), data of CMS
-# (RFC 5652), a SEQUENCE of an OCTET STRING; and what it is behind, or before.
+# What a key is in: AsymmetricKeyPackage (RFC 5958), SafeContents and SafeBag (RFC 7292), data of
+# CMS (RFC 5652), a SEQUENCE of an OCTET STRING; and what it is behind, or before.
 AROUND = [
     *[lambda source, key: key] * 3,
     lambda source, key: sequence(key),
@@ -116,14 +125,9 @@ AROUND = [
     lambda source, key: public(source) + key,
     lambda source, key: key + public(source),
 ]
-# How a key is made of its private parts: an EC key, one in PKCS #8, one of Ed25519, an OCTET STRING,
-# RSA, DSA.
-KEYS = [
-    *[lambda source, private: ec_key(source, *private)] * 5,
-    *[lambda source, private: container(source, *private)] * 2,
-    lambda source, private: edwards(source, *private),
-    lambda source, private: element(4, *private), rsa, dsa,
-]
+# How a key is made of its private parts: an EC key, one in PKCS #8, one of Ed25519, an OCTET
+# STRING, RSA, DSA.
+KEYS = [*[ec_key] * 5, *[container] * 2, edwards, lambda _, private: element(4, private), rsa, dsa]
 
 
 def pair(source):
@@ -136,7 +140,7 @@ def pair(source):
     state, found = source.getstate(), []
     for private in both:
         source.setstate(state)
-        found.append(around(source, make(source, private)))
+        found.append(around(source, make(source, *private)))
     hidden, at = set(), 0
     for number in both[0]:
         at = found[0].index(number, at)
@@ -184,16 +188,13 @@ def damaged(source, one, other, hidden):
         at = source.choice(places[:24] if source.randrange(2) else places)
         after = at + 1
         if kind not in (6, 7):
-            put = bytes([changed(source, one[at])])
+            # any byte, one of headers, or the same with another bit
+            put = bytes([source.randrange(256)])
+            if source.randrange(2):
+                put = bytes([source.choice(HEADS)])
+            elif source.randrange(2):
+                put = bytes([one[at] ^ 1 << source.randrange(8)])
     return tuple(key[:at] + put + key[after:] for key in (one, other))
-
-
-def changed(source, byte):
-    """Returns what is put in the place of a byte: any, one of headers, or it with another bit."""
-    other = source.randrange(256)
-    if source.randrange(2):
-        return source.choice(HEADS)
-    return byte ^ 1 << source.randrange(8) if source.randrange(2) else other
 
 
 def pairs(count, seed, private=None):
@@ -213,8 +214,8 @@ def runs(data):
 
 
 def shown_runs(text):
-    """Yields each four bytes that a text has: in hexadecimal, as characters, in base64, as escapes of
-    a picture or of JSON."""
+    """Yields each four bytes that a text has: in hexadecimal, as characters, in base64, as escapes
+    of a picture or of JSON."""
     for digits in re.findall(r"(?:[0-9A-Fa-f]{2} ?){4,}", text):
         yield from runs(bytes.fromhex(digits))
     for quoted in re.findall(r'"(?:[^"\\\n]|\\.)*', text):
@@ -228,13 +229,15 @@ def shown_runs(text):
 
 
 def shows_private(printed, private, pair):
-    """Returns whether private bytes of the first of two inputs are in what is printed of it, but for
-    those in headers that the second reader sees too: the damage made them of private bytes."""
-    one, other = pair
+    """Returns whether private bytes of the first of two inputs are in what is printed of it, but
+    for those in headers that the second reader sees too: the damage made them of private bytes."""
+    # bytes of one key may be in what is printed of another by chance
+    seen, (one, other) = private.intersection(shown_runs(printed)), pair
+    if not seen:
+        return False
     rows = picture.rows_of(one, picture.Plan(one))
     heads = {run for row in rows if row.head for run in runs(one[row.at:row.start])}
-    own = private.intersection(runs(one)).difference(runs(other), heads)
-    return not own.isdisjoint(shown_runs(printed))
+    return bool(seen.intersection(runs(one)).difference(runs(other), heads))
 
 
 def is_excused(pair):
@@ -244,34 +247,18 @@ def is_excused(pair):
     return one != other
 
 
-def run_blocks(program, asked, given):
-    """Returns what the program prints of inputs, each of which is a block of PEM."""
-    blocks = (b"-----BEGIN KEY-----\n%b\n-----END KEY-----\n" % base64.b64encode(data) for data in given)
-    ended = subprocess.run([program, *asked], input=b"".join(blocks), capture_output=True, timeout=3600)
-    return ended.stdout, ended.stderr, ended.returncode
-
-
-def run_files(program, asked, given):
-    """Returns what the program prints of inputs, each of which is a file."""
-    with tempfile.TemporaryDirectory() as room:
-        names = [str(number) for number in range(len(given))]
-        for name, data in zip(names, given):
-            pathlib.Path(room, name).write_bytes(data)
-        ended = subprocess.run([program, *asked, *names], cwd=room, capture_output=True, timeout=3600)
-    return ended.stdout, ended.stderr, ended.returncode
-
-
-def differ(run, program, asked, batch):
-    """Returns the pairs of which the program prints different lines, of these pairs."""
-    ones, others = zip(*batch)
-    one, other = run(program, asked, ones), run(program, asked, others)
-    # of each there are two lines or more, and nothing else is said
-    if one == other and not one[1] and one[0].count(b"\n") >= 2 * len(batch):
-        return []
-    if len(batch) == 1:
-        return batch
-    half = len(batch) // 2
-    return differ(run, program, asked, batch[:half]) + differ(run, program, asked, batch[half:])
+def blocks(program, asked, given):
+    """Returns what the program prints of each of these inputs, which are blocks of PEM of one file,
+    with the status of all; None if it doesn't print something of each."""
+    text = b"".join(b"-----BEGIN KEY-----\n%b\n-----END KEY-----\n" % base64.b64encode(data)
+                    for data in given)
+    ended = subprocess.run([program, *asked], input=text, capture_output=True, timeout=3600)
+    front = r'^(?=\{"bytes":)' if "--json" in asked else r"^(?=PEM at line )"
+    first, *found = re.split(front, ended.stdout.decode(), flags=re.M)
+    is_whole = not first and not ended.stderr and len(found) == len(given)
+    # of each there is more than where it is
+    is_whole = is_whole and all(it.count("\n") > 1 for it in found)
+    return [f"{it}{ended.returncode}\n" for it in found] if is_whole else [None] * len(given)
 
 
 def library(room):
@@ -306,32 +293,30 @@ def main(arguments):
         return 1
     program, passed, failed, excused, private = program.resolve(), 0, 0, 0, set()
     every = (pair for pair in pairs(2 * PAIRS, SEED, private) if pair[0] != pair[1])
-    shown = [next(every) for _ in range(20)]
-    printed = run_blocks(program, ["--all"], [one for one, _ in shown])[0].decode()
-    differing = differ(run_blocks, program, ["--all"], shown)
-    if len(differing) < len(shown) or private.isdisjoint(shown_runs(printed)):
+    ones, others = zip(*itertools.islice(every, 20))
+    shown = blocks(program, ["--all"], ones)
+    is_same = any(map(operator.eq, shown, blocks(program, ["--all"], others)))
+    if is_same or private.isdisjoint(shown_runs("".join(shown))):
         print("FAILED: no private byte is shown with --all\n0 passed, 1 failed")
         return 1
     with tempfile.TemporaryDirectory() as room:
         calls = library(room)
         while passed + failed < PAIRS:
             private.clear()
-            batch = [next(every) for _ in range(BATCH)]
+            batch = [*itertools.islice(every, BATCH)]
             is_file = passed % (BATCH * FILES) == 0
             wrong = {pair for pair in batch if is_file and is_shown(calls, pair[0], private)}
-            ways = [run_blocks, run_files] if is_file else [run_blocks]
+            ways = [blocks, programs.outputs] if is_file else [blocks]
             for run, asked in itertools.product(ways, ([], ["--json"])):
-                found = differ(run, program, asked, batch)
-                amiss = [pair for pair in found if not is_excused(pair)]
-                excused += len(found) - len(amiss)
-                wrong.update(amiss)
-                printed = run(program, asked, [one for one, _ in batch])[0].decode()
-                # bytes of one key may be in what is printed of another by chance
-                seen = [] if private.isdisjoint(shown_runs(printed)) else batch
-                said = (run(program, asked, pair[:1])[0].decode() for pair in seen)
-                wrong.update(pair for pair, it in zip(seen, said) if shows_private(it, private, pair))
-            for pair in wrong:
-                print("FAILED: private bytes are shown:", *(data.hex() for data in pair), flush=True)
+                ones, others = (run(program, asked, given) for given in zip(*batch))
+                for pair, one, other in zip(batch, ones, others):
+                    may_differ = one != other and bool(one and other) and is_excused(pair)
+                    excused += may_differ
+                    is_wrong = not one or one != other and not may_differ
+                    if is_wrong or shows_private(one, private, pair):
+                        wrong.add(pair)
+            for one, other in wrong:
+                print("FAILED: private bytes are shown:", one.hex(), other.hex(), flush=True)
             passed, failed = passed + len(batch) - len(wrong), failed + len(wrong)
     if excused > PAIRS // 250:
         print(f"FAILED: {excused} pairs differ for the second reader too")

@@ -24,28 +24,28 @@ class Picture:
 
     def __init__(self, data, everything=False):
         self.data, self.everything, self.plan = data, everything, Plan(data)
-        self.rows = rows_of(data, self.plan, everything)
         plan = self.plan
-        self.is_named = plan.is_whole or plan.is_cut or not plan.is_private
-        for row in self.rows:
+        is_named = plan.is_whole or plan.is_cut or not plan.is_private
+        self.rows = []
+        for row in rows_of(data, plan, everything):
             row.label = Label(data, row)
-            row.name = row.field.name if row.field and self.is_named else None
+            row.name = row.field.name if row.field and is_named else None
             row.marks += self.marks_of(row)
             row.marks.sort(key=lambda mark: ORDER.index(mark[0]))
             is_hidden = row.name in SECRET and not row.opened and not row.label.is_all
             row.secret = is_hidden and not everything
-        self.rows = [row for row in self.rows if row.kind != "not drawn" or row.stop > row.at
-                     or row.marks]
+            # the bytes that have no other row
+            row.content = b"" if row.opened else data[row.start:row.stop]
+            if row.kind != "not drawn" or row.stop > row.at or row.marks:
+                self.rows.append(row)
 
     def marks_of(self, row):
         """Returns the marks of a row, but for those of its content."""
-        found, head = [], row.head
-        if head:
-            found += head.marks
-            if row.missing:
-                found.append(("missing", f"{row.missing} of {count_of(head.length)} missing"))
-            if head.constructed and head.is_type(*STRINGS):
-                found.append(("string", "constructed string; DER has primitive ones (X.690 10.2)"))
+        found, head = [*row.head.marks] if row.head else [], row.head
+        if row.missing:
+            found.append(("missing", f"{row.missing} of {count_of(head.length)} missing"))
+        if head and head.constructed and head.is_type(*STRINGS):
+            found.append(("string", "constructed string; DER has primitive ones (X.690 10.2)"))
         if row.expected is not None and self.plan.is_private and not self.plan.is_cut:
             found.append(("expected", "expected " + expected_of(row.expected)))
         if row.kind == "not drawn" and row.depth == 0 and row.at:
@@ -66,11 +66,6 @@ def expected_of(fields):
     return ", or ".join([*found, "the end"])
 
 
-def own_content(picture, row):
-    """Returns the bytes of a content that have no other row."""
-    return b"" if row.opened else picture.data[row.start:row.stop]
-
-
 def lines_of(picture, row):
     """Returns the lines of a row."""
     label, header = row.label, picture.data[row.at:row.start]
@@ -83,18 +78,18 @@ def lines_of(picture, row):
     if name:
         long = told + " " * max(2, 29 - len(told)) + name
         told = long if len(front + long) <= 100 else told
-    lines, content = [shortened(front + told)], own_content(picture, row)
+    lines, content = [shortened(front + told)], row.content
     is_said = label.value is not None or label.oid is not None
     if picture.everything and not (is_said and len(front + told) <= 100):
-        for at in range(0, len(content), 16):
-            lines.append(" " * 25 + "".join(f" {byte:02X}" for byte in content[at:at + 16]))
+        lines += [" " * 26 + content[at:at + 16].hex(" ").upper()
+                  for at in range(0, len(content), 16)]
     return lines + [shortened("     ^ " + said) for _, said in row.marks]
 
 
 def object_of(picture, row):
     """Returns the members of a row; None is one that doesn't apply."""
     label, head = row.label, row.head
-    content = own_content(picture, row) if picture.everything else b""
+    content = row.content if picture.everything else b""
     members = {
         "depth": row.depth, "offset": row.at, "type": label.type, "name": row.name,
         "header_len": row.start - row.at, "oid": label.oid, "value": label.note or label.value,
@@ -127,27 +122,28 @@ def element_at(data, offset):
     return None
 
 
-def last_of(is_key, lines, command, mark=None):
-    """Returns the members of the last line."""
-    return {"key": is_key, "words": " ".join(lines) or None, "advice": command, "mark": mark}
+def last_of(said, command, is_key=False, mark=None):
+    """Returns the last lines, and the members of the last one."""
+    lines = [*said, "  " + command] if command else [*said]
+    members = {"key": is_key, "words": " ".join(said) or None, "advice": command, "mark": mark}
+    return lines, members
 
 
 def drawn(data, everything=False, source="der", runs=True, depth=None):
-    """Returns the lines of bytes, the lines of JSON, and whether they are a key's; of the rows those
-    that at most so many elements are around."""
+    """Returns the lines of bytes, the members of those of JSON, and whether the bytes are a key's;
+    of the rows those of at most such a depth."""
     picture = Picture(data, everything)
     told = words.Words(Picture(data), source, runs)
     rows = [row for row in picture.rows if depth is None or row.depth <= depth]
     lines = [line for row in rows for line in lines_of(picture, row)]
-    lines += told.lines + (["  " + told.command] if told.command else [])
     mark = next((row.at for row in told.picture.rows if row.marks), None)
-    values = [object_of(picture, row) for row in rows]
-    return lines, [*values, last_of(told.is_key, told.lines, told.command, mark)], told.is_key
+    said, last = last_of(told.lines, told.command, told.is_key, mark)
+    return lines + said, [*(object_of(picture, row) for row in rows), last], told.is_key
 
 
 def draw(given, everything=False, as_json=False, path=None, offset=0, depth=None):
-    """Returns what is printed of an input, and whether it has a key; of the element alone that begins
-    at an offset, if that isn't 0, and of the rows those that at most so many elements are around."""
+    """Returns what is printed of an input, and whether it has a key; of the element alone that
+    begins at an offset, if that isn't 0, and of the rows those of at most such a depth."""
     lines, values, found = [], [], False
     for part in text.parts(given):
         data, said, command = part.data, part.words, part.command
@@ -157,11 +153,12 @@ def draw(given, everything=False, as_json=False, path=None, offset=0, depth=None
         if data is not None and offset:
             data, said = element_at(data, offset), [f"No element begins at offset {offset}."]
         if data is None:
-            lines += said + (["  " + command] if command else [])
-            values.append(last_of(False, said, command))
-            continue
-        # no command reads a part of a file
-        shown, members, is_key = drawn(data, everything, part.form, part.runs and not offset, depth)
+            shown, last = last_of(said, command)
+            members, is_key = [last], False
+        else:
+            # no command reads a part of a file
+            runs = part.runs and not offset
+            shown, members, is_key = drawn(data, everything, part.form, runs, depth)
         lines, values, found = lines + shown, values + members, found or is_key
     if as_json:
         values = [{key: it for key, it in value.items() if it is not None} for value in values]

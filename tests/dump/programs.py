@@ -33,14 +33,19 @@ def drawn_by_hand():
         yield lines[0][2:], data, lines[asked].split()[1:], text, int(lines[-1][2:])
 
 
+def structures():
+    """The name and the bytes of each stored structure."""
+    for line in (HERE.parent / "certificates/openssl.txt").read_text().splitlines():
+        name, digits = line.split()
+        yield name, bytes.fromhex(digits)
+
+
 def stored():
     """The same of stored keys, structures and damaged keys, by the second reader."""
-    keys = (HERE.parent / "keys/openssl.txt").read_text().splitlines()
-    keys = [bytes.fromhex(line) for line in keys if not line.startswith("#")]
-    others = (HERE.parent / "certificates/openssl.txt").read_text().splitlines()
-    others = [bytes.fromhex(line.split()[1]) for line in others]
-    numbers = random.Random(2026)
-    damaged = []
+    lines = (HERE.parent / "keys/openssl.txt").read_text().splitlines()
+    keys = [bytes.fromhex(line) for line in lines if not line.startswith("#")]
+    others = [data for _, data in structures()]
+    numbers, damaged = random.Random(2026), []
     for key in numbers.sample(keys, 60):
         at = numbers.randrange(len(key))
         damaged += [key[:at], key[:at] + bytes([numbers.randrange(256)]) + key[at + 1:]]
@@ -55,12 +60,11 @@ def several(folder):
     """The words after the command, what is printed, the status, and what stands in each line that
     is said of an error: of files that were drawn by hand, and of others."""
     drawn = {status: (data, text) for _, data, asked, text, status in drawn_by_hand() if not asked}
-    word = "--none"
-    key, other, none = (str(folder / name) for name in ("key", "other", "none"))
-    for path, status in ((key, 0), (other, 1)):
-        pathlib.Path(path).write_bytes(drawn[status][0])
-    texts = {path: f"{path}:\n{drawn[status][1]}" for path, status in ((key, 0), (other, 1))}
-    texts |= {none: f"{none}:\n", word: f"{word}:\n"}
+    key, other, none, word = (*(str(folder / name) for name in ("key", "other", "none")), "--none")
+    texts = {none: f"{none}:\n", word: f"{word}:\n"}
+    for path, (data, text) in ((key, drawn[0]), (other, drawn[1])):
+        pathlib.Path(path).write_bytes(data)
+        texts[path] = f"{path}:\n{text}"
     for *paths, status in ((key, key, 0), (key, other, 1), (other, key, 1), (none, key, 2),
                            (other, none, key, 2), (word, key, 2)):
         said = [f": {path}: No such file or directory" for path in paths if path in (none, word)]
@@ -73,24 +77,17 @@ def several(folder):
         yield words, "", 2, [said]
 
 
-def is_told(errors, wanted):
-    """Returns whether each line that was said of an error has what is wanted."""
-    lines = errors.decode().splitlines()
-    return len(lines) == len(wanted) and all(map(str.__contains__, lines, wanted))
-
-
 def outputs(program, options, given):
-    """What `sec1_dump` prints of each of these inputs, which are files of one run; None if it doesn't
-    print something of each."""
+    """What `sec1_dump` prints of each of these inputs, which are files of one run; None if it
+    doesn't print something of each."""
     with tempfile.TemporaryDirectory() as room:
         paths = [path_of(number) for number in range(len(given))]
         for path, data in zip(paths, given):
             pathlib.Path(room, path).write_bytes(data)
         ended = subprocess.run([program, *options, *paths], cwd=room, capture_output=True)
+    front = r"^(\d+\.file):\n"
     if "--json" in options:
         front = r'^(?=\{(?:"bytes":\d+,)?"file":"(\d+\.file)")'
-    else:
-        front = r"^(\d+\.file):\n"
     first, *texts = re.split(front, ended.stdout.decode(), flags=re.M)
     found = {}
     # of a file with several blocks of PEM there are several objects
@@ -118,8 +115,9 @@ def main(arguments):
             file.write_bytes(data)
             for command in arguments[is_several:]:
                 ran = subprocess.run([*shlex.split(command), *words], capture_output=True)
+                lines = ran.stderr.decode().splitlines()
                 holds = ran.stdout.decode() == text and ran.returncode == status
-                holds = holds and is_told(ran.stderr, said)
+                holds &= len(lines) == len(said) and all(map(str.__contains__, lines, said))
                 passed, failed = passed + holds, failed + (not holds)
                 if not holds:
                     print(f"FAILED: {command} of {name}: {ran.stdout[:300]!r}, {ran.returncode}, "

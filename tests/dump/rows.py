@@ -2,20 +2,19 @@
 those of `openssl asn1parse`.
 """
 import json
-import pathlib
 import random
 import re
 import subprocess
 
 from pairs import pairs
+from programs import structures
 
-TESTS = pathlib.Path(__file__).resolve().parent.parent
 THEIRS = re.compile(r"^ *(\d+):d=(\d+) +hl= *(\d+) l= *(\d+) (cons|prim):", re.M)
 
 
 def of(program, data, everything=False):
     """Returns the rows of an input in DER, and the number of its bytes; none of a text."""
-    asked = [program, "--json", *(["--all"] if everything else [])]
+    asked = [program, "--json", *["--all"] * everything]
     ended = subprocess.run(asked, input=data, capture_output=True, timeout=3600)
     front, *rows, _ = map(json.loads, ended.stdout.splitlines())
     return (rows, front["bytes"]) if front["form"] == "der" else ([], None)
@@ -51,19 +50,16 @@ def are_openssl(program, data):
             return False
         kind = "cons" if row["constructed"] else "prim"
         found.append((row["offset"], row["depth"], row["header_len"], row["len"], kind))
-    lines = THEIRS.findall(ended.stdout.decode("latin-1"))
-    theirs = [(*map(int, line[:4]), line[4]) for line in lines]
+    theirs = [(*map(int, numbers), kind) for *numbers, kind
+              in THEIRS.findall(ended.stdout.decode("latin-1"))]
     return ended.returncode == 0 and theirs == found
 
 
 def damaged():
-    """The name and the bytes of stored structures, cut off and with a byte changed, of damaged keys,
-    and of bytes at random."""
+    """The name and the bytes of stored structures, cut off and with a byte changed, of damaged
+    keys, and of bytes at random."""
     numbers = random.Random(690)
-    lines = (TESTS / "certificates/openssl.txt").read_text().splitlines()
-    for line in lines[::3]:
-        name, digits = line.split()
-        data = bytes.fromhex(digits)
+    for name, data in [*structures()][::3]:
         at = numbers.randrange(len(data))
         # before that one there is a byte that no text has
         yield f"{name}, cut off at {at}", b"\x30" + data[1:at] if at > 9 else b"\x30\1"
@@ -73,5 +69,7 @@ def damaged():
         yield f"damaged key {number}", data + b"\0"
     for number in range(200):
         count = numbers.randrange(1, 40)
-        tags = [numbers.choice(b"\x30\x31\x24\xA0\x02\x04\x03\x05\0\x1F\x80\x81\xFF") for _ in range(count)]
-        yield f"{number} at random", bytes([0x30, numbers.choice((0x80, count, count + 3))] + tags) + b"\0"
+        tags = [numbers.choice(b"\x30\x31\x24\xA0\x02\x04\x03\x05\0\x1F\x80\x81\xFF")
+                for _ in range(count)]
+        length = numbers.choice((0x80, count, count + 3))
+        yield f"{number} at random", bytes([0x30, length, *tags, 0])

@@ -4,7 +4,7 @@ import base64
 from itertools import product
 
 from ber import Header
-from pairs import element, sequence, siblings
+from pairs import element, identifier, sequence, siblings
 from table import ALL, CASES, STRUCTURES, arcs_of
 from values import NAMES
 
@@ -13,11 +13,6 @@ KEY = bytes.fromhex(
     "3d030107a14403420004485bfbba7f3270c4c8424b68bac0aca161c6d61f63f4370f71a8141d1f279811cbf2c62f4a"
     "0e960ae0513446119371fd70d30ccdff9228be0a5f4a4adf4aea2a")
 NULL, ZERO, ONE = b"\5\0", element(2, b"\0"), element(2, b"\1")
-
-
-def identifier(dotted):
-    """Returns an OBJECT IDENTIFIER."""
-    return element(6, arcs_of(dotted))
 
 
 def algorithm_of(dotted, *parameters):
@@ -135,10 +130,7 @@ def examples():
 
 def fitted(data, at, stop, other, start=0, end=None):
     """Returns bytes with others in place of these, and lengths that fit."""
-    end = len(data) if end is None else end
-    if (start, end) == (at, stop):
-        return other
-    out = b""
+    end, out = len(data) if end is None else end, b""
     while start < end:
         head = Header(data, start, end)
         if (start, head.stop) == (at, stop):
@@ -343,7 +335,8 @@ CONTENTS = """
 12 3120|12 41|13 4127|13 2A|14 E4|16 7F|16 80|19 E4|1A 20|1A 7E|1A 7F|1B E4
 1C 0000004100000042|1C 0000D800|1C 0010FFFF|1C 00110000|1E 00410042|1E D83DDE00|1E D83D|1E DE00
 17 3236303130323033303430355A|17 3439313233313233353935395A|17 3530313233313233353935395A
-17 3236303030313030303030305A|17 3030303232393030303030305A|17 3031303232393030303030305A|17 3236303433313030303030305A
+17 3236303030313030303030305A|17 3030303232393030303030305A|17 3031303232393030303030305A
+17 3236303433313030303030305A
 17 3236313330313030303030305A|17 3236303130323234303030305A|17 3236303130323030363030305A
 17 3236303130323030303036305A|17 32363031303230333034303530|17 323630313032303330345A
 18 32303236303130323033303430355A|18 32303236303130323033303430352E355A

@@ -1,6 +1,6 @@
-"""The structures whose fields have names, written from their standards: the name of each, its standard,
-and of each field its tag, whether it may be absent (?) or come again (*), what its content is, and its
-name.
+"""The structures whose fields have names, written from their standards: the name of each, its
+standard, and of each field its tag, whether it may be absent (?) or come again (*), what its
+content is, and its name.
 
 A content is hidden, or shown up to so many bytes; it has at most so many (short), or one (version);
 it is an identifier that begins so (of:arcs), or a point; or its fields are those of a structure, or
@@ -9,6 +9,7 @@ unused (bits:structure). Tag 17 is a time, and 00 any element. After some identi
 come, by what they begin with (CASES).
 """
 import re
+from collections import namedtuple
 
 # The lengths of raw private keys on P-224, P-256, P-384 and P-521.
 RAW = (28, 32, 48, 66)
@@ -137,46 +138,38 @@ bag | RFC 7292 section 4.2 |
 oid | X.690 section 8.19 | 06 short12 namedCurve
 """
 # The fields after an identifier: its name, what it begins with, and the structure that they are.
-CASES = [
-    ("extnID", "2.5.29.14", "subjectKey"),
-    ("extnID", "2.5.29.35", "authorityKey"),
-]
-# The forms, in the order that decides between those which as many bytes follow: the structure, the
-# name of its root, what its parts can hold, and what it is said to be. What is told by INTEGERs alone
-# is closed: a key with 02 for 04 may be two INTEGERs.
+CASES = [("extnID", "2.5.29.14", "subjectKey"), ("extnID", "2.5.29.35", "authorityKey")]
+# The forms, in the order that decides between those which as many bytes follow: the structures,
+# what their parts can hold, what they are said to be, and the name of the root, if it is another.
+# What is told by INTEGERs alone is closed: a key with 02 for 04 may be two INTEGERs.
 PRIVATE, CLOSED, PUBLIC = "private", "closed", "public"
-FORMS = [
-    ("ECPrivateKey", "ECPrivateKey", PRIVATE, "an EC private key (RFC 5915)"),
-    *((name, "PrivateKeyInfo", PRIVATE, "PKCS #8 (RFC 5958)")
-      for name in ("ec8", "rsa8", "dsa8", "dh8", "x942", "octet8", "any8")),
-    ("RSAPrivateKey", "RSAPrivateKey", PRIVATE, "an RSA private key (RFC 8017)"),
-    ("DSAPrivateKey", "DSAPrivateKey", PRIVATE, "a DSA private key"),
-    ("PFX", "PFX", PRIVATE, "PKCS #12 (RFC 7292)"),
-    ("Certificate", "Certificate", PUBLIC, "a certificate (RFC 5280)"),
-    ("CertificationRequest", "CertificationRequest", PUBLIC, "a certification request (RFC 2986)"),
-    ("CertificateList", "CertificateList", PUBLIC, "a list of revoked certificates (RFC 5280)"),
-    ("ecPublic", "SubjectPublicKeyInfo", PUBLIC, "a public key (RFC 5280)"),
-    ("rsaPublic", "SubjectPublicKeyInfo", PUBLIC, "a public key (RFC 5280)"),
-    ("SubjectPublicKeyInfo", "SubjectPublicKeyInfo", PUBLIC, "a public key (RFC 5280)"),
-    ("DHParameter", "DHParameter", CLOSED, "Diffie-Hellman parameters (PKCS #3)"),
-    ("RSAPublicKey", "RSAPublicKey", CLOSED, "an RSA public key (RFC 8017)"),
-    ("signature", "signature", CLOSED, "an ECDSA signature (RFC 3279)"),
-    ("Dss-Parms", "Dss-Parms", CLOSED, "DSA parameters (RFC 3279)"),
-    ("DomainParameters", "DomainParameters", CLOSED, "Diffie-Hellman parameters (RFC 3279)"),
-    ("ECParameters", "ECParameters", PUBLIC, "the parameters of a curve (RFC 3279)"),
-    ("ContentInfo", "ContentInfo", CLOSED, "CMS or PKCS #7 (RFC 5652)"),
-    *((name, "EncryptedPrivateKeyInfo", CLOSED, "encrypted PKCS #8 (RFC 5958)")
-      for name in ("encrypted", "encrypted12")),
-    *((name, "DigestInfo", CLOSED, "a digest (RFC 8017)")
-      for name in ("digest2", "digest1", "digest5")),
-    ("OCSPResponse", "OCSPResponse", CLOSED, "an OCSP response (RFC 6960)"),
-    ("TimeStampReq", "TimeStampReq", CLOSED, "a time stamp query (RFC 3161)"),
-    ("TimeStampResp", "TimeStampResp", CLOSED, "a time stamp reply (RFC 3161)"),
-    ("OCSPRequest", "OCSPRequest", CLOSED, "an OCSP request (RFC 6960)"),
-    ("package", "AsymmetricKeyPackage", PRIVATE, "a package of private keys (RFC 5958)"),
-    ("safe", "SafeContents", PRIVATE, "the inside of PKCS #12 (RFC 7292)"),
-    ("oid", "namedCurve", PUBLIC, "an identifier"),
-]
+FORMS = """
+ECPrivateKey | private | an EC private key (RFC 5915)
+ec8 rsa8 dsa8 dh8 x942 octet8 any8 | private | PKCS #8 (RFC 5958) | PrivateKeyInfo
+RSAPrivateKey | private | an RSA private key (RFC 8017)
+DSAPrivateKey | private | a DSA private key
+PFX | private | PKCS #12 (RFC 7292)
+Certificate | public | a certificate (RFC 5280)
+CertificationRequest | public | a certification request (RFC 2986)
+CertificateList | public | a list of revoked certificates (RFC 5280)
+ecPublic rsaPublic SubjectPublicKeyInfo | public | a public key (RFC 5280) | SubjectPublicKeyInfo
+DHParameter | closed | Diffie-Hellman parameters (PKCS #3)
+RSAPublicKey | closed | an RSA public key (RFC 8017)
+signature | closed | an ECDSA signature (RFC 3279)
+Dss-Parms | closed | DSA parameters (RFC 3279)
+DomainParameters | closed | Diffie-Hellman parameters (RFC 3279)
+ECParameters | public | the parameters of a curve (RFC 3279)
+ContentInfo | closed | CMS or PKCS #7 (RFC 5652)
+encrypted encrypted12 | closed | encrypted PKCS #8 (RFC 5958) | EncryptedPrivateKeyInfo
+digest2 digest1 digest5 | closed | a digest (RFC 8017) | DigestInfo
+OCSPResponse | closed | an OCSP response (RFC 6960)
+TimeStampReq | closed | a time stamp query (RFC 3161)
+TimeStampResp | closed | a time stamp reply (RFC 3161)
+OCSPRequest | closed | an OCSP request (RFC 6960)
+package | private | a package of private keys (RFC 5958) | AsymmetricKeyPackage
+safe | private | the inside of PKCS #12 (RFC 7292) | SafeContents
+oid | public | an identifier | namedCurve
+"""
 
 
 class Field:
@@ -229,18 +222,18 @@ for row in re.sub(r"\n  +", " ", TABLE).strip().splitlines():
 
 
 def fields_after(name, content):
-    """Returns the fields that come after an identifier with this name; None if it doesn't decide it."""
+    """Returns the fields that come after an identifier with this name, or None."""
     return next((STRUCTURES[structure] for identifier, arcs, structure in CASES
-                 if identifier == name and len(content) <= 12 and content.startswith(arcs_of(arcs))), None)
+                 if identifier == name and len(content) <= 12
+                 and content.startswith(arcs_of(arcs))), None)
 
 
-class Form:
-    """What the whole of some bytes can be."""
-
-    def __init__(self, structure, name, secrecy, words):
-        self.structure, self.name, self.secrecy, self.words = structure, name, secrecy, words
-        fields = STRUCTURES[structure]
-        self.root = fields[0] if structure == "oid" else Field(0x30, "", structure, name)
-
-
-ALL = [Form(*form) for form in FORMS]
+# What the whole of some bytes can be.
+Form = namedtuple("Form", "structure name secrecy words root")
+ALL = []
+for row in FORMS.strip().splitlines():
+    names, secrecy, words, *others = row.split(" | ")
+    for structure in names.split():
+        name, fields = (others or [structure])[0], STRUCTURES[structure]
+        root = fields[0] if structure == "oid" else Field(0x30, "", structure, name)
+        ALL.append(Form(structure, name, secrecy, words, root))

@@ -4,6 +4,7 @@ import base64
 import binascii
 import itertools
 import re
+from collections import namedtuple
 
 from ber import count_of, is_tree, shortened
 from table import RAW
@@ -31,15 +32,10 @@ WIDE = [(b"\xFF\xFE\0\0", 32), (b"\0\0\xFE\xFF", 32), (b"\xFF\xFE", 16), (b"\xFE
         (b"-\0-\0", 16), (b"\0-\0-", 16)]
 
 
-class Part:
-    """A part of an input that is drawn, or said to be something else; of a block of PEM its label
-    and line, and whether the commands of OpenSSL read it."""
-
-    def __init__(self, form, data=None, heading=None, words=(), command=None, label=None,
-                 line=None, runs=True):
-        self.form, self.data, self.heading = form, data, heading
-        self.words, self.command = list(words), command
-        self.label, self.line, self.runs = label, line, runs
+# A part of an input that is drawn, or said to be something else; of a block of PEM its label and
+# line, and whether the commands of OpenSSL read it.
+Part = namedtuple("Part", "form data heading words command label line runs",
+                  defaults=(None, None, (), None, None, None, True))
 
 
 def decoded(written):
@@ -54,16 +50,17 @@ def decoded(written):
 
 
 def blocks(given):
-    """Returns the blocks of PEM: the number of its first line, the label, the lines between, and
-    whether it has an end."""
-    found, lines = [], re.split(rb"\r\n|\n|\r", given)
+    """Returns the blocks of PEM, which begin and end with lines of their own."""
+    found, is_first, lines = [], True, re.split(rb"\r\n|\n|\r", given)
     for number, line in enumerate(lines, 1):
         begin = LABEL.fullmatch(line)
         if begin:
-            body = itertools.takewhile(lambda it: not it.startswith(b"-----"), lines[number:])
-            body, end = list(body), b"-----END " + begin[1] + b"-----"
+            body = [*itertools.takewhile(lambda it: not it.startswith(b"-----"), lines[number:])]
+            label, end = begin[1].decode(), b"-----END " + begin[1] + b"-----"
             after = b"".join(lines[number + len(body):][:1])
-            found.append((number, begin[1].decode(), body, after.rstrip(b" \t") == end))
+            is_ended = after.rstrip(b" \t") == end
+            found.append(block(given, is_first, number, label, body, is_ended))
+            is_first = is_first and not label.endswith("PRIVATE KEY")
     return found
 
 
@@ -90,69 +87,60 @@ def wrong(written, words):
     return ", in base64url" if re.search(rb"[-_]", written) else f", {words}"
 
 
-def pem_part(given, is_first, number, label, lines, is_ended):
-    """Returns a block of an input that begins and ends with lines of its own; of keys it may be the
-    first."""
+def pem(label, line, told, is_ended, **more):
+    """Returns a block of PEM of which this is told."""
+    ending = "" if is_ended else ", with no line END"
+    heading = shortened(f"PEM at line {line}, {label}: {told}{ending}")
+    return Part("pem", heading=heading, label=label, line=line, **more)
+
+
+def block(given, is_first, number, label, lines, is_ended):
+    """Returns a block of an input, of which it may be the first key."""
     headers, body = split_headers(lines)
     written = b"\n".join(body)
-    data, part = decoded(written), Part("pem", label=label, line=number)
+    data, words, command = decoded(written), [], None
     is_encrypted = any(header.startswith(b"Proc-Type: 4,ENCRYPTED") for header in headers)
-    part.runs = is_first and is_ended and label in KEYS and b"\n" in given
-    part.runs = part.runs and (is_encrypted or not headers)
+    runs = is_first and is_ended and label in KEYS and b"\n" in given
+    runs = runs and (is_encrypted or not headers)
     if label.startswith("PGP "):
-        told = "OpenPGP (RFC 9580), not drawn"
+        data, told = None, "OpenPGP (RFC 9580), not drawn"
     elif is_encrypted:
-        told = "encrypted (RFC 1421), not drawn"
-        if label == "EC PRIVATE KEY" and part.runs:
-            part.words, part.command = [ASKS], OF_PEM
+        data, told = None, "encrypted (RFC 1421), not drawn"
+        if label == "EC PRIVATE KEY" and runs:
+            words, command = [ASKS], OF_PEM
     elif label == "OPENSSH PRIVATE KEY" and data is not None:
-        told, part.words = "no DER, not drawn", [f"{OPENSSH}."]
+        words = [f"{OPENSSH}."]
         if b"ssh-ed25519" in data:
-            part.words = [f"{OPENSSH}, of a key that ssh-keygen makes no PEM of."]
+            words = [f"{OPENSSH}, of a key that ssh-keygen makes no PEM of."]
         elif b"\r" not in given:
-            part.words = [f"{OPENSSH}. If ssh-keygen reads it, this makes PEM of a copy of it:"]
-            part.command = "ssh-keygen -p -m PEM -f COPY"
+            words = [f"{OPENSSH}. If ssh-keygen reads it, this makes PEM of a copy of it:"]
+            command = "ssh-keygen -p -m PEM -f COPY"
+        data, told = None, "no DER, not drawn"
+    elif data is None:
+        data, runs = mended(written), False
+        amiss = wrong(written, "with other characters in it")
+        told = f"{count_of(len(data))}{amiss}" if data else "no base64, not drawn"
     else:
-        part.data = mended(written) if data is None else data
-        told = "no base64, not drawn" if part.data is None else count_of(len(part.data))
-        if data is None:
-            part.runs = False
-            told += wrong(written, "with other characters in it") if part.data else ""
-    ending = "" if is_ended else ", with no line END"
-    part.heading = shortened(f"PEM at line {number}, {label}: {told}{ending}")
-    return part
-
-
-def pem_parts(found, given):
-    """Returns the blocks of an input that has some."""
-    parts_of, is_first = [], True
-    for block in found:
-        parts_of.append(pem_part(given, is_first, *block))
-        is_first = is_first and not parts_of[-1].label.endswith("PRIVATE KEY")
-    return parts_of
+        told = count_of(len(data))
+    return pem(label, number, told, is_ended, data=data, words=words, command=command, runs=runs)
 
 
 def almost_pem(given):
     """Returns the first block that begins or ends anywhere, if it is almost one; or None."""
     front, begin, after = given.partition(b"-----BEGIN ")
     if not begin:
-        front, begin, after = given.partition(b"-----END ")
+        front, _, after = given.partition(b"-----END ")
     label, dashes, rest = after.partition(b"-----")
-    if not dashes or not LABEL.fullmatch(b"-----BEGIN " + label + b"-----"):
-        return None
-    written, words, ending = front, "with no line BEGIN", ""
-    if b"BEGIN" in begin:
+    written, words, is_ended = front, "with no line BEGIN", True
+    if begin:
         written = rest.partition(b"-----")[0]
         words = "indented or quoted" if re.search(rb"[\r\n]", written) else "with no line ends"
         is_ended = rest[len(written):].startswith(b"-----END " + label + b"-----")
-        ending = "" if is_ended else ", with no line END"
     data = mended(written)
-    if data is None:
+    if data is None or not LABEL.fullmatch(b"-----BEGIN " + label + dashes):
         return None
-    label, line = label.decode(), front.count(b"\n") + 1
-    told = f"{count_of(len(data))}{wrong(written, words)}{ending}"
-    heading = shortened(f"PEM at line {line}, {label}: {told}")
-    return Part("pem", data, heading, label=label, line=line, runs=False)
+    told, line = f"{count_of(len(data))}{wrong(written, words)}", front.count(b"\n") + 1
+    return pem(label.decode(), line, told, is_ended, data=data, runs=False)
 
 
 def hexadecimal(given):
@@ -165,26 +153,24 @@ def hexadecimal(given):
 def is_text(given):
     """Returns whether an input is text: UTF-8 without control characters but those of lines."""
     try:
-        given.decode()
+        return re.fullmatch(r"[^\0-\x08\v\f\x0E-\x1F]+", given.decode()) is not None
     except UnicodeDecodeError:
         return False
-    return bool(given) and not any(byte < 0x20 and byte not in b"\t\n\r" for byte in given)
 
 
 def parts(given):
     """Returns the parts of an input."""
     if not is_text(given):
-        size = None if len(given) in RAW or is_tree(given) else next(
+        if is_tree(given):
+            return [Part("der", given)]
+        size = None if len(given) in RAW else next(
             (size for mark, size in WIDE if given.startswith(mark)), None)
-        if size:
-            return [Part("text", words=[
-                f"This begins as text in UTF-{size}. Write it in UTF-8 first."])]
-        found = [] if is_tree(given) else blocks(given)
-        return pem_parts(found, given) if found else [Part("der", given)]
-    given = given[3:] if given[:3] == b"\xEF\xBB\xBF" else given
+        said = [f"This begins as text in UTF-{size}. Write it in UTF-8 first."]
+        return [Part("text", words=said)] if size else blocks(given) or [Part("der", given)]
+    given = given.removeprefix(b"\xEF\xBB\xBF")
     found = blocks(given)
     if found:
-        return pem_parts(found, given)
+        return found
     words, command = next(row[1:] for row in TEXTS if re.match(row[0], given))
     if given[:4] != b"0000" or "text" in words:
         part, amiss = almost_pem(given), wrong(given, "with other characters in it")

@@ -39,11 +39,9 @@ def identifier(content):
 
 
 def is_named(content):
-    """Returns whether sec1 reads an identifier: at most 39 bytes, arcs below 2^32."""
-    dotted = identifier(content)
-    return dotted is not None and len(content) <= 39 and all(
-        int(arc) >> 32 == 0 for arc in dotted.split(".")[1:]) and (
-        int(dotted.split(".")[1]) + 80 < 1 << 32 or dotted[0] != "2")
+    """Returns whether sec1 reads an identifier: at most 39 bytes, each number below 2^32."""
+    arcs = subidentifiers(content)
+    return arcs is not None and len(content) <= 39 and max(arcs) >> 32 == 0
 
 
 def escaped(characters):
@@ -71,21 +69,19 @@ def characters_of(number, content):
 def time_of(number, content):
     """Returns the text of a time, or None."""
     digits = 2 if number == 23 else 4
-    form = rb"(\d{%d})(\d\d)(\d\d)(\d\d)(\d\d)(\d\d)%sZ" % (
-        digits, b"" if number == 23 else rb"(\.\d*[1-9])?")
+    form = rb"(\d{%d})" % digits + rb"(\d\d)" * 5 + rb"(\.\d*[1-9])?Z"
     found = re.fullmatch(form, content)
-    if not found:
+    if not found or number == 23 and found[7]:
         return None
     year, month, day, hour, minute, second = map(int, found.groups()[:6])
     if number == 23:
         year += 1900 if year >= 50 else 2000
     leap = year % 4 == 0 and (year % 100 != 0 or year % 400 == 0)
     days = [31, 28 + leap, 31, 30, 31, 30, 31, 31, 30, 31, 30, 31]
-    if not 1 <= month <= 12 or not 1 <= day <= days[month - 1]:
+    if not 1 <= month <= 12 or not 1 <= day <= days[month - 1] or (
+            hour > 23 or minute > 59 or second > 59):
         return None
-    if hour > 23 or minute > 59 or second > 59:
-        return None
-    fraction = (found[7] or b"").decode() if number == 24 else ""
+    fraction = (found[7] or b"").decode()
     return f"{year:04}-{month:02}-{day:02} {hour:02}:{minute:02}:{second:02}{fraction}Z"
 
 
@@ -109,16 +105,15 @@ def is_control(byte):
     return byte < 0x20 or byte == 0x7F
 
 
-def point_of(head, content, length):
+def point_of(head, content):
     """Returns the form and size of a point, of whose content these bytes are shown; nothing if that
     has unused bits."""
-    if head.first != 4:
-        if content[0]:
-            return ""
-        content, length = content[1:], length - 1
-    if not content:
+    before = 0 if head.first == 4 else 1
+    if before and content[0]:
+        return ""
+    if not content[before:]:
         return "no point"
-    tag, count = content[0], length - 1
+    tag, count = content[before], head.length - before - 1
     if tag in (4, 6, 7) and count and count % 2 == 0:
         return f"{'uncompressed' if tag == 4 else 'hybrid'}, 2 x {count_of(count // 2)}"
     if tag in (2, 3, 5) and count:
@@ -126,11 +121,30 @@ def point_of(head, content, length):
     return "the point at infinity" if tag == 0 and count == 0 else "no point"
 
 
+UNUSED = "more than 7 unused bits (X.690 8.6.2.2)"
+# By types, which contents are wrong, and what is said of one by the first rule that it breaks.
+RULES = [
+    ([1], lambda it: len(it) != 1, "BOOLEAN has 1 byte (X.690 8.2.1)"),
+    ([1], lambda it: it[0] not in (0, 255), "TRUE is FF (X.690 11.1)"),
+    ([2, 10], lambda it: not it, "INTEGER has a byte or more (X.690 8.3.1)"),
+    ([3], lambda it: not it, "BIT STRING has a byte or more (X.690 8.6.2.2)"),
+    ([3], lambda it: it[0] > 7, UNUSED),
+    ([3], lambda it: it[0] and not it[1:], "unused bits in an empty BIT STRING (X.690 8.6.2.3)"),
+    ([3], lambda it: it[-1] % (1 << it[0]), "unused bits that aren't 0 (X.690 11.2.1)"),
+    ([5], lambda it: it, "NULL has no content (X.690 8.8.2)"),
+    ([6], lambda it: identifier(it) is None, "no identifier (X.690 8.19.2)"),
+    ([23], lambda it: time_of(23, it) is None, "not YYMMDDhhmmssZ (X.690 11.8)"),
+    ([24], lambda it: time_of(24, it) is None, "not YYYYMMDDhhmmss[.f]Z (X.690 11.7)"),
+    *(([number], lambda it, number=number: characters_of(number, it) is None,
+       f"not the characters of {TYPES[number]}") for number in LETTERS),
+]
+
+
 class Label:
     """The type of a row and its value, as they are printed, and the members of its JSON."""
 
     def __init__(self, data, row):
-        self.row, self.value, self.oid, self.note, self.is_all = row, None, None, None, False
+        self.value, self.oid, self.note, self.is_all = None, None, None, False
         head = row.head
         if head is None:
             self.type = row.kind
@@ -144,95 +158,49 @@ class Label:
         self.text = self.type
         if row.opened:
             return
-        self.content = data[row.start:row.start + row.shown]
-        is_bits = head.is_type(3)
-        self.length = head.length
-        self.text = f"{self.type}, {count_of(max(0, self.length - is_bits))}"
+        content, is_bits = data[row.start:row.start + row.shown], head.is_type(3)
+        self.text += f", {count_of(max(0, head.length - is_bits))}"
         # of a point the form says more than its bits
-        self.is_point = bool(row.field) and row.field.kind == "point"
-        if self.is_point and self.content:
-            self.note = point_of(head, self.content, self.length)
-        has_unused = is_bits or self.is_point and head.first != 4
-        if has_unused and self.content and 0 < self.content[0] < 8 and self.length > is_bits:
-            self.text += f", {count_of(self.content[0], 'unused bit')}"
+        is_point = bool(row.field) and row.field.kind == "point"
+        if is_point and content:
+            self.note = point_of(head, content)
+        unused = content[0] if content and (is_bits or is_point and head.first != 4) else 0
+        if head.length > is_bits and 0 < unused < 8 or unused > 7 and is_bits and not is_point:
+            self.text += f", {count_of(unused, 'unused bit')}"
         self.is_all = row.shown == row.stop - row.start and not row.missing and not head.constructed
+        amiss = UNUSED if is_bits and unused > 7 else None
         if self.is_all and space == "universal":
-            getattr(self, f"describe_{head.number}", self.describe_other)()
-        elif self.is_all and re.fullmatch(rb"[ -~]+", self.content) and not self.is_point:
-            self.value = self.content.decode()
-            self.text = f"{self.type} \"{escaped(self.value)}\""
-        elif is_bits and self.content and self.content[0] > 7:
-            self.mark("more than 7 unused bits (X.690 8.6.2.2)")
-
-    def mark(self, words):
-        self.row.marks.append(("content", words))
+            self.read(head.number, content, is_point)
+            amiss = next((words for numbers, is_wrong, words in RULES
+                          if head.number in numbers and is_wrong(content)), None)
+        elif self.is_all and re.fullmatch(rb"[ -~]+", content) and not is_point:
+            self.quote(content.decode())
+        row.marks += [("content", amiss)] if amiss else []
 
     def give(self, value):
-        self.value = value
-        self.text = f"{self.type} {value}"
+        self.value, self.text = value, f"{self.type} {value}"
 
-    def describe_other(self):
-        number = self.row.head.number
-        found = characters_of(number, self.content) if number in LETTERS else None
-        if found is not None:
-            self.value, self.text = found, f"{self.type} \"{escaped(found)}\""
-        elif number in LETTERS:
-            self.mark(f"not the characters of {self.type}")
+    def quote(self, characters):
+        self.value, self.text = characters, f"{self.type} \"{escaped(characters)}\""
 
-    def describe_1(self):
-        if len(self.content) != 1:
-            return self.mark("BOOLEAN has 1 byte (X.690 8.2.1)")
-        self.give("TRUE" if self.content[0] else "FALSE")
-        if self.content[0] not in (0, 255):
-            self.mark("TRUE is FF (X.690 11.1)")
-
-    def describe_2(self):
-        content = self.content
-        if not content:
-            return self.mark("INTEGER has a byte or more (X.690 8.3.1)")
-        if len(content) <= 8:
+    def read(self, number, content, is_point):
+        """Reads a content of a type that has this number, if it has a value."""
+        if number == 1 and len(content) == 1:
+            self.give("TRUE" if content[0] else "FALSE")
+        elif number in (2, 10) and 0 < len(content) <= 8:
             self.give(str(int.from_bytes(content, "big", signed=True)))
-
-    describe_10 = describe_2
-
-    def describe_3(self):
-        content = self.content
-        if not content:
-            return self.mark("BIT STRING has a byte or more (X.690 8.6.2.2)")
-        unused, bits = content[0], content[1:]
-        if unused > 7:
-            if not self.is_point:
-                self.text += f", {count_of(unused, 'unused bit')}"
-            return self.mark("more than 7 unused bits (X.690 8.6.2.2)")
-        if unused and not bits:
-            return self.mark("unused bits in an empty BIT STRING (X.690 8.6.2.3)")
-        if 0 < len(bits) < 4 and not self.is_point:
-            digits = "".join(f"{byte:08b}" for byte in bits)
-            self.give(digits[:len(digits) - unused])
-        if unused and bits[-1] % (1 << unused):
-            self.mark("unused bits that aren't 0 (X.690 11.2.1)")
-
-    def describe_5(self):
-        if self.content:
-            return self.mark("NULL has no content (X.690 8.8.2)")
-        self.text = "NULL"
-
-    def describe_6(self):
-        found = identifier(self.content)
-        if found is None:
-            return self.mark("no identifier (X.690 8.19.2)")
-        # one of a UUID has no longer ones (X.667 7)
-        if max(subidentifiers(self.content)) >> 128:
-            return None
-        self.oid, self.value = found, NAMES.get(found)
-        self.text = f"{self.type} " + (f"{self.value} ({found})" if self.value else found)
-
-    def describe_23(self):
-        number = self.row.head.number
-        found = time_of(number, self.content)
-        if found:
-            return self.give(found)
-        return self.mark("not YYMMDDhhmmssZ (X.690 11.8)" if number == 23 else
-                  "not YYYYMMDDhhmmss[.f]Z (X.690 11.7)")
-
-    describe_24 = describe_23
+        elif number == 3 and 1 < len(content) < 5 and content[0] < 8 and not is_point:
+            digits = "".join(f"{byte:08b}" for byte in content[1:])
+            self.give(digits[:len(digits) - content[0]])
+        elif number == 5 and not content:
+            self.text = "NULL"
+        # an arc of a UUID isn't longer (X.667 7)
+        elif number == 6 and identifier(content) and not max(subidentifiers(content)) >> 128:
+            self.oid = identifier(content)
+            self.value = NAMES.get(self.oid)
+            named = f"{self.value} ({self.oid})" if self.value else self.oid
+            self.text = f"{self.type} {named}"
+        elif number in (23, 24) and time_of(number, content):
+            self.give(time_of(number, content))
+        elif number in LETTERS and characters_of(number, content) is not None:
+            self.quote(characters_of(number, content))

@@ -4,6 +4,8 @@ from ber import count_of, shortened
 from table import CLOSED, RAW
 from values import NAMES, identifier, is_named
 
+# The identifier of EC keys (RFC 5480).
+EC_KEY = "1.2.840.10045.2.1"
 EC = "openssl ec %s-in FILE %s-outform DER -out key.der"
 EXPLICIT, LEGACY = "-param_enc named_curve ", "-provider legacy -provider default "
 PKCS12 = "openssl pkcs12 %s-in FILE -nodes -nocerts -out key.pem"
@@ -49,68 +51,71 @@ SIZES |= {name: (SIZES[name][0], SIZES[name][1] + 1)
 
 
 class Words:
-    """What is said of a picture that is drawn without --all."""
+    """What is said of a picture that is drawn without --all, and the command that helps."""
 
     def __init__(self, picture, source, runs):
         self.picture, self.plan, self.data = picture, picture.plan, picture.data
-        self.source, self.runs, self.rows = source, runs, picture.rows
+        self.source, self.rows = source, picture.rows
         self.lines, self.command, self.is_key = [], None, False
         self.form = self.plan.form.structure if self.plan.form else None
         if not self.data:
             self.lines = ["The block is empty." if source == "pem" else "The input is empty."]
         elif self.form is None:
-            self.say_bytes()
+            self.lines = [self.without_form()]
         else:
-            self.say_form()
+            self.is_key = self.form == "ECPrivateKey" and self.is_read()
+            self.lines = [self.whole() if self.plan.is_whole else self.broken()]
+            fits = self.say_sizes()
+            lead, command = None, None
+            if fits and not any(map(self.is_damaged, self.rows)):
+                lead, command = self.advice()
+            if command and self.source in ("der", "pem") and runs:
+                self.lines.append(lead)
+                self.command = command
         self.lines = [shortened(line) for line in self.lines]
 
-    def say_bytes(self):
-        """What is said of bytes without a form."""
+    def without_form(self):
+        """Returns what is said of bytes without a form."""
         data = self.data
         if self.plan.is_tree:
-            self.lines.append(f"{NO_KEY}.")
-        elif len(data) in RAW:
-            self.lines.append(f"These are {len(data)} bytes, as of a raw private key: no DER.")
-        else:
-            known = next((f"This begins as {name}" for name, begins in KNOWN if begins(data)), None)
-            many = f"These are {len(data)} bytes" if len(data) > 1 else "This is 1 byte"
-            self.lines.append(f"{known or many}: no DER.")
-
-    def say_form(self):
-        """What is said of bytes with a form: what they are, what doesn't fit, and what helps."""
-        self.is_key = self.form == "ECPrivateKey" and self.is_read()
-        self.lines.append(self.whole() if self.plan.is_whole else self.broken())
-        fits = self.say_sizes()
-        if not fits or any(map(self.is_damaged, self.rows)):
-            return None
-        if self.is_key:
-            return self.advise(WRITES, self.ec() if self.source == "pem" and self.curve()[0] else None)
-        if self.form == "ECPrivateKey" and self.version() == 1:
-            return self.advise_repair(any(map(gives_curve, self.rows)))
-        if self.form == "ec8" and self.find("ECPrivateKey", 2) and not self.find("publicKey", 1):
-            return self.advise_repair(False)
-        return self.advise_other()
+            return f"{NO_KEY}."
+        if len(data) in RAW:
+            return f"These are {len(data)} bytes, as of a raw private key: no DER."
+        known = next((f"This begins as {name}" for name, begins in KNOWN if begins(data)), None)
+        many = f"These are {len(data)} bytes" if len(data) > 1 else "This is 1 byte"
+        return f"{known or many}: no DER."
 
     def is_damaged(self, row):
-        """Returns whether a row says what no command repairs: neither lengths and strings as in BER,
-        nor bytes after the root, nor a curve that is given by its parameters."""
+        """Returns whether a row says what no command repairs: neither lengths and strings as in
+        BER, nor bytes after the root, nor a curve that is given by its parameters."""
         kinds = {kind for kind, _ in row.marks}
         if row.kind == "not drawn" and "rest" not in kinds:
             return True
         return bool(kinds - {"length", "indefinite", "string", "rest"}) and not gives_curve(row)
 
-    def advise_repair(self, is_explicit):
-        """Says how a key's curve is named, or a key is written in DER."""
-        if is_explicit:
-            self.advise(NAMING, self.ec(EXPLICIT))
-        elif self.curve()[0]:
-            self.advise(WRITES, self.ec())
-
-    def advise(self, lead, command):
-        """Says which command helps, if it reads this input."""
-        if command and self.source in ("der", "pem") and self.runs:
-            self.lines.append(lead)
-            self.command = command
+    def advice(self):
+        """Returns what is said of the command that helps, if OpenSSL reads this input, and the
+        command."""
+        form, oid = self.form, self.find("algorithm")
+        oid, has_public = oid.label.oid if oid else None, bool(self.find("publicKey", 1))
+        writes = WRITES, self.ec() if self.curve()[0] else None
+        if form == "ECPrivateKey" and self.version() == 1:
+            if any(map(gives_curve, self.rows)):
+                return NAMING, self.ec(EXPLICIT)
+            return (None, None) if self.is_key and self.source == "der" else writes
+        if form == "ec8" and self.find("ECPrivateKey", 2) and not has_public:
+            return writes
+        if form == "any8" and oid == EC_KEY and not has_public:
+            curve = self.find("parameters", 2)
+            if curve and curve.head.first == 0x30:
+                return NAMING, self.ec(EXPLICIT)
+        if form == "PFX" and self.source == "der":
+            return KEYS, PKCS12 % ("-legacy " * (oid == "1.3.14.3.2.26"))
+        if form in ("encrypted", "encrypted12"):
+            arcs = [int(arc) for arc in oid.split(".")] if oid else []
+            is_old = arcs[6:7] < [13] if form == "encrypted" else arcs[7:8] not in ([3], [4])
+            return ASKS, self.ec(legacy=LEGACY if is_old else "")
+        return None, None
 
     def ec(self, names="", legacy=""):
         return EC % (legacy + ("-inform DER " if self.source == "der" else ""), names)
@@ -125,18 +130,25 @@ class Words:
 
     def whole(self):
         """Returns what bytes are that follow their form to the end."""
-        words, form = self.plan.form.words, self.form
-        if form == "ECPrivateKey":
+        form = self.plan.form
+        if self.form == "ECPrivateKey":
             return self.key()
-        if self.plan.form.name == "PrivateKeyInfo":
-            return self.container()
-        if form == "oid":
-            return self.identifier()
-        if form in SAID:
-            return SAID[form]
-        if self.plan.form.secrecy == CLOSED or self.plan.is_private:
-            return f"This is {words}, no EC key."
-        return f"This is {words}: it has no private key."
+        if form.name == "PrivateKeyInfo":
+            oid = self.find("algorithm", 2).label.oid
+            if oid == EC_KEY:
+                return f"This is {form.words} with an EC key."
+            known = f": {NAMES.get(oid, oid)}" if oid else ""
+            return f"This is {form.words} with another key{known}. It has no EC key."
+        if self.form == "oid":
+            known = NAMES.get(identifier(self.data[2:]) if self.rows[0].start == 2 else None)
+            curve = "the curve " if known in SIZES else ""
+            named = f"names {curve}{known}" if known else "is an identifier"
+            return f"This {named}: it has no private key."
+        if self.form in SAID:
+            return SAID[self.form]
+        if form.secrecy == CLOSED or self.plan.is_private:
+            return f"This is {form.words}, no EC key."
+        return f"This is {form.words}: it has no private key."
 
     def broken(self):
         """Returns what bytes are that don't follow their form to the end."""
@@ -156,83 +168,44 @@ class Words:
 
     def key(self):
         """Returns what is said of an ECPrivateKey."""
-        name, row = self.curve()
-        if self.is_key:
-            if row is None:
-                return "This is an EC private key (RFC 5915), with no curve named."
-            where = name or (f"the curve {row.label.oid}" if row.label.oid else "another curve")
-            return f"This is an EC private key (RFC 5915) on {where}."
-        version = self.version()
-        return self.broken() if version == 1 else f"{NO_KEY}: its version is {version}."
+        (name, row), version = self.curve(), self.version()
+        if not self.is_key:
+            return self.broken() if version == 1 else f"{NO_KEY}: its version is {version}."
+        if row is None:
+            return "This is an EC private key (RFC 5915), with no curve named."
+        where = name or (f"the curve {row.label.oid}" if row.label.oid else "another curve")
+        return f"This is an EC private key (RFC 5915) on {where}."
 
     def version(self):
         row = self.find("version", 1)
         return self.content(row)[0] if row else None
 
-    def unused(self):
-        """Returns whether a point has unused bits, or no byte."""
-        row = self.find("the point")
-        return row is not None and self.content(row)[:1] != b"\0"
-
     def is_read(self):
         """Returns whether `EcPrivateKey::try_from` reads the bytes: DER (RFC 5915)."""
         if not self.plan.is_whole or any(row.head and row.head.marks for row in self.rows):
             return False
-        row = self.curve()[1]
+        row, point = self.curve()[1], self.find("the point")
         is_curve = row is None or is_named(self.content(row))
-        return self.version() == 1 and not self.unused() and is_curve
+        has_unused = point is not None and self.content(point)[:1] != b"\0"
+        return self.version() == 1 and not has_unused and is_curve
 
     def say_sizes(self):
-        """Says which lengths don't fit the curve. Returns whether a key fits, as far as is known."""
-        size, order = SIZES.get(self.curve()[0], (None, None))
+        """Says which lengths don't fit the curve. Returns whether a key fits, as far as known."""
+        name, point, fits, count = self.curve()[0], self.find("the point"), True, len(self.lines)
+        size, order = SIZES.get(name, (None, None))
         depth = {"ECPrivateKey": 1, "ec8": 3}.get(self.form)
         key = self.find("privateKey", depth) if depth else None
-        point, fits, count = self.find("the point"), True, len(self.lines)
         if size and key and key.stop - key.start != order and not key.opened:
             there = count_of(key.stop - key.start)
-            self.lines.append(f"Its private key has {there}, where {self.curve()[0]} has {order}.")
+            self.lines.append(f"Its private key has {there}, where {name} has {order}.")
         if point and point.shown > 1:
             unused, form = self.content(point)[:2]
             wanted, there = {2: size, 3: size}.get(form, 2 * (size or 0)), point.head.length - 2
             is_plain = form in (2, 3, 4, 6, 7)
             fits = is_plain and unused == 0
             if size and is_plain and there != wanted:
-                self.lines.append(
-                    f"Its point has {count_of(there)}, where {self.curve()[0]} has {wanted}.")
+                self.lines.append(f"Its point has {count_of(there)}, where {name} has {wanted}.")
         return fits and count == len(self.lines)
-
-    def container(self):
-        """Returns what is said of PKCS #8."""
-        row = self.find("algorithm", 2)
-        if row.label.oid == "1.2.840.10045.2.1":
-            return "This is PKCS #8 (RFC 5958) with an EC key."
-        known = NAMES.get(row.label.oid, row.label.oid)
-        return "This is PKCS #8 (RFC 5958) with another key%s. It has no EC key." % (
-            f": {known}" if known else "")
-
-    def identifier(self):
-        """Returns what is said of an identifier alone."""
-        known = NAMES.get(identifier(self.data[2:]) if self.rows[0].start == 2 else None)
-        if not known:
-            return "This is an identifier: it has no private key."
-        curve = "the curve " if known in SIZES else ""
-        return f"This names {curve}{known}: it has no private key."
-
-    def advise_other(self):
-        """Says what helps with other forms."""
-        form, oid = self.form, self.find("algorithm")
-        oid = oid.label.oid if oid else None
-        if form == "any8" and oid == "1.2.840.10045.2.1":
-            kid = self.find("parameters", 2)
-            if kid and kid.head.first == 0x30 and not self.find("publicKey", 1):
-                self.advise(NAMING, self.ec(EXPLICIT))
-        elif form == "PFX":
-            command = PKCS12 % ("-legacy " * (oid == "1.3.14.3.2.26"))
-            self.advise(KEYS, command if self.source == "der" else None)
-        elif form in ("encrypted", "encrypted12"):
-            arcs = [int(arc) for arc in oid.split(".")] if oid else []
-            is_old = arcs[6:7] < [13] if form == "encrypted" else arcs[7:8] not in ([3], [4])
-            self.advise(ASKS, self.ec(legacy=LEGACY if is_old else ""))
 
 
 def gives_curve(row):
