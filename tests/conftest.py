@@ -154,6 +154,17 @@ def rows(table):
     ]
 
 
+# For commands that no network is there for.
+OFFLINE = """CARGO_NET_OFFLINE=true PIP_NO_INDEX=1 PIP_DISABLE_PIP_VERSION_CHECK=1
+    PYTHONDONTWRITEBYTECODE=1 npm_config_offline=true npm_config_update_notifier=false"""
+
+
+def blocks(path, word):
+    """Returns the blocks of a document with this word behind the backquotes."""
+    found = re.findall(r"^```(.*)\n((?s:.*?))^```$", (TOP / path).read_text(), re.M)
+    return [text for behind, text in found if behind == word]
+
+
 # ---- counts
 
 

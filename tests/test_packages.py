@@ -17,7 +17,7 @@ import subprocess
 import threading
 
 import pytest
-from conftest import TOP, call, lacking, lines_of, needs, rows
+from conftest import OFFLINE, TOP, blocks, call, lacking, lines_of, needs, rows
 
 BINDINGS, DIST = TOP / "bindings", TOP / "dist"
 MACHINE = platform.machine()
@@ -33,23 +33,15 @@ def target(tmp_path_factory):
     """Has no tool use a network, and the library be that of dist; returns where cargo builds, once
     for all tests, and without what only a debugger or a later build reads."""
     folder = tmp_path_factory.mktemp("target")
-    variables = f"""CARGO_NET_OFFLINE=true CARGO_TARGET_DIR={folder} CARGO_INCREMENTAL=0
-        CARGO_PROFILE_DEV_DEBUG=0 PIP_NO_INDEX=1 PIP_DISABLE_PIP_VERSION_CHECK=1
-        PYTHONDONTWRITEBYTECODE=1 npm_config_offline=true npm_config_cache={folder}/npm
-        npm_config_update_notifier=false npm_config_fund=false npm_config_audit=false
-        WINEDEBUG=-all WINEPREFIX={folder}/wine"""
+    variables = f"""{OFFLINE} CARGO_TARGET_DIR={folder} CARGO_INCREMENTAL=0
+        CARGO_PROFILE_DEV_DEBUG=0 npm_config_cache={folder}/npm npm_config_fund=false
+        npm_config_audit=false WINEDEBUG=-all WINEPREFIX={folder}/wine"""
     with pytest.MonkeyPatch.context() as patch:
         for name in ("SEC1_LIB_DIR", "SEC1_LIBRARY", "CC"):
             patch.delenv(name, raising=False)
         for it in variables.split():
             patch.setenv(*it.split("=", 1))
         yield folder
-
-
-def blocks(path, word):
-    """Returns the blocks of a document behind this word."""
-    text = (TOP / path).read_text()
-    return re.findall(rf"^```{word}\n(.*?)^```$", text, re.M | re.S)
 
 
 # Makes a repository of the package $0, and of what its links lead to, and a clone without links.
