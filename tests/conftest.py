@@ -21,6 +21,8 @@ OUTCOMES = ["passed", "failed", "skipped"]
 LEAST = dict(reversed(it.split(" ", 1)) for it in (TOP / "tests/least").read_text().splitlines())
 # How many failed cases of a test are shown.
 SHOWN = 40
+# What clang needs for its sanitizers, and to fuzz.
+CLANG = "clang", "/usr/lib/clang/*/lib/linux/libclang_rt.fuzzer-x86_64.a"
 # The last line of a script that counts its cases.
 COUNT = re.compile(r"^(\d+) passed, (\d+) failed(?:, (\d+) skipped)?$")
 
@@ -133,6 +135,11 @@ def refuse(tmp_path_factory):
     build = ["cc", "-O1", "-shared", "-fPIC", "-o", library, TOP / "tests/refuse.c", "-ldl"]
     subprocess.run(build, check=True)
     return library
+
+
+def object_of(archive, *names):
+    """Returns the bytes of these objects of an archive, by default of all that it has."""
+    return subprocess.run(["ar", "p", archive, *names], stdout=subprocess.PIPE, check=True).stdout
 
 
 def lacking(*tools):
