@@ -41,14 +41,14 @@ CODE = re.sub(r"/\*.*?\*/", "", HEADER, flags=re.S)
 TEXT = r'case SEC1_(\w+):\s*return "([^"]*)";'
 
 
-def texts(pattern, text):
-    """Returns the texts that a pattern finds behind names."""
-    return dict(re.findall(pattern, text, re.M))
+def texts(path, pattern):
+    """Returns the texts that a pattern finds behind names in a file."""
+    return dict(re.findall(pattern, read(path), re.M))
 
 
 def numbers(pattern, text, front="SEC1_"):
     """Returns the numbers that a pattern finds behind names, which become those of the header."""
-    found = texts(pattern, text).items()
+    found = re.findall(pattern, text, re.M)
     return {front + words_of(name): int(number) for name, number in found}
 
 
@@ -72,9 +72,8 @@ def enums():
     """Returns the names and the numbers of each enum of the header."""
     found = {}
     for name, body in re.findall(r"enum (\w+) \{(.*?)\}", CODE, re.S):
-        members = [it.strip() for it in body.split(",") if it.strip()]
-        pairs = [re.fullmatch(r"(\w+) = (\d+)", it).groups() for it in members]
-        found[name] = {it: int(number) for it, number in pairs}
+        pairs = [re.fullmatch(r"\s*(\w+) = (\d+)\s*", it) for it in body.rstrip(", \n").split(",")]
+        found[name] = {it[1]: int(it[2]) for it in pairs}
         assert len(found[name]) == len(pairs), f"enum {name} has a name twice"
     return found
 
@@ -147,8 +146,8 @@ ENUMS = {
 def source_enum(enum):
     """Returns the names and the numbers that the source has of an enum of the header."""
     _, greatest, front, path, patterns = ENUMS[enum]
-    found = [it for pattern in patterns for it in numbers(pattern, read(path), front).items()]
-    return {name: number for name, number in found if number <= greatest}
+    found = (numbers(it, read(path), front).items() for it in patterns)
+    return {name: number for every in found for name, number in every if number <= greatest}
 
 
 def test_enums(same, enums):
@@ -168,27 +167,25 @@ def test_texts_of_statuses(same, tell):
 
 
 def test_texts_of_kinds(same, enums):
-    kinds = read("crates/sec1_der/specs/Errors.antt")
-    kinds = texts(r'^kind_message (\w+) = codes "([^"]*)"$', kinds)
+    kinds = texts("crates/sec1_der/specs/Errors.antt", r'^kind_message (\w+) = codes "([^"]*)"$')
     same("the number of kinds", 11, len(kinds))
-    header = texts(TEXT, HEADER)
-    formats = texts(r"^\| (\w+) \|.*\| `([^`]+)` \|$", read("docs/FORMATS.md"))
-    rust = read("bindings/rust/sec1/tests/programs.rs")
-    rust = texts(r'\(ErrorKind::(\w+), "([^"]*)"\)', rust)
-    python = texts(r'\((\d+), "([^"]*)"\),$', read("bindings/python/tests/test_sec1.py"))
-    script = texts(r"\['\w+', (\d+), '([^']*)'\],$", read("bindings/js/tests/test.js"))
-    # what the library for C can't return: a reader that failed before, and reads and writes
-    inner = {"Failed", "Io", "Memory"}
+    formats = texts("docs/FORMATS.md", r"^\| (\w+) \|.*\| `([^`]+)` \|$")
+    header = texts("dist/sec1.h", TEXT)
+    rust = texts("bindings/rust/sec1/tests/programs.rs", r'\(ErrorKind::(\w+), "([^"]*)"\)')
+    python = texts("bindings/python/tests/test_sec1.py", r'\((\d+), "([^"]*)"\),$')
+    script = texts("bindings/js/tests/test.js", r"\['\w+', (\d+), '([^']*)'\],$")
     for kind, wanted in kinds.items():
-        same(f"FORMATS.md: the text of {kind}", wanted, formats.get(kind))
-        if kind not in inner:
-            name = words_of(kind)
-            same(f"the text of SEC1_{name}", wanted, header.get(name))
-            same(f"the package for Rust: the text of {kind}", wanted, rust.get(kind))
-            number = str(enums["sec1_status"].get(f"SEC1_{name}"))
-            same(f"the package for Python: the text of {kind}", wanted, python.get(number))
+        name = words_of(kind)
+        number = str(enums["sec1_status"].get(f"SEC1_{name}"))
+        found = {"FORMATS.md": formats.get(kind)}
+        # what the library for C can't return: a reader that failed before, and reads and writes
+        if kind not in ("Failed", "Io", "Memory"):
+            found |= {"sec1.h": header.get(name), "the package for Rust": rust.get(kind)}
+            found["the package for Python"] = python.get(number)
             if kind != "Buffer":
-                same(f"the package for JavaScript: the text of {kind}", wanted, script.get(number))
+                found["the package for JavaScript"] = script.get(number)
+        for where, text in found.items():
+            same(f"{where}: the text of {kind}", wanted, text)
 
 
 def test_numbers_of_packages(same, enums):
@@ -198,11 +195,11 @@ def test_numbers_of_packages(same, enums):
     same("the package for Rust: the numbers", both, rust)
     python = read("bindings/python/src/sec1/__init__.py")
     errors = [int(n) for n in re.findall(r"^    status = (\d+)$", python, re.M)]
-    same("the package for Python: the numbers of errors", list(range(1, 14)), errors)
-    tags = re.search(r"^class Tag\(IntEnum\):(?s:.*?)\n\n\n", python, re.M).group()
+    same("the package for Python: the numbers of errors", [*range(1, 14)], errors)
+    tags = re.search(r"^class Tag\(IntEnum\):(?s:.*?)\n\n\n", python, re.M)[0]
     tags = numbers(r"^    ([A-Z_]+) = (\d)$", tags, "SEC1_POINT_")
     same("the package for Python: the tags of points", enums["sec1_point_tag"], tags)
-    kinds = re.search(r" Kind = Object.freeze\((.*)\);", read("bindings/js/library.js")).group(1)
+    kinds = re.search(r" Kind = Object.freeze\((.*)\);", read("bindings/js/library.js"))[1]
     kinds = numbers(r"(\w+): (\d)", kinds, "SEC1_LINE_")
     same("the package for JavaScript: the kinds of lines", enums["sec1_line"], kinds)
 
@@ -259,6 +256,6 @@ def test_macros(same):
     # the rest is the version, the CHANGELOG's first
     heading = r"^## (?:Unreleased: )?v?(\d+)\.(\d+)\.(\d+)"
     version = re.search(heading, read("CHANGELOG.md"), re.M).groups()
-    parts = ["SEC1_VERSION_MAJOR", "SEC1_VERSION_MINOR", "SEC1_VERSION_PATCH"]
+    parts = [f"SEC1_VERSION_{it}" for it in ("MAJOR", "MINOR", "PATCH")]
     same("the other numbers of macros", sorted(parts), sorted(defined))
     same("the version", [int(n) for n in version], [defined.get(part) for part in parts])
