@@ -7,6 +7,7 @@ import re
 import sys
 
 import pytest
+import to_32
 import wasm
 from conftest import CLANG, TOP, lacking, lines_of, needs, object_of
 from dist import addresses, compare, stack, wraps
@@ -114,20 +115,14 @@ def test_assembly(planted, tell, tmp_path, processor):
 # ---- the module
 
 
-@pytest.fixture
-def module(tmp_path):
-    """Returns the module that build.sh links, with a memory of 32 bits, and the kit behind it."""
-    lines_of(*PYTHON, DIST / "to_32.py", OUT / "sec1.wasm", tmp_path / "32.wasm")
-    return (tmp_path / "32.wasm").read_bytes(), b"\4sec1Made with: " + KIT.encode()
-
-
 @by_this_kit(cases=3)
-def test_module(module, tell):
-    linked, kit = module
+def test_module(tell):
+    """Compares it with the module that build.sh links, once that has a memory of 32 bits."""
+    linked = to_32.lowered((OUT / "sec1.wasm").read_bytes())
     found = bytearray((DIST / "sec1.wasm").read_bytes())
     tell("it is what is linked", found[: len(linked)] == linked)
     # the number and the length of the section that names the kit stand between them
-    tell("it ends with the kit", found[len(linked) + 2 :] == kit)
+    tell("it ends with the kit", found[len(linked) + 2 :] == b"\4sec1Made with: " + KIT.encode())
     found[len(found) // 2] ^= 1
     tell("another byte is found", found[: len(linked)] != linked)
 

@@ -17,6 +17,7 @@ import subprocess
 import threading
 
 import pytest
+import wasm
 from conftest import OFFLINE, TOP, blocks, call, lacking, lines_of, needs, rows
 
 BINDINGS, DIST = TOP / "bindings", TOP / "dist"
@@ -44,6 +45,8 @@ def target(tmp_path_factory):
         yield folder
 
 
+# What a package must not have.
+LINKS = "find . -type l"
 # Makes a repository of the package $0, and of what its links lead to, and a clone without links.
 REPOSITORY = """mkdir $1/linked
 cp -a --parents bindings/$0 $1/linked
@@ -61,11 +64,6 @@ def repository(folder, package):
     links, as git makes it on Windows: each is a file that has a path."""
     lines_of("bash", "-euo", "pipefail", "-c", REPOSITORY, package, folder, cwd=TOP)
     return folder / "unlinked"
-
-
-def links(folder):
-    """Returns the links in a folder."""
-    return lines_of("find", folder, "-type", "l")
 
 
 @pytest.mark.parametrize("package", ["rust", "python", pytest.param("js", marks=needs("node"))])
@@ -86,24 +84,24 @@ def workspace(tmp_path_factory):
 
 # How cargo finds the crate below.
 BELOW = "--config 'patch.crates-io.bridgeacacia-sec1-sys.path=\"../sec1-sys\"'"
-# One by one, since cargo 1.85 looks for the one below in the registry otherwise.
+# Packs the crates one by one, since cargo 1.85 looks for the one below in the registry otherwise,
+# and unpacks them in the folder $0, with the tests, which aren't packed.
 PACK = f"""cargo package --locked --allow-dirty -p bridgeacacia-sec1-sys
-cargo package --allow-dirty -p bridgeacacia-sec1 {BELOW}"""
+cargo package --allow-dirty -p bridgeacacia-sec1 {BELOW}
+for it in sec1 sec1-sys; do
+    mkdir -p $0/$it
+    crate=$CARGO_TARGET_DIR/package/bridgeacacia-$it-{VERSION}.crate
+    tar xzf $crate -C $0/$it --strip-components=1
+done
+cp -r tests $0/sec1
+sed -i 's/^autotests = false/autotests = true/' $0/sec1/Cargo.toml"""
 
 
 @pytest.fixture(scope="module")
 def packed(workspace, target):
-    """Returns the folder of what is packed of both crates, each built from what is listed, with the
-    tests, which aren't packed."""
-    folder = target / "crates"
-    lines_of("bash", "-ec", PACK, cwd=workspace / "sec1")
-    for name in "sec1", "sec1-sys":
-        (folder / name).mkdir(parents=True)
-        crate = target / f"package/bridgeacacia-{name}-{VERSION}.crate"
-        lines_of("tar", "xzf", crate, "-C", folder / name, "--strip-components=1")
-    lines_of("cp", "-r", workspace / "sec1/tests", folder / "sec1")
-    lines_of("sed", "-i", "s/^autotests = false/autotests = true/", folder / "sec1/Cargo.toml")
-    return folder
+    """Returns the folder of what is packed of both crates, each built from what is listed."""
+    lines_of("bash", "-ec", PACK, target / "crates", cwd=workspace / "sec1")
+    return target / "crates"
 
 
 FULL = "test -s LICENSE-MIT -a -s LICENSE-APACHE"
@@ -112,7 +110,7 @@ FULL = "test -s LICENSE-MIT -a -s LICENSE-APACHE"
 def test_rust_is_packed(packed, check, target):
     check("the licences of sec1", FULL, folder=packed / "sec1")
     check("those of sec1-sys", f"{FULL} -a -f licences.txt", folder=packed / "sec1-sys")
-    check("no link is packed", "find . -type l", prints="", folder=packed)
+    check("no link is packed", LINKS, prints="", folder=packed)
     names = f"for it in {target}/package/*.crate; do tar tzf $it; done"
     check("no test is packed", f"! ({names} | grep -E '/(tests|benches)/')")
 
@@ -236,8 +234,8 @@ def program(folder, dependencies=""):
 
 def test_rust_by_git(check, tell, tmp_path):
     clone = repository(tmp_path, "rust")
-    tell("it has no links", (clone / "bindings/rust/sec1-sys/src/sec1.rs").is_file())
-    tell("none at all", not links(clone))
+    tell("the source is there", (clone / "bindings/rust/sec1-sys/src/sec1.rs").is_file())
+    check("it has no links", LINKS, prints="", folder=clone)
     build = "cargo build --locked --features std,pem"
     where = clone / "bindings/rust/sec1"
     check("the crate is built there, of sec1.rs", build, folder=where, SEC1_LIBRARY="rust")
@@ -322,7 +320,7 @@ def test_python_source_archive(sdist, source, check, tmp_path):
     check("it is made again", f"{SDIST} {tmp_path}", folder=BINDINGS / "python")
     check("it has the same bytes", ["cmp", sdist, tmp_path / sdist.name])
     check("it has the licences", f"{FULL} -a -f licences.txt", folder=source)
-    check("it has no links", "find . -type l", prints="", folder=source)
+    check("it has no links", LINKS, prints="", folder=source)
     check("it has no tests", f"! (tar tzf {sdist} | grep /tests)")
 
 
@@ -382,7 +380,7 @@ def test_python_without_links(wheel, sdist, check, tell, tmp_path):
     package, made, other = clone / "bindings/python", tmp_path / "made", tmp_path / "other"
     made.mkdir()
     path = (package / f"library/sec1-{MACHINE}.s").read_text()
-    tell("the clone has no links", not links(clone))
+    check("the clone has no links", LINKS, prints="", folder=clone)
     tell("the assembly is a path there", path == f"../../../dist/sec1-{MACHINE}.s")
     check("the source archive is made there", f"{SDIST} {made}", folder=package)
     check("it has the same bytes", ["cmp", sdist, made / sdist.name])
@@ -461,16 +459,14 @@ def test_js_is_packed(tarball, clone, check, tell, tmp_path):
     check("it has the same bytes again", ["cmp", tarball, pack(linked, tmp_path / "again")])
     same = ["diff", "-r", "--no-dereference", BINDINGS / "js", linked]
     check("it leaves the folder as it was", same)
-    tell("a clone has no links", not links(clone))
+    check("a clone has no links", LINKS, prints="", folder=clone)
     tell("its module is a path", (there / "sec1.wasm").read_text() == "../../dist/sec1.wasm")
     check("a clone without links has them too", ["cmp", tarball, pack(there, tmp_path / "clone")])
-    check("it leaves that", ["git", "-C", clone, "status", "--porcelain"], prints="")
-    shutil.copytree(clone, tmp_path / "other")
-    (tmp_path / "other/dist/sec1.wasm").unlink()
+    check("it leaves that", "git status --porcelain", prints="", folder=clone)
+    (clone / "dist/sec1.wasm").rename(tmp_path / "sec1.wasm")
     said = "sec1.wasm leads to ../../dist/sec1.wasm, where nothing is"
-    check("a path", "node links.js follow", refused=said, folder=tmp_path / "other/bindings/js")
-    names = lines_of("tar", "tzf", tarball)
-    tell("it has no tests", not [it for it in names if it.startswith("package/tests")])
+    check("a path", "node links.js follow", refused=said, folder=there)
+    tell("it has no tests", "package/tests" not in " ".join(lines_of("tar", "tzf", tarball)))
 
 
 USES = """
@@ -492,9 +488,6 @@ FILES = {
     "types.mts": (BINDINGS / "js/tests/types.ts").read_text(),
     "types.cts": f"import {{ Curve }} from '{NAME}'; export const name: string = Curve.name;",
     "wrong.mts": f"import {{ checkTree }} from '{NAME}'; checkTree('text');",
-    "calls.mjs": """import fs from 'node:fs';
-const module = new WebAssembly.Module(fs.readFileSync(process.argv[2]));
-console.log(WebAssembly.Module.exports(module).map((it) => it.name).join('\\n'));""",
     "description.cjs": f"""for (const it of ['sec1.wasm', 'package.json'])
     require.resolve('{NAME}/' + it);
 console.log(require('{NAME}/package.json').engines.node);""",
@@ -520,7 +513,7 @@ INSTALLED = {
     "package": (f"npm ls {NAME}", {}, "npm"),
     "types, module and licences": (
         f"cd {HERE}; for it in index.d.ts sec1.wasm LICENSE-MIT LICENSE-APACHE licences.txt; do"
-        " test -f $it; done; find . -type l",
+        f" test -f $it; done; {LINKS}",
         {"prints": ""}, "node",
     ),
     "first program of README.md": ("node read.mjs", {"prints": PARTS}, "node"),
@@ -567,13 +560,11 @@ def test_js_is_found_not_to_wipe(installed, tmp_path):
     assert ended(copy, "--test-name-pattern", test)[0].endswith(test)
 
 
-@script()
-def test_js_has_the_calls(installed):
+def test_js_has_the_calls():
     """Compares what sec1.h declares with what the module has: not what the header says in C."""
     declared = set(re.findall(r"\b(sec1_\w+)\(", (DIST / "sec1.h").read_text()))
-    found = lines_of("node", installed / "calls.mjs", DIST / "sec1.wasm")
+    found = {it for it in wasm.Module((DIST / "sec1.wasm").read_bytes()).exports if "sec1_" in it}
     in_c = "key_len_of key_write_of picture_show status_text version"
-    found = {it for it in found if it.startswith("sec1_")}
     assert declared ^ found == {f"sec1_{it}" for it in in_c.split()}
 
 

@@ -67,16 +67,13 @@ class Object:
 
     def instructions(self):
         """Returns the instructions of each section, without those that do nothing."""
-        found = {}
-        for line in lines_of("objdump", "-d", "-w", "--no-show-raw-insn", self.path):
-            if line.startswith("Disassembly of section "):
-                code = found.setdefault(line[23:-1], [])
-            elif re.match(r" *[0-9a-f]+:\t", line):
-                place, text = line.strip().split("\t", 1)
-                text = re.sub(r"\s*<.*>|\s*#.*", "", text).strip()
-                if not re.match(r"(data16 |cs )*nop|xchg +%ax,%ax$", text):
-                    code.append((place, text))
-        return found
+        listed = "\n".join(lines_of("objdump", "-d", "-w", "--no-show-raw-insn", self.path))
+        plain = re.sub(r"[ \t]*(<.*>|#.*)", "", listed)
+        _, *parts = re.split(r"^Disassembly of section (.*):$", plain, flags=re.M)
+        code = (re.findall(r"^ *(\w+):\t(.*\S)", it, re.M) for it in parts[1::2])
+        does_nothing = re.compile(r"(data16 |cs )*nop|xchg +%ax,%ax$").match
+        found = ([it for it in every if not does_nothing(it[1])] for every in code)
+        return dict(zip(parts[::2], found))
 
     def sections(self):
         """Yields the name of each section that is kept, and what is compared of it."""
