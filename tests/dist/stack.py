@@ -69,16 +69,12 @@ class Stack:
             ops = list(module.ops(function))
             self.frames[index] = frame(ops, self.names[index])
             self.calls[index] = {op.args[0] for op in ops if op.code == wasm.CALL}
-        self.reached = {index: self.reached_by(index) for index in self.calls}
-
-    def reached_by(self, index):
-        """Returns the functions that a call of one reaches."""
-        found, left = set(), [index]
-        while left:
-            more = self.calls[left.pop()] - found
-            found |= more
-            left += more
-        return found
+        # the functions that a call of each reaches
+        self.reached = {index: {*called} for index, called in self.calls.items()}
+        for via, found in self.reached.items():
+            for other in self.reached.values():
+                if via in other:
+                    other |= found
 
     @functools.lru_cache(maxsize=None)
     def used(self, index):
