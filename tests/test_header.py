@@ -22,6 +22,8 @@ TYPES = {
     "usize": "size_t",
     "Span": "struct sec1_part",
 }
+# What is in front of a function's name for its result.
+RESULT = "the result of "
 # Where the struct of a picture's line is, and its kinds.
 LINES = "crates/der_view/src/output.rt"
 # What the header alone has: a struct whose members are given to a call by inline functions.
@@ -79,23 +81,22 @@ def enums():
 
 
 def source_items():
-    """Returns the types in C of each exported function, beginning with that of its result, and the
-    members of each struct of C; and the names of the parameters of each function."""
-    types, names = {}, {}
+    """Returns the parameters in C of each exported function, the type of its result, and the
+    members of each struct of C."""
+    found = {}
     for path in [*sorted((TOP / "crates/sec1_c/src").rglob("*.rt")), TOP / LINES]:
         text = path.read_text(encoding="utf-8")
         function = r'pub extern "C" fn (\w+)\((.*?)\) -> (\w+)'
         for name, parameters, result in re.findall(function, text, re.S):
-            types[name], names[name] = [type_of(result)], []
-            for word, kind in re.findall(r"(\w+): ([^,]*[^,\s])", parameters):
-                word = "bytes" if word == "input" and name in OF_BYTES else word
-                types[name] += c_types(kind)
-                names[name] += [word, word + "_len"][: len(c_types(kind))]
+            text_of = re.sub(r"\binput:", "bytes:", parameters) if name in OF_BYTES else parameters
+            pairs = re.findall(r"(\w+): ([^,]*[^,\s])", text_of)
+            found[name] = [it for word, kind in pairs for it in in_c(word, kind)]
+            found[RESULT + name] = type_of(result)
         struct = r"#\[repr\(C\)\].*?pub struct (\w+) \{(.*?)\n\}"
         for name, body in re.findall(struct, text, re.S):
             members = re.findall(r"pub (\w+): (\w+),", body)
-            types[type_of(name)] = [f"{type_of(kind)} {word}" for word, kind in members]
-    return types, names
+            found[type_of(name)] = [f"{type_of(kind)} {word}" for word, kind in members]
+    return found
 
 
 def type_of(word):
@@ -103,26 +104,24 @@ def type_of(word):
     return TYPES.get(word) or f"struct sec1_{words_of(word).lower()}"
 
 
-def c_types(kind):
-    """Returns the types in C of a parameter: a slice crosses as a pointer and a length."""
-    reference, slice, word = re.fullmatch(r"(&|&mut )?(\[)?(\w+)\]?", kind).groups()
-    pointer = ("const " if reference == "&" else "") + type_of(word) + ("*" if reference else "")
-    return [pointer, "size_t"] if slice else [pointer]
+def in_c(word, kind):
+    """Returns a parameter in C: a slice crosses as a pointer and a length."""
+    reference, slice, name = re.fullmatch(r"(&|&mut )?(\[)?(\w+)\]?", kind).groups()
+    pointer = ("const " if reference == "&" else "") + type_of(name) + ("*" if reference else "")
+    return [f"{pointer} {word}"] + ([f"size_t {word}_len"] if slice else [])
 
 
 def header_items():
     """Returns the same of the header. A text crosses as bytes."""
-    types, names = {}, {}
+    found = {}
     function = r"^(\w+) (sec1_\w+)\(([^();]*)\)\s*(?:SEC1_\w+(?:\([^)]*\))?\s*)*;"
     for result, name, parameters in re.findall(function, CODE, re.M):
-        pairs = re.findall(r"\s*([^,]*?)\s*(\w+)(?:,|$)", parameters)
-        kinds = [re.sub(r"\bchar\b", "uint8_t", " ".join(it.split())) for it, _ in pairs]
-        types[name] = [result, *(it.replace(" *", "*") for it in kinds)]
-        names[name] = [word for _, word in pairs]
+        plain = re.sub(r"\bchar\b", "uint8_t", " ".join(parameters.split())).replace(" *", "* ")
+        found[name], found[RESULT + name] = plain.split(", "), result
     for name, body in re.findall(r"^(struct \w+) \{(.*?)\n\};", CODE, re.S | re.M):
         members = re.findall(r"((?:struct )?\w+) ([\w, ]+);", body)
-        types[name] = [f"{kind} {it.strip()}" for kind, every in members for it in every.split(",")]
-    return types, names
+        found[name] = [f"{kind} {it.strip()}" for kind, every in members for it in every.split(",")]
+    return found
 
 
 # ---- the enums
@@ -208,11 +207,10 @@ def test_numbers_of_packages(same, enums):
 
 
 def test_parameters(same):
-    (wanted, words), (found, other_words) = source_items(), header_items()
-    for name in sorted(words):
-        same(f"the parameters of {name}", words[name], other_words.get(name))
-    for name in sorted((wanted.keys() | found.keys()) - UNPROVED):
-        same(f"the types of {name}", wanted.get(name), found.get(name))
+    wanted, found = source_items(), header_items()
+    for name in sorted(wanted.keys() | found.keys()):
+        if name.removeprefix(RESULT) not in UNPROVED:
+            same(name, wanted.get(name), found.get(name))
 
 
 def constant(name, path, content=0):
