@@ -156,41 +156,41 @@ set -- $CARGO_TARGET_DIR/debug/build/*bridgeacacia-sec1-sys*/build-script-build
 export CARGO_CFG_TARGET_ARCH={0} CARGO_CFG_TARGET_POINTER_WIDTH={1} TARGET={0}gc-unknown-linux-gnu
 CARGO_CFG_TARGET_ENDIAN=little CARGO_CFG_TARGET_OS=linux $1"""
 BUILD = "cargo build --locked -p bridgeacacia-sec1-sys"
-CLIPPY, DOC = "cargo clippy --locked", "RUSTDOCFLAGS='-D warnings' cargo doc --locked --no-deps"
 OF_RUST = 'cargo::rustc-cfg=sec1_library="rust"'
-# A command in the workspace, how it ends if not just well, and what it needs.
+CLIPPY, DOC = "cargo clippy --locked", "RUSTDOCFLAGS='-D warnings' cargo doc --locked --no-deps"
+# What ends well in the workspace, and what it needs.
 WORKSPACE = {
-    "traits": (f"cargo test --manifest-path traits/Cargo.toml --all-features {DEBIAN}", {}, TRAITS),
-    "clippy": (f"{CLIPPY} --all-targets --features std,pem -- -D warnings", {}, "cargo-clippy"),
-    "clippy with alloc": (f"{CLIPPY} --features alloc -- -D warnings", {}, "cargo-clippy"),
-    "clippy without alloc": (f"{CLIPPY} -- -D warnings", {}, "cargo-clippy"),
-    "layout": ("cargo fmt --check", {}, "cargo-fmt"),
-    "documents": (f"{DOC} --features std,pem", {}, "cargo"),
-    "documents without std": (DOC, {}, "cargo"),
-    "every feature": ("cargo build --locked --all-features", {}, "cargo"),
-    "unsafe code": (
-        "grep -rl 'unsafe {' sec1/src sec1-sys/src", {"prints": "sec1/src/raw.rs"}, "cargo"
-    ),
+    "traits": (f"cargo test --manifest-path traits/Cargo.toml --all-features {DEBIAN}", TRAITS),
+    "clippy": (f"{CLIPPY} --all-targets --features std,pem -- -D warnings", "cargo-clippy"),
+    "clippy with alloc": (f"{CLIPPY} --features alloc -- -D warnings", "cargo-clippy"),
+    "clippy without alloc": (f"{CLIPPY} -- -D warnings", "cargo-clippy"),
+    "layout": ("cargo fmt --check", "cargo-fmt"),
+    "documents": (f"{DOC} --features std,pem", "cargo"),
+    "documents without std": (DOC, "cargo"),
+    "every feature": ("cargo build --locked --all-features", "cargo"),
+    "unsafe code": ("grep -rl 'unsafe {' sec1*/src | diff - <(echo sec1/src/raw.rs)", "cargo"),
     "riscv64 has sec1.rs": (
-        f"{SCRIPT.format('riscv64', 64)} | grep -x '{OF_RUST}'", {"prints": OF_RUST}, "cargo"
+        f"{SCRIPT.format('riscv64', 64)} | grep -x '{OF_RUST}' | diff - <(echo '{OF_RUST}')",
+        "cargo",
     ),
-    "a target of 32 bits": (
-        SCRIPT.format("riscv32", 32),
-        {"refused": "libsec1 is for targets with pointers of 64 bits, not for riscv32"}, "cargo",
-    ),
-    "another word for the library": (
-        "SEC1_LIBRARY=x cargo build --locked", {"refused": "SEC1_LIBRARY is x, not"}, "cargo"
-    ),
-    "a folder without the library": (
-        f"SEC1_LIBRARY=installed SEC1_LIB_DIR=/none {BUILD}",
-        {"refused": "no libsec1.a in /none"}, "cargo",
-    ),
+}  # fmt: skip
+# What is refused there, and what is said of it.
+REFUSED = {
+    SCRIPT.format("riscv32", 32):
+        "libsec1 is for targets with pointers of 64 bits, not for riscv32",
+    "SEC1_LIBRARY=x cargo build --locked": "SEC1_LIBRARY is x, not",
+    f"SEC1_LIBRARY=installed SEC1_LIB_DIR=/none {BUILD}": "no libsec1.a in /none",
 }  # fmt: skip
 
 
-@pytest.mark.parametrize("command, ends", rows(WORKSPACE))
-def test_rust_workspace(workspace, check, command, ends):
-    check("the workspace", command, folder=workspace, **ends)
+@pytest.mark.parametrize("command", rows(WORKSPACE))
+def test_rust_workspace(workspace, check, command):
+    check("the workspace", command, folder=workspace)
+
+
+@pytest.mark.parametrize("command, said", REFUSED.items(), ids=REFUSED.values())
+def test_rust_is_refused(workspace, check, command, said):
+    check("the library", command, refused=said, folder=workspace)
 
 
 def test_rust_over_an_installed_library(workspace, check, tmp_path):
