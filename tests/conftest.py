@@ -21,6 +21,8 @@ OUTCOMES = ["passed", "failed", "skipped"]
 LEAST = dict(reversed(it.split(" ", 1)) for it in (TOP / "tests/least").read_text().splitlines())
 # How many failed cases of a test are shown.
 SHOWN = 40
+# What clang needs for its sanitizers, and to fuzz.
+CLANG = "clang", "/usr/lib/clang/*/lib/linux/libclang_rt.fuzzer-x86_64.a"
 # The last line of a script that counts its cases.
 COUNT = re.compile(r"^(\d+) passed, (\d+) failed(?:, (\d+) skipped)?$")
 
@@ -135,6 +137,11 @@ def refuse(tmp_path_factory):
     return library
 
 
+def object_of(archive, *names):
+    """Returns the bytes of these objects of an archive, by default of all that it has."""
+    return subprocess.run(["ar", "p", archive, *names], stdout=subprocess.PIPE, check=True).stdout
+
+
 def lacking(*tools):
     """Returns those commands, or files (`/PATH`, which may have a `*`), that aren't there."""
     return [it for it in tools if not (glob.glob(it) if it[0] == "/" else shutil.which(it))]
@@ -152,6 +159,17 @@ def rows(table):
         pytest.param(*row[:-1], marks=needs(*row[-1].split()), id=name)
         for name, row in table.items()
     ]
+
+
+# For commands that no network is there for.
+OFFLINE = """CARGO_NET_OFFLINE=true PIP_NO_INDEX=1 PIP_DISABLE_PIP_VERSION_CHECK=1
+    PYTHONDONTWRITEBYTECODE=1 npm_config_offline=true npm_config_update_notifier=false"""
+
+
+def blocks(path, word):
+    """Returns the blocks of a document with this word behind the backquotes."""
+    found = re.findall(r"^```(.*)\n((?s:.*?))^```$", (TOP / path).read_text(), re.M)
+    return [text for behind, text in found if behind == word]
 
 
 # ---- counts

@@ -2,10 +2,9 @@
 dist/tests/counts.sh, and by tests/part."""
 
 import shutil
-import subprocess
 
 import pytest
-from conftest import TOP
+from conftest import TOP, call
 
 # What a module holds, and the last line. The run ends well where none failed.
 MODULES = {
@@ -66,8 +65,7 @@ def test_what_fails_is_counted(what, workers, tmp_path):
         shutil.copy(TOP / "tests" / name, tests)
     (tests / "least").write_text("2 test_few.py\n1 test_one.py\n")
     (tests / f"test_{'few' if what == 'too few cases' else 'one'}.py").write_text(text)
-    command = ["pytest-3", "-q", "-n", str(workers), "tests"]
-    ran = subprocess.run(command, cwd=tmp_path, capture_output=True, text=True)
+    ran = call(f"pytest-3 -q -n {workers} tests", cwd=tmp_path)
     assert ran.stdout.splitlines()[-1] == last, ran.stdout
     assert (ran.returncode == 0) == (" 0 failed" in last), ran.stdout
 
@@ -75,6 +73,5 @@ def test_what_fails_is_counted(what, workers, tmp_path):
 @pytest.mark.parametrize("command, last", PARTS.items(), ids=PARTS)
 def test_a_part_that_fails_is_counted(command, last, tmp_path):
     words = ["tests/part", tmp_path / "part", "bash", "-c", command]
-    ran = subprocess.run(words, cwd=TOP, capture_output=True, text=True)
-    assert ran.returncode == 1
+    assert call(words, cwd=TOP).returncode == 1
     assert (tmp_path / "part").read_text().splitlines()[-1] == last

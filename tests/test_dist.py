@@ -5,7 +5,6 @@ byte orders under qemu; and no branch and no address depends on a byte of a priv
 import os
 import re
 import shutil
-import subprocess
 import tempfile
 from pathlib import Path
 
@@ -56,27 +55,20 @@ def folder(packed, check):
         yield folder
 
 
-# Covers the paths that follow a count, and becomes another user, without a network.
-HIDE = """count=$1
-for path in "${@:2:count}"; do mount -t tmpfs none "$path" || exit 99; done
-shift $((count + 1))
-exec setpriv --reuid=65534 --regid=65534 --clear-groups --no-new-privs "$@\""""
-
-
 @pytest.fixture
 def alone(check, folder):
     """Runs a command as `check` does, in the folder, as another user, in a name space without
     network where neither the kit nor this repository is. Where this user can't make one, only the
     path is without the kit."""
-    clean = ["env", "-i", "PATH=/usr/bin:/bin", f"HOME={folder}", "LC_ALL=C"]
+    before = ["env", "-i", "PATH=/usr/bin:/bin", f"HOME={folder}", "LC_ALL=C"]
     unshare, hidden = ["unshare", "--mount", "--net"], [TOP]
-    if os.getuid() or subprocess.run([*unshare, "true"], stderr=subprocess.DEVNULL).returncode:
-        before = clean
-    else:
+    if not os.getuid() and call([*unshare, "true"]).returncode == 0:
         rt = os.environ.get("RT", "rt")
         if shutil.which(rt):
             hidden.append(os.path.dirname(os.path.realpath(lines_of(rt, "doc")[0])))
-        before = [*unshare, "bash", "-c", HIDE, "alone", str(len(hidden)), *hidden, *clean]
+        hide = "".join(f"mount -t tmpfs none '{it}' || exit 99\n" for it in hidden)
+        user = "exec setpriv --reuid=65534 --regid=65534 --clear-groups --no-new-privs"
+        before = [*unshare, "bash", "-c", f'{hide}{user} "$@"', "alone", *before]
 
     def run(what, command, **how):
         words = ["sh", "-ec", command] if isinstance(command, str) else command
@@ -125,34 +117,27 @@ target_link_libraries(shared sec1::sec1)
 add_executable(archive examples/key_parts.c)
 target_link_libraries(archive sec1::static)
 """
-# What is done with the library that is installed in usr: by which tool, and what has to end well. A
-# program has to print examples/p256.txt for examples/p256.der.
+PRINTS = "examples/p256.der | cmp - examples/p256.txt"
+# What is done with the library that is installed in usr, by which tool.
 INSTALLED = {
-    "C by pkg-config": (
-        "pkg-config",
-        "PKG_CONFIG_PATH=$PWD/usr/lib/pkgconfig; export PKG_CONFIG_PATH;"
-        "cc -std=c99 examples/key_parts.c $(pkg-config --cflags --libs sec1) -o c",
-    ),
-    "it prints the parts": ("pkg-config", "LD_LIBRARY_PATH=usr/lib ./c $KEY | $PARTS"),
-    "C over the archive": (
-        "pkg-config",
-        "cc -std=c99 -Iusr/include examples/key_parts.c usr/lib/libsec1.a -o static",
-    ),
-    "it prints the same": ("pkg-config", "./static $KEY | $PARTS"),
-    "CMake finds it": ("cmake", "cmake -S . -B cmake -DCMAKE_PREFIX_PATH=$PWD/usr"),
-    "CMake builds": ("cmake", "cmake --build cmake"),
-    "CMake's program prints the same": ("cmake", "cmake/shared $KEY | $PARTS"),
-    "and that over the archive": ("cmake", "cmake/archive $KEY | $PARTS"),
+    "export PKG_CONFIG_PATH=$PWD/usr/lib/pkgconfig;"
+    "cc -std=c99 examples/key_parts.c $(pkg-config --cflags --libs sec1) -o c": "pkg-config",
+    f"LD_LIBRARY_PATH=usr/lib ./c {PRINTS}": "pkg-config",
+    "cc -std=c99 -Iusr/include examples/key_parts.c usr/lib/libsec1.a -o static": "pkg-config",
+    f"./static {PRINTS}": "pkg-config",
+    "cmake -S . -B cmake -DCMAKE_PREFIX_PATH=$PWD/usr": "cmake",
+    "cmake --build cmake": "cmake",
+    f"cmake/shared {PRINTS}": "cmake",
+    f"cmake/archive {PRINTS}": "cmake",
 }
 
 
 def test_archive_is_installed_and_removed(alone, folder, tell):
     (folder / "CMakeLists.txt").write_text(CMAKE)
     alone("make install", "make install PREFIX=$PWD/usr")
-    for what, (tool, command) in INSTALLED.items():
+    for command, tool in INSTALLED.items():
         if not tell.lacks(1, tool):
-            command = command.replace("$KEY", "examples/p256.der")
-            alone(what, command.replace("$PARTS", "cmp - examples/p256.txt"))
+            alone(command, command)
     other = folder / "usr/share/doc/sec1/other"
     other.write_text("other\n")
     alone("make uninstall", "make uninstall PREFIX=$PWD/usr")
@@ -164,19 +149,13 @@ def test_packaging(add):
     add([DIST / "tests/packaging.sh"])
 
 
-# The lines of dist/README.md that make the Debian package.
-DEBIAN = re.search(
-    r"`DEBFULLNAME` and `DEBEMAIL`:\n((?:.*\n)*?.*dpkg-buildpackage.*)",
-    (DIST / "README.md").read_text(),
-).group(1)
-
-
 @needs("dh", "dpkg-buildpackage", "lintian")
 def test_debian_package(alone, check, folder):
     folder.parent.chmod(0o777)
     # its tests are those of the archive
     packer = "DEB_BUILD_OPTIONS=nocheck DEBFULLNAME='A Packer' DEBEMAIL=packer@debian.org"
-    lines = "\n".join(re.findall(r"^    (.*)", DEBIAN, re.M))
+    lines = r"`DEBFULLNAME` and `DEBEMAIL`:\n\n((?:    .*\n)+)"
+    lines = re.search(lines, (DIST / "README.md").read_text())[1]
     alone("dpkg-buildpackage, as README.md says it", f"export {packer}\n{lines}")
     # which bug of Debian the first upload closes is known to who uploads it
     ignored = "--suppress-tags initial-upload-closes-no-bugs"
@@ -205,9 +184,8 @@ PORTABLE = {
     "windows": ([f"CC={MINGW}", f"RUN={WINE}"], "text calls million", f"{WINE} {MINGW}"),
 }
 for it in ("riscv64", "s390x"):
-    compiler = f"{it}-linux-gnu-gcc"
-    variables = [f"CC={compiler}", f"RUN=qemu-{it} -L /usr/{it}-linux-gnu"]
-    PORTABLE[it] = variables, "text calls", f"qemu-{it} {compiler}"
+    variables = [f"CC={it}-linux-gnu-gcc", f"RUN=qemu-{it} -L /usr/{it}-linux-gnu"]
+    PORTABLE[it] = variables, "text calls", f"qemu-{it} {it}-linux-gnu-gcc"
 
 
 @pytest.mark.parametrize("variables, tests", rows(PORTABLE))
@@ -226,9 +204,8 @@ def linked(name, build):
 
 
 @pytest.mark.parametrize("compiler", ["g++", pytest.param("clang++", marks=needs("clang++"))])
-def test_c_as_cpp(check, tmp_path, compiler):
-    strict = "-Wall -Wextra -Wconversion -Werror"
-    build = f"{compiler} -x c++ {strict} {DIST}/sec1.c"
+def test_c_as_cpp(check, compiler):
+    build = f"{compiler} -x c++ -Wall -Wextra -Wconversion -Werror {DIST}/sec1.c"
     check("it is compiled", linked("text", build))
     check("its version and a text", ["./text"], prints="ok 200")
 
@@ -287,7 +264,7 @@ LEAKS = {
 @pytest.mark.parametrize("code, said", LEAKS.values(), ids=LEAKS)
 def test_leak_is_found(script, check, tmp_path, code, said):
     text = (DIST / "sec1-x86_64.s").read_text()
-    begin = re.compile(r"^sec1_key_write:(?:\n.*)*?\n\tendbr64", re.M).search(text).end()
+    begin = re.search(r"^sec1_key_write:(?:\n.*)*?\n\tendbr64", text, re.M).end()
     planted = f"\n\ttestq\t%rsi, %rsi\n\tje\t.Lplanted\n{code}\n.Lplanted:"
     (tmp_path / "leak.s").write_text(text[:begin] + planted + text[begin:])
     check("it is found", script(f"PROVED={tmp_path}/leak.s"), refused=said)

@@ -22,6 +22,8 @@ TYPES = {
     "usize": "size_t",
     "Span": "struct sec1_part",
 }
+# What is in front of a function's name for its result.
+RESULT = "the result of "
 # Where the struct of a picture's line is, and its kinds.
 LINES = "crates/der_view/src/output.rt"
 # What the header alone has: a struct whose members are given to a call by inline functions.
@@ -41,14 +43,14 @@ CODE = re.sub(r"/\*.*?\*/", "", HEADER, flags=re.S)
 TEXT = r'case SEC1_(\w+):\s*return "([^"]*)";'
 
 
-def texts(pattern, text):
-    """Returns the texts that a pattern finds behind names."""
-    return dict(re.findall(pattern, text, re.M))
+def texts(path, pattern):
+    """Returns the texts that a pattern finds behind names in a file."""
+    return dict(re.findall(pattern, read(path), re.M))
 
 
 def numbers(pattern, text, front="SEC1_"):
     """Returns the numbers that a pattern finds behind names, which become those of the header."""
-    found = texts(pattern, text).items()
+    found = re.findall(pattern, text, re.M)
     return {front + words_of(name): int(number) for name, number in found}
 
 
@@ -72,31 +74,29 @@ def enums():
     """Returns the names and the numbers of each enum of the header."""
     found = {}
     for name, body in re.findall(r"enum (\w+) \{(.*?)\}", CODE, re.S):
-        members = [it.strip() for it in body.split(",") if it.strip()]
-        pairs = [re.fullmatch(r"(\w+) = (\d+)", it).groups() for it in members]
-        found[name] = {it: int(number) for it, number in pairs}
+        pairs = [re.fullmatch(r"\s*(\w+) = (\d+)\s*", it) for it in body.rstrip(", \n").split(",")]
+        found[name] = {it[1]: int(it[2]) for it in pairs}
         assert len(found[name]) == len(pairs), f"enum {name} has a name twice"
     return found
 
 
 def source_items():
-    """Returns the types in C of each exported function, beginning with that of its result, and the
-    members of each struct of C; and the names of the parameters of each function."""
-    types, names = {}, {}
+    """Returns the parameters in C of each exported function, the type of its result, and the
+    members of each struct of C."""
+    found = {}
     for path in [*sorted((TOP / "crates/sec1_c/src").rglob("*.rt")), TOP / LINES]:
         text = path.read_text(encoding="utf-8")
         function = r'pub extern "C" fn (\w+)\((.*?)\) -> (\w+)'
         for name, parameters, result in re.findall(function, text, re.S):
-            types[name], names[name] = [type_of(result)], []
-            for word, kind in re.findall(r"(\w+): ([^,]*[^,\s])", parameters):
-                word = "bytes" if word == "input" and name in OF_BYTES else word
-                types[name] += c_types(kind)
-                names[name] += [word, word + "_len"][: len(c_types(kind))]
+            text_of = re.sub(r"\binput:", "bytes:", parameters) if name in OF_BYTES else parameters
+            pairs = re.findall(r"(\w+): ([^,]*[^,\s])", text_of)
+            found[name] = [it for word, kind in pairs for it in in_c(word, kind)]
+            found[RESULT + name] = type_of(result)
         struct = r"#\[repr\(C\)\].*?pub struct (\w+) \{(.*?)\n\}"
         for name, body in re.findall(struct, text, re.S):
             members = re.findall(r"pub (\w+): (\w+),", body)
-            types[type_of(name)] = [f"{type_of(kind)} {word}" for word, kind in members]
-    return types, names
+            found[type_of(name)] = [f"{type_of(kind)} {word}" for word, kind in members]
+    return found
 
 
 def type_of(word):
@@ -104,26 +104,24 @@ def type_of(word):
     return TYPES.get(word) or f"struct sec1_{words_of(word).lower()}"
 
 
-def c_types(kind):
-    """Returns the types in C of a parameter: a slice crosses as a pointer and a length."""
-    reference, slice, word = re.fullmatch(r"(&|&mut )?(\[)?(\w+)\]?", kind).groups()
-    pointer = ("const " if reference == "&" else "") + type_of(word) + ("*" if reference else "")
-    return [pointer, "size_t"] if slice else [pointer]
+def in_c(word, kind):
+    """Returns a parameter in C: a slice crosses as a pointer and a length."""
+    reference, slice, name = re.fullmatch(r"(&|&mut )?(\[)?(\w+)\]?", kind).groups()
+    pointer = ("const " if reference == "&" else "") + type_of(name) + ("*" if reference else "")
+    return [f"{pointer} {word}"] + ([f"size_t {word}_len"] if slice else [])
 
 
 def header_items():
     """Returns the same of the header. A text crosses as bytes."""
-    types, names = {}, {}
+    found = {}
     function = r"^(\w+) (sec1_\w+)\(([^();]*)\)\s*(?:SEC1_\w+(?:\([^)]*\))?\s*)*;"
     for result, name, parameters in re.findall(function, CODE, re.M):
-        pairs = re.findall(r"\s*([^,]*?)\s*(\w+)(?:,|$)", parameters)
-        kinds = [re.sub(r"\bchar\b", "uint8_t", " ".join(it.split())) for it, _ in pairs]
-        types[name] = [result, *(it.replace(" *", "*") for it in kinds)]
-        names[name] = [word for _, word in pairs]
+        plain = re.sub(r"\bchar\b", "uint8_t", " ".join(parameters.split())).replace(" *", "* ")
+        found[name], found[RESULT + name] = plain.split(", "), result
     for name, body in re.findall(r"^(struct \w+) \{(.*?)\n\};", CODE, re.S | re.M):
         members = re.findall(r"((?:struct )?\w+) ([\w, ]+);", body)
-        types[name] = [f"{kind} {it.strip()}" for kind, every in members for it in every.split(",")]
-    return types, names
+        found[name] = [f"{kind} {it.strip()}" for kind, every in members for it in every.split(",")]
+    return found
 
 
 # ---- the enums
@@ -147,8 +145,8 @@ ENUMS = {
 def source_enum(enum):
     """Returns the names and the numbers that the source has of an enum of the header."""
     _, greatest, front, path, patterns = ENUMS[enum]
-    found = [it for pattern in patterns for it in numbers(pattern, read(path), front).items()]
-    return {name: number for name, number in found if number <= greatest}
+    found = (numbers(it, read(path), front).items() for it in patterns)
+    return {name: number for every in found for name, number in every if number <= greatest}
 
 
 def test_enums(same, enums):
@@ -168,27 +166,25 @@ def test_texts_of_statuses(same, tell):
 
 
 def test_texts_of_kinds(same, enums):
-    kinds = read("crates/sec1_der/specs/Errors.antt")
-    kinds = texts(r'^kind_message (\w+) = codes "([^"]*)"$', kinds)
+    kinds = texts("crates/sec1_der/specs/Errors.antt", r'^kind_message (\w+) = codes "([^"]*)"$')
     same("the number of kinds", 11, len(kinds))
-    header = texts(TEXT, HEADER)
-    formats = texts(r"^\| (\w+) \|.*\| `([^`]+)` \|$", read("docs/FORMATS.md"))
-    rust = read("bindings/rust/sec1/tests/programs.rs")
-    rust = texts(r'\(ErrorKind::(\w+), "([^"]*)"\)', rust)
-    python = texts(r'\((\d+), "([^"]*)"\),$', read("bindings/python/tests/test_sec1.py"))
-    script = texts(r"\['\w+', (\d+), '([^']*)'\],$", read("bindings/js/tests/test.js"))
-    # what the library for C can't return: a reader that failed before, and reads and writes
-    inner = {"Failed", "Io", "Memory"}
+    formats = texts("docs/FORMATS.md", r"^\| (\w+) \|.*\| `([^`]+)` \|$")
+    header = texts("dist/sec1.h", TEXT)
+    rust = texts("bindings/rust/sec1/tests/programs.rs", r'\(ErrorKind::(\w+), "([^"]*)"\)')
+    python = texts("bindings/python/tests/test_sec1.py", r'\((\d+), "([^"]*)"\),$')
+    script = texts("bindings/js/tests/test.js", r"\['\w+', (\d+), '([^']*)'\],$")
     for kind, wanted in kinds.items():
-        same(f"FORMATS.md: the text of {kind}", wanted, formats.get(kind))
-        if kind not in inner:
-            name = words_of(kind)
-            same(f"the text of SEC1_{name}", wanted, header.get(name))
-            same(f"the package for Rust: the text of {kind}", wanted, rust.get(kind))
-            number = str(enums["sec1_status"].get(f"SEC1_{name}"))
-            same(f"the package for Python: the text of {kind}", wanted, python.get(number))
+        name = words_of(kind)
+        number = str(enums["sec1_status"].get(f"SEC1_{name}"))
+        found = {"FORMATS.md": formats.get(kind)}
+        # what the library for C can't return: a reader that failed before, and reads and writes
+        if kind not in ("Failed", "Io", "Memory"):
+            found |= {"sec1.h": header.get(name), "the package for Rust": rust.get(kind)}
+            found["the package for Python"] = python.get(number)
             if kind != "Buffer":
-                same(f"the package for JavaScript: the text of {kind}", wanted, script.get(number))
+                found["the package for JavaScript"] = script.get(number)
+        for where, text in found.items():
+            same(f"{where}: the text of {kind}", wanted, text)
 
 
 def test_numbers_of_packages(same, enums):
@@ -198,11 +194,11 @@ def test_numbers_of_packages(same, enums):
     same("the package for Rust: the numbers", both, rust)
     python = read("bindings/python/src/sec1/__init__.py")
     errors = [int(n) for n in re.findall(r"^    status = (\d+)$", python, re.M)]
-    same("the package for Python: the numbers of errors", list(range(1, 14)), errors)
-    tags = re.search(r"^class Tag\(IntEnum\):(?s:.*?)\n\n\n", python, re.M).group()
+    same("the package for Python: the numbers of errors", [*range(1, 14)], errors)
+    tags = re.search(r"^class Tag\(IntEnum\):(?s:.*?)\n\n\n", python, re.M)[0]
     tags = numbers(r"^    ([A-Z_]+) = (\d)$", tags, "SEC1_POINT_")
     same("the package for Python: the tags of points", enums["sec1_point_tag"], tags)
-    kinds = re.search(r" Kind = Object.freeze\((.*)\);", read("bindings/js/library.js")).group(1)
+    kinds = re.search(r" Kind = Object.freeze\((.*)\);", read("bindings/js/library.js"))[1]
     kinds = numbers(r"(\w+): (\d)", kinds, "SEC1_LINE_")
     same("the package for JavaScript: the kinds of lines", enums["sec1_line"], kinds)
 
@@ -211,11 +207,10 @@ def test_numbers_of_packages(same, enums):
 
 
 def test_parameters(same):
-    (wanted, words), (found, other_words) = source_items(), header_items()
-    for name in sorted(words):
-        same(f"the parameters of {name}", words[name], other_words.get(name))
-    for name in sorted((wanted.keys() | found.keys()) - UNPROVED):
-        same(f"the types of {name}", wanted.get(name), found.get(name))
+    wanted, found = source_items(), header_items()
+    for name in sorted(wanted.keys() | found.keys()):
+        if name.removeprefix(RESULT) not in UNPROVED:
+            same(name, wanted.get(name), found.get(name))
 
 
 def constant(name, path, content=0):
@@ -259,6 +254,6 @@ def test_macros(same):
     # the rest is the version, the CHANGELOG's first
     heading = r"^## (?:Unreleased: )?v?(\d+)\.(\d+)\.(\d+)"
     version = re.search(heading, read("CHANGELOG.md"), re.M).groups()
-    parts = ["SEC1_VERSION_MAJOR", "SEC1_VERSION_MINOR", "SEC1_VERSION_PATCH"]
+    parts = [f"SEC1_VERSION_{it}" for it in ("MAJOR", "MINOR", "PATCH")]
     same("the other numbers of macros", sorted(parts), sorted(defined))
     same("the version", [int(n) for n in version], [defined.get(part) for part in parts])

@@ -8,16 +8,15 @@ with that object by test_made.py.
 import itertools
 import os
 import re
-import subprocess
 
 import pytest
-from conftest import TOP, lines_of
+from conftest import CLANG, TOP, lines_of, object_of
 
 pytestmark = pytest.mark.library
 
 DIST = TOP / "dist"
 CC = os.environ.get("CC", "cc")
-CLANG = "clang", "/usr/lib/clang/*/lib/linux/libclang_rt.fuzzer-x86_64.a"
+ARCHIVE = "lib/libsec1.a"
 STRICT = """-std=c11 -g -O1 -Wall -Wextra -Wpedantic -Werror -fsanitize=address,undefined
     -fno-sanitize-recover=all""".split()
 
@@ -27,16 +26,9 @@ def installed(program, tmp_path_factory):
     """Returns the folder in which the library is installed."""
     program("sec1_c", "libsec1_c.a")
     folder = tmp_path_factory.mktemp("installed")
-    variables = {"SEC1_C_BUILT": "1", "BUILD": str(tmp_path_factory.mktemp("build"))}
-    build = [TOP / "crates/sec1_c/build.sh", folder]
-    subprocess.run(build, check=True, env={**os.environ, **variables}, stdout=subprocess.DEVNULL)
+    build = ["SEC1_C_BUILT=1", f"BUILD={tmp_path_factory.mktemp('build')}"]
+    lines_of("env", *build, TOP / "crates/sec1_c/build.sh", folder)
     return folder
-
-
-@pytest.fixture(scope="module")
-def archive(installed):
-    """Returns the path of the library that is linked statically."""
-    return installed / "lib/libsec1.a"
 
 
 def names_of(*command):
@@ -46,38 +38,22 @@ def names_of(*command):
 
 # ---- the archive
 
-EXPORTED = re.findall(r"^ *(sec1_\w+);$", (DIST / "packaging/libsec1.map").read_text(), re.M)
 
-
-def test_header_declares_what_is_exported():
+def test_archive(installed, program, tell):
+    archive = installed / ARCHIVE
+    exported = re.findall(r"^ *(sec1_\w+);$", (DIST / "packaging/libsec1.map").read_text(), re.M)
     declared = re.findall(r"\b(sec1_\w+)\(", (DIST / "sec1.h").read_text())
-    assert sorted(set(declared)) == sorted(EXPORTED)
-
-
-def test_library_is_installed(installed):
+    tell("the header declares what is exported", sorted({*declared}) == sorted(exported))
     files = "include/sec1.h", "lib/libsec1.a", "lib/libsec1.so", "bin/sec1_dump"
-    assert [it for it in files if not (installed / it).exists()] == []
-
-
-def test_archive_has_two_objects(archive):
-    assert sorted(lines_of("ar", "t", archive)) == ["header.o", "sec1_c.o"]
-
-
-def test_archive_has_the_proved_object(program, archive):
-    found, proved = (
-        subprocess.run(["ar", "p", it, "sec1_c.o"], stdout=subprocess.PIPE, check=True).stdout
-        for it in (archive, program("sec1_c", "libsec1_c.a"))
-    )
-    assert found and found == proved
-
-
-def test_archive_wants_three_functions(archive):
+    tell("the library is installed", all((installed / it).exists() for it in files))
+    members = sorted(lines_of("ar", "t", archive))
+    tell(f"it has two objects: {members}", members == ["header.o", "sec1_c.o"])
+    found, proved = object_of(archive, "sec1_c.o"), object_of(program("sec1_c", "libsec1_c.a"))
+    tell("it has the proved object", found and found == proved)
     wanted = [it for it in names_of("nm", "-u", archive) if not it.startswith("sec1_")]
-    assert wanted == ["memcpy", "memmove", "memset"]
-
-
-def test_archive_exports_what_the_header_declares(archive):
-    assert names_of("nm", "-g", "--defined-only", archive) == sorted(EXPORTED)
+    tell(f"it wants three functions: {wanted}", wanted == ["memcpy", "memmove", "memset"])
+    found = names_of("nm", "-g", "--defined-only", archive)
+    tell(f"it exports what the header declares: {found}", found == sorted(exported))
 
 
 # ---- its instructions
@@ -105,24 +81,15 @@ def instructions(file):
     return {it.split("\t")[1].split()[0] for it in lines if "\t" in it}
 
 
-def newer(file):
-    """Returns those that some x86-64 lacks."""
-    return sorted(it for it in instructions(file) if NEWER.fullmatch(it))
-
-
-def test_code_can_be_read(archive):
-    assert "ret" in instructions(archive)
-
-
-def test_code_has_no_newer_instruction(archive):
-    assert newer(archive) == []
-
-
-def test_newer_instructions_are_found(tmp_path):
+def test_code_has_no_newer_instruction(installed, tell, tmp_path):
+    archive, planted = installed / ARCHIVE, tmp_path / "newer.o"
     code = "popcnt %eax, %eax; pshufb %xmm0, %xmm0; haddps %xmm0, %xmm0; ret"
     (tmp_path / "newer.c").write_text(f'__asm__("{code}");\n')
-    subprocess.run([CC, "-c", "newer.c"], cwd=tmp_path, check=True)
-    assert newer(tmp_path / "newer.o") == ["haddps", "popcnt", "pshufb"]
+    lines_of(CC, "-c", "newer.c", cwd=tmp_path)
+    tell("the code can be read", "ret" in instructions(archive))
+    for file, newer in (archive, []), (planted, ["haddps", "popcnt", "pshufb"]):
+        found = sorted(filter(NEWER.fullmatch, instructions(file)))
+        tell(f"{found} are newer in {file.name}", found == newer)
 
 
 # ---- what runs over it
@@ -133,19 +100,19 @@ PROGRAMS = [*itertools.product(TESTS, ["clang", "gcc"]), ("openssl", "gcc")]
 
 
 @pytest.mark.parametrize("name, compiler", PROGRAMS)
-def test_program_by_a_compiler(installed, archive, tell, check, add, tmp_path, name, compiler):
+def test_program_by_a_compiler(installed, tell, check, add, tmp_path, name, compiler):
     if compiler == "clang" and tell.lacks(1 + TESTS[name], *CLANG):
         return
     build = [compiler, *STRICT, "-I", installed / "include", "-o", name, DIST / f"tests/{name}.c"]
     # which openssl.c alone needs
-    check(f"{compiler} compiles it", [*build, archive, "-Wl,--as-needed", "-lcrypto"])
+    check(f"{compiler} compiles it", [*build, installed / ARCHIVE, "-Wl,--as-needed", "-lcrypto"])
     add([tmp_path / name])
 
 
-def test_header_by_standards(installed, archive, tell, add):
+def test_header_by_standards(installed, tell, add):
     # those of clang
     tell.lacks(81, "clang")
-    add([DIST / "tests/compilers.sh", installed / "include", archive])
+    add([DIST / "tests/compilers.sh", installed / "include", installed / ARCHIVE])
 
 
 def test_examples(installed, add):

@@ -7,7 +7,10 @@ import re
 import sys
 
 import pytest
-from conftest import TOP, lacking, lines_of, needs
+import to_32
+import wasm
+from conftest import CLANG, TOP, lacking, lines_of, needs, object_of
+from dist import addresses, compare, stack, wraps
 
 pytestmark = [pytest.mark.library, pytest.mark.slow]
 
@@ -33,6 +36,11 @@ def by_this_kit(cases=1):
     return pytest.mark.skipif(HERE != KIT, reason=reason)
 
 
+def read(path):
+    """Returns a module for WebAssembly."""
+    return wasm.Module(path.read_bytes())
+
+
 @pytest.fixture
 def planted(tell):
     """Returns what a file holds, with another text in the place of what a pattern finds first."""
@@ -56,16 +64,26 @@ def test_kits(tell):
 
 # Other numbers of bytes to be wiped, less than calls use.
 DEPTHS = {"what is wiped": None, "less": "45056, 4096", "less by others": "53248, 2048"}
+LINE = r"^const \[STACK, DEEP, FLAT\] = \[(\d+), (\d+), (\d+)\];$"
 
 
 @pytest.mark.parametrize("depths", DEPTHS.values(), ids=DEPTHS)
-def test_stack(planted, check, tmp_path, depths):
-    """Compares what bindings/js wipes of the module's stack with what calls use."""
-    library, numbers = tmp_path / "library.js", rf"\1 = [65536, {depths}];"
-    line = r"^(const \[STACK, DEEP, FLAT\]) = .*"
-    library.write_text(planted(LIBRARY, line, numbers) if depths else LIBRARY.read_text())
-    command = [*PYTHON, TOP / "tests/dist/stack.py", DIST / "sec1.wasm", library]
-    check("the stack", command, refused="calls: " if depths else None)
+def test_stack(planted, tell, depths):
+    """Compares what bindings/js wipes of the module's stack with what the calls use that it makes:
+    those that draw or decode, and others."""
+    other = f"const [STACK, DEEP, FLAT] = [65536, {depths}];"
+    library = planted(LIBRARY, LINE, other) if depths else LIBRARY.read_text()
+    begin, deep, flat = map(int, re.search(LINE, library, re.M).groups())
+    module = read(DIST / "sec1.wasm")
+    names = {*re.findall(r"\bsec1_\w+", re.sub(r"//.*", "", library))} & {*module.exports}
+    whole = stack.Stack(module)
+    used = {name: whole.used(module.exports[name]) for name in names}
+    drawn = [used.pop(it) for it in names if it.startswith(("sec1_picture_", "sec1_pem_"))]
+    # the constants follow the stack
+    is_right = module.segments[0][0] == begin and deep <= begin and len(drawn) == 3
+    is_wiped = max(drawn) <= deep and max(used.values()) <= flat
+    said = f"{max(drawn)} bytes of {deep} are used, and {max(used.values())} of {flat}"
+    tell(said, is_right and is_wiped == (depths is None))
 
 
 # ---- the assembly
@@ -80,34 +98,31 @@ PROCESSORS = {
 
 @by_this_kit(cases=3)
 @pytest.mark.parametrize("processor", PROCESSORS)
-def test_assembly(planted, check, tmp_path, processor):
+def test_assembly(planted, tell, tmp_path, processor):
     archive, option, jumps = PROCESSORS[processor]
     kit = os.path.dirname(os.path.realpath(lines_of(RT, "doc")[0]))
     clang = [f"{kit}/toolchain/bin/clang", f"--target={processor}-unknown-linux-gnu", option]
-    source, other = DIST / f"sec1-{processor}.s", tmp_path / "other.s"
-    other.write_text(planted(source, *jumps))
-    compare = [*PYTHON, TOP / "tests/dist/compare.py"]
-    check("it is what rt lib builds", [*compare, source, OUT / archive, *clang])
-    check("another instruction", [*compare, other, OUT / archive, *clang], refused=" differ")
+    made, wanted, source = tmp_path / "made.o", tmp_path / "wanted.o", tmp_path / "plain.s"
+    wanted.write_bytes(object_of(OUT / archive))
+    file = DIST / f"sec1-{processor}.s"
+    for text, is_same in (file.read_text(), True), (planted(file, *jumps), False):
+        source.write_text(compare.without_additions(text))
+        lines_of(*clang, "-c", "-o", made, source)
+        found = [*compare.differences(compare.Object(made), compare.Object(wanted))]
+        tell(f"the same: {is_same}; what differs: {found[:5]}", is_same == (not found))
 
 
 # ---- the module
 
 
-@pytest.fixture
-def module(tmp_path):
-    """Returns the module that build.sh links, with a memory of 32 bits, and the kit behind it."""
-    lines_of(*PYTHON, DIST / "to_32.py", OUT / "sec1.wasm", tmp_path / "32.wasm")
-    return (tmp_path / "32.wasm").read_bytes(), b"\4sec1Made with: " + KIT.encode()
-
-
 @by_this_kit(cases=3)
-def test_module(module, tell):
-    linked, kit = module
+def test_module(tell):
+    """Compares it with the module that build.sh links, once that has a memory of 32 bits."""
+    linked = to_32.lowered((OUT / "sec1.wasm").read_bytes())
     found = bytearray((DIST / "sec1.wasm").read_bytes())
     tell("it is what is linked", found[: len(linked)] == linked)
     # the number and the length of the section that names the kit stand between them
-    tell("it ends with the kit", found[len(linked) + 2 :] == kit)
+    tell("it ends with the kit", found[len(linked) + 2 :] == b"\4sec1Made with: " + KIT.encode())
     found[len(found) // 2] ^= 1
     tell("another byte is found", found[: len(linked)] != linked)
 
@@ -116,10 +131,9 @@ def test_module(module, tell):
 @needs("node", cases=2)
 def test_module_has_what_an_engine_wants(check, tell, tmp_path):
     """Has an engine refuse the module without one of the instructions that are added."""
-    wraps = [TOP / "tests/dist/wraps.py", OUT / "sec1.wasm", DIST / "sec1.wasm"]
-    changes = lines_of(*PYTHON, *wraps)
+    changes = [*wraps.changes(read(OUT / "sec1.wasm"), read(DIST / "sec1.wasm"))]
     tell(f"{len(changes)} changes", len(changes) >= 100)
-    (tmp_path / "changes").write_text("\n".join(changes))
+    (tmp_path / "changes").write_text("\n".join(f"{at} {code.hex()}" for at, code in changes))
     check("none is accepted", ["node", "-e", ACCEPTED, DIST / "sec1.wasm", "changes"], prints="")
 
 
@@ -145,22 +159,21 @@ def test_translation(planted, tell, language, name):
 
 
 @by_this_kit()
-def test_addresses(check):
+def test_addresses():
     """Compares what is taken for an address with what the linker has filled in."""
-    files = OUT / "sec1.wasm", OUT / "libsec1_c-wasm64.a"
-    check("the addresses", [*PYTHON, TOP / "tests/dist/addresses.py", *files])
+    taken = addresses.taken(read(OUT / "sec1.wasm"), (DIST / "sec1.h").read_text())
+    assert taken == addresses.filled_in(object_of(OUT / "libsec1_c-wasm64.a"))
 
 
 # ---- fuzz
 
 HALF = int(os.environ.get("FUZZ_SECONDS", 60)) // 2
-FUZZER = "clang", "/usr/lib/clang/*/lib/linux/libclang_rt.fuzzer-x86_64.a"
 
 
 def test_fuzz(check, add, tmp_path):
     check("make", ["make", "-s", "-C", DIST, f"BUILD={tmp_path}"])
-    add([DIST / "tests/fuzz.sh", tmp_path / "libsec1.a", str(HALF)], *FUZZER)
+    add([DIST / "tests/fuzz.sh", tmp_path / "libsec1.a", str(HALF)], *CLANG)
 
 
 def test_fuzz_of_c(add):
-    add([DIST / "tests/fuzz.sh", DIST / "sec1.c", str(HALF)], *FUZZER)
+    add([DIST / "tests/fuzz.sh", DIST / "sec1.c", str(HALF)], *CLANG)

@@ -17,7 +17,8 @@ import subprocess
 import threading
 
 import pytest
-from conftest import TOP, call, lacking, lines_of, needs, rows
+import wasm
+from conftest import OFFLINE, TOP, blocks, call, lacking, lines_of, needs, rows
 
 BINDINGS, DIST = TOP / "bindings", TOP / "dist"
 MACHINE = platform.machine()
@@ -33,11 +34,9 @@ def target(tmp_path_factory):
     """Has no tool use a network, and the library be that of dist; returns where cargo builds, once
     for all tests, and without what only a debugger or a later build reads."""
     folder = tmp_path_factory.mktemp("target")
-    variables = f"""CARGO_NET_OFFLINE=true CARGO_TARGET_DIR={folder} CARGO_INCREMENTAL=0
-        CARGO_PROFILE_DEV_DEBUG=0 PIP_NO_INDEX=1 PIP_DISABLE_PIP_VERSION_CHECK=1
-        PYTHONDONTWRITEBYTECODE=1 npm_config_offline=true npm_config_cache={folder}/npm
-        npm_config_update_notifier=false npm_config_fund=false npm_config_audit=false
-        WINEDEBUG=-all WINEPREFIX={folder}/wine"""
+    variables = f"""{OFFLINE} CARGO_TARGET_DIR={folder} CARGO_INCREMENTAL=0
+        CARGO_PROFILE_DEV_DEBUG=0 npm_config_cache={folder}/npm npm_config_fund=false
+        npm_config_audit=false WINEDEBUG=-all WINEPREFIX={folder}/wine"""
     with pytest.MonkeyPatch.context() as patch:
         for name in ("SEC1_LIB_DIR", "SEC1_LIBRARY", "CC"):
             patch.delenv(name, raising=False)
@@ -46,12 +45,8 @@ def target(tmp_path_factory):
         yield folder
 
 
-def blocks(path, word):
-    """Returns the blocks of a document behind this word."""
-    text = (TOP / path).read_text()
-    return re.findall(rf"^```{word}\n(.*?)^```$", text, re.M | re.S)
-
-
+# What a package must not have.
+LINKS = "find . -type l"
 # Makes a repository of the package $0, and of what its links lead to, and a clone without links.
 REPOSITORY = """mkdir $1/linked
 cp -a --parents bindings/$0 $1/linked
@@ -69,11 +64,6 @@ def repository(folder, package):
     links, as git makes it on Windows: each is a file that has a path."""
     lines_of("bash", "-euo", "pipefail", "-c", REPOSITORY, package, folder, cwd=TOP)
     return folder / "unlinked"
-
-
-def links(folder):
-    """Returns the links in a folder."""
-    return lines_of("find", folder, "-type", "l")
 
 
 @pytest.mark.parametrize("package", ["rust", "python", pytest.param("js", marks=needs("node"))])
@@ -94,24 +84,24 @@ def workspace(tmp_path_factory):
 
 # How cargo finds the crate below.
 BELOW = "--config 'patch.crates-io.bridgeacacia-sec1-sys.path=\"../sec1-sys\"'"
-# One by one, since cargo 1.85 looks for the one below in the registry otherwise.
+# Packs the crates one by one, since cargo 1.85 looks for the one below in the registry otherwise,
+# and unpacks them in the folder $0, with the tests, which aren't packed.
 PACK = f"""cargo package --locked --allow-dirty -p bridgeacacia-sec1-sys
-cargo package --allow-dirty -p bridgeacacia-sec1 {BELOW}"""
+cargo package --allow-dirty -p bridgeacacia-sec1 {BELOW}
+for it in sec1 sec1-sys; do
+    mkdir -p $0/$it
+    crate=$CARGO_TARGET_DIR/package/bridgeacacia-$it-{VERSION}.crate
+    tar xzf $crate -C $0/$it --strip-components=1
+done
+cp -r tests $0/sec1
+sed -i 's/^autotests = false/autotests = true/' $0/sec1/Cargo.toml"""
 
 
 @pytest.fixture(scope="module")
 def packed(workspace, target):
-    """Returns the folder of what is packed of both crates, each built from what is listed, with the
-    tests, which aren't packed."""
-    folder = target / "crates"
-    lines_of("bash", "-ec", PACK, cwd=workspace / "sec1")
-    for name in "sec1", "sec1-sys":
-        (folder / name).mkdir(parents=True)
-        crate = target / f"package/bridgeacacia-{name}-{VERSION}.crate"
-        lines_of("tar", "xzf", crate, "-C", folder / name, "--strip-components=1")
-    lines_of("cp", "-r", workspace / "sec1/tests", folder / "sec1")
-    lines_of("sed", "-i", "s/^autotests = false/autotests = true/", folder / "sec1/Cargo.toml")
-    return folder
+    """Returns the folder of what is packed of both crates, each built from what is listed."""
+    lines_of("bash", "-ec", PACK, target / "crates", cwd=workspace / "sec1")
+    return target / "crates"
 
 
 FULL = "test -s LICENSE-MIT -a -s LICENSE-APACHE"
@@ -120,7 +110,7 @@ FULL = "test -s LICENSE-MIT -a -s LICENSE-APACHE"
 def test_rust_is_packed(packed, check, target):
     check("the licences of sec1", FULL, folder=packed / "sec1")
     check("those of sec1-sys", f"{FULL} -a -f licences.txt", folder=packed / "sec1-sys")
-    check("no link is packed", "find . -type l", prints="", folder=packed)
+    check("no link is packed", LINKS, prints="", folder=packed)
     names = f"for it in {target}/package/*.crate; do tar tzf $it; done"
     check("no test is packed", f"! ({names} | grep -E '/(tests|benches)/')")
 
@@ -166,41 +156,41 @@ set -- $CARGO_TARGET_DIR/debug/build/*bridgeacacia-sec1-sys*/build-script-build
 export CARGO_CFG_TARGET_ARCH={0} CARGO_CFG_TARGET_POINTER_WIDTH={1} TARGET={0}gc-unknown-linux-gnu
 CARGO_CFG_TARGET_ENDIAN=little CARGO_CFG_TARGET_OS=linux $1"""
 BUILD = "cargo build --locked -p bridgeacacia-sec1-sys"
-CLIPPY, DOC = "cargo clippy --locked", "RUSTDOCFLAGS='-D warnings' cargo doc --locked --no-deps"
 OF_RUST = 'cargo::rustc-cfg=sec1_library="rust"'
-# A command in the workspace, how it ends if not just well, and what it needs.
+CLIPPY, DOC = "cargo clippy --locked", "RUSTDOCFLAGS='-D warnings' cargo doc --locked --no-deps"
+# What ends well in the workspace, and what it needs.
 WORKSPACE = {
-    "traits": (f"cargo test --manifest-path traits/Cargo.toml --all-features {DEBIAN}", {}, TRAITS),
-    "clippy": (f"{CLIPPY} --all-targets --features std,pem -- -D warnings", {}, "cargo-clippy"),
-    "clippy with alloc": (f"{CLIPPY} --features alloc -- -D warnings", {}, "cargo-clippy"),
-    "clippy without alloc": (f"{CLIPPY} -- -D warnings", {}, "cargo-clippy"),
-    "layout": ("cargo fmt --check", {}, "cargo-fmt"),
-    "documents": (f"{DOC} --features std,pem", {}, "cargo"),
-    "documents without std": (DOC, {}, "cargo"),
-    "every feature": ("cargo build --locked --all-features", {}, "cargo"),
-    "unsafe code": (
-        "grep -rl 'unsafe {' sec1/src sec1-sys/src", {"prints": "sec1/src/raw.rs"}, "cargo"
-    ),
+    "traits": (f"cargo test --manifest-path traits/Cargo.toml --all-features {DEBIAN}", TRAITS),
+    "clippy": (f"{CLIPPY} --all-targets --features std,pem -- -D warnings", "cargo-clippy"),
+    "clippy with alloc": (f"{CLIPPY} --features alloc -- -D warnings", "cargo-clippy"),
+    "clippy without alloc": (f"{CLIPPY} -- -D warnings", "cargo-clippy"),
+    "layout": ("cargo fmt --check", "cargo-fmt"),
+    "documents": (f"{DOC} --features std,pem", "cargo"),
+    "documents without std": (DOC, "cargo"),
+    "every feature": ("cargo build --locked --all-features", "cargo"),
+    "unsafe code": ("grep -rl 'unsafe {' sec1*/src | diff - <(echo sec1/src/raw.rs)", "cargo"),
     "riscv64 has sec1.rs": (
-        f"{SCRIPT.format('riscv64', 64)} | grep -x '{OF_RUST}'", {"prints": OF_RUST}, "cargo"
+        f"{SCRIPT.format('riscv64', 64)} | grep -x '{OF_RUST}' | diff - <(echo '{OF_RUST}')",
+        "cargo",
     ),
-    "a target of 32 bits": (
-        SCRIPT.format("riscv32", 32),
-        {"refused": "libsec1 is for targets with pointers of 64 bits, not for riscv32"}, "cargo",
-    ),
-    "another word for the library": (
-        "SEC1_LIBRARY=x cargo build --locked", {"refused": "SEC1_LIBRARY is x, not"}, "cargo"
-    ),
-    "a folder without the library": (
-        f"SEC1_LIBRARY=installed SEC1_LIB_DIR=/none {BUILD}",
-        {"refused": "no libsec1.a in /none"}, "cargo",
-    ),
+}  # fmt: skip
+# What is refused there, and what is said of it.
+REFUSED = {
+    SCRIPT.format("riscv32", 32):
+        "libsec1 is for targets with pointers of 64 bits, not for riscv32",
+    "SEC1_LIBRARY=x cargo build --locked": "SEC1_LIBRARY is x, not",
+    f"SEC1_LIBRARY=installed SEC1_LIB_DIR=/none {BUILD}": "no libsec1.a in /none",
 }  # fmt: skip
 
 
-@pytest.mark.parametrize("command, ends", rows(WORKSPACE))
-def test_rust_workspace(workspace, check, command, ends):
-    check("the workspace", command, folder=workspace, **ends)
+@pytest.mark.parametrize("command", rows(WORKSPACE))
+def test_rust_workspace(workspace, check, command):
+    check("the workspace", command, folder=workspace)
+
+
+@pytest.mark.parametrize("command, said", REFUSED.items(), ids=REFUSED.values())
+def test_rust_is_refused(workspace, check, command, said):
+    check("the library", command, refused=said, folder=workspace)
 
 
 def test_rust_over_an_installed_library(workspace, check, tmp_path):
@@ -244,8 +234,8 @@ def program(folder, dependencies=""):
 
 def test_rust_by_git(check, tell, tmp_path):
     clone = repository(tmp_path, "rust")
-    tell("it has no links", (clone / "bindings/rust/sec1-sys/src/sec1.rs").is_file())
-    tell("none at all", not links(clone))
+    tell("the source is there", (clone / "bindings/rust/sec1-sys/src/sec1.rs").is_file())
+    check("it has no links", LINKS, prints="", folder=clone)
     build = "cargo build --locked --features std,pem"
     where = clone / "bindings/rust/sec1"
     check("the crate is built there, of sec1.rs", build, folder=where, SEC1_LIBRARY="rust")
@@ -330,7 +320,7 @@ def test_python_source_archive(sdist, source, check, tmp_path):
     check("it is made again", f"{SDIST} {tmp_path}", folder=BINDINGS / "python")
     check("it has the same bytes", ["cmp", sdist, tmp_path / sdist.name])
     check("it has the licences", f"{FULL} -a -f licences.txt", folder=source)
-    check("it has no links", "find . -type l", prints="", folder=source)
+    check("it has no links", LINKS, prints="", folder=source)
     check("it has no tests", f"! (tar tzf {sdist} | grep /tests)")
 
 
@@ -390,7 +380,7 @@ def test_python_without_links(wheel, sdist, check, tell, tmp_path):
     package, made, other = clone / "bindings/python", tmp_path / "made", tmp_path / "other"
     made.mkdir()
     path = (package / f"library/sec1-{MACHINE}.s").read_text()
-    tell("the clone has no links", not links(clone))
+    check("the clone has no links", LINKS, prints="", folder=clone)
     tell("the assembly is a path there", path == f"../../../dist/sec1-{MACHINE}.s")
     check("the source archive is made there", f"{SDIST} {made}", folder=package)
     check("it has the same bytes", ["cmp", sdist, made / sdist.name])
@@ -469,16 +459,14 @@ def test_js_is_packed(tarball, clone, check, tell, tmp_path):
     check("it has the same bytes again", ["cmp", tarball, pack(linked, tmp_path / "again")])
     same = ["diff", "-r", "--no-dereference", BINDINGS / "js", linked]
     check("it leaves the folder as it was", same)
-    tell("a clone has no links", not links(clone))
+    check("a clone has no links", LINKS, prints="", folder=clone)
     tell("its module is a path", (there / "sec1.wasm").read_text() == "../../dist/sec1.wasm")
     check("a clone without links has them too", ["cmp", tarball, pack(there, tmp_path / "clone")])
-    check("it leaves that", ["git", "-C", clone, "status", "--porcelain"], prints="")
-    shutil.copytree(clone, tmp_path / "other")
-    (tmp_path / "other/dist/sec1.wasm").unlink()
+    check("it leaves that", "git status --porcelain", prints="", folder=clone)
+    (clone / "dist/sec1.wasm").rename(tmp_path / "sec1.wasm")
     said = "sec1.wasm leads to ../../dist/sec1.wasm, where nothing is"
-    check("a path", "node links.js follow", refused=said, folder=tmp_path / "other/bindings/js")
-    names = lines_of("tar", "tzf", tarball)
-    tell("it has no tests", not [it for it in names if it.startswith("package/tests")])
+    check("a path", "node links.js follow", refused=said, folder=there)
+    tell("it has no tests", "package/tests" not in " ".join(lines_of("tar", "tzf", tarball)))
 
 
 USES = """
@@ -500,9 +488,6 @@ FILES = {
     "types.mts": (BINDINGS / "js/tests/types.ts").read_text(),
     "types.cts": f"import {{ Curve }} from '{NAME}'; export const name: string = Curve.name;",
     "wrong.mts": f"import {{ checkTree }} from '{NAME}'; checkTree('text');",
-    "calls.mjs": """import fs from 'node:fs';
-const module = new WebAssembly.Module(fs.readFileSync(process.argv[2]));
-console.log(WebAssembly.Module.exports(module).map((it) => it.name).join('\\n'));""",
     "description.cjs": f"""for (const it of ['sec1.wasm', 'package.json'])
     require.resolve('{NAME}/' + it);
 console.log(require('{NAME}/package.json').engines.node);""",
@@ -528,7 +513,7 @@ INSTALLED = {
     "package": (f"npm ls {NAME}", {}, "npm"),
     "types, module and licences": (
         f"cd {HERE}; for it in index.d.ts sec1.wasm LICENSE-MIT LICENSE-APACHE licences.txt; do"
-        " test -f $it; done; find . -type l",
+        f" test -f $it; done; {LINKS}",
         {"prints": ""}, "node",
     ),
     "first program of README.md": ("node read.mjs", {"prints": PARTS}, "node"),
@@ -575,13 +560,11 @@ def test_js_is_found_not_to_wipe(installed, tmp_path):
     assert ended(copy, "--test-name-pattern", test)[0].endswith(test)
 
 
-@script()
-def test_js_has_the_calls(installed):
+def test_js_has_the_calls():
     """Compares what sec1.h declares with what the module has: not what the header says in C."""
     declared = set(re.findall(r"\b(sec1_\w+)\(", (DIST / "sec1.h").read_text()))
-    found = lines_of("node", installed / "calls.mjs", DIST / "sec1.wasm")
+    found = {it for it in wasm.Module((DIST / "sec1.wasm").read_bytes()).exports if "sec1_" in it}
     in_c = "key_len_of key_write_of picture_show status_text version"
-    found = {it for it in found if it.startswith("sec1_")}
     assert declared ^ found == {f"sec1_{it}" for it in in_c.split()}
 
 

@@ -195,20 +195,13 @@ REQUESTS = {
 
 @pytest.mark.parametrize("words, letters, ended", REQUESTS.values(), ids=REQUESTS)
 def test_requests(program, room, refuse, tmp_path, tell, words, letters, ended):
-    def run_refusing(number):
-        """Returns how the program ends, and how many requests were made, and refused."""
-        count = tmp_path / "count"
-        numbers = {"REFUSE": str(number), "REFUSE_COUNT": str(count)}
-        environment = {**os.environ, "LD_PRELOAD": str(refuse), **numbers}
-        found = run([program("sec1_inspect"), *words], room, env=environment, input=TEXT)
-        return found, *map(int, count.read_text().split())
-
-    found, made, _ = run_refusing(0)
-    tell(f"none refused: {found}", found == ended)
+    count = tmp_path / "count"
+    # none is refused, each in turn, and one more than are made
+    for number, letter in enumerate(f"-{letters}-"):
+        variables = {"LD_PRELOAD": str(refuse), "REFUSE": str(number), "REFUSE_COUNT": str(count)}
+        how = {"env": {**os.environ, **variables}, "input": TEXT}
+        found = run([program("sec1_inspect"), *words], room, **how)
+        made, refused = map(int, count.read_text().split())
+        wanted = {"I": INPUT, "M": MEMORY}.get(letter, ended), letter != "-"
+        tell(f"request {number}: {found}, {refused} refused", (found, refused) == wanted)
     tell(f"{made} requests, for {len(letters)}", made == len(letters))
-    for number, letter in enumerate(letters, 1):
-        wanted = {"I": INPUT, "M": MEMORY, "G": ended}[letter]
-        found, _, refused = run_refusing(number)
-        tell(f"request {number}: {found}, {refused} refused", (found, refused) == (wanted, 1))
-    found, *_ = run_refusing(made + 1)
-    tell(f"one request more: {found}", found == ended)

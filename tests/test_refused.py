@@ -4,9 +4,9 @@ these crates that allocate."""
 
 import os
 import re
-import subprocess
 
 import pytest
+from conftest import call
 
 pytestmark = [pytest.mark.built, pytest.mark.slow]
 
@@ -23,16 +23,12 @@ PRINTED = [
 
 @pytest.mark.parametrize("crate, lines", [("sec1_tests", PRINTED), ("sec1_inspect", [])])
 def test_refused(program, refuse, tmp_path, tell, crate, lines):
-    environment = {**os.environ, "TMPDIR": str(tmp_path), "LD_PRELOAD": str(refuse)}
-    how = {"cwd": tmp_path, "env": environment, "capture_output": True, "text": True}
-
-    def run(word):
-        tests = program(crate, f"{crate}_tests")
-        return subprocess.run([tests, word], timeout=3600, check=False, **how)
-
+    tests = program(crate, f"{crate}_tests")
+    how = {"env": {**os.environ, "TMPDIR": str(tmp_path), "LD_PRELOAD": str(refuse)}}
+    names = call([tests, "--list"], cwd=tmp_path, **how).stdout
     printed = []
-    for name in re.findall(r"^(.*(?:memory::|in_turn).*): test$", run("--list").stdout, re.M):
-        ran = run(name)
+    for name in re.findall(r"^(.*(?:memory::|in_turn).*): test$", names, re.M):
+        ran = call([tests, name], cwd=tmp_path, **how)
         tell(f"{name}: {ran.stderr[:300]}", ran.returncode == 0)
         printed += ran.stdout.splitlines()
     for line in lines:

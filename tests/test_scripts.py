@@ -13,7 +13,6 @@ SCRIPTS = {
     "tests/web/run": [SLOW],
     "tests/documents": [],
     "tests/plant rust": [SLOW],
-    "tests/doors": [SLOW],
     "tests/plant web": [SLOW],
     "tests/plant python": [SLOW],
     "tests/plant js": [SLOW],
@@ -25,7 +24,6 @@ SCRIPTS = {
 # these is there don't count.
 OPTIONAL = {
     "tests/plant js": "node",
-    "tests/doors": "node npm",
     "tests/plant web": "chromium firefox-esr xvfb-run /usr/lib/python3/dist-packages/gi",
     "tests/web/run": "chromium firefox-esr xvfb-run /usr/lib/python3/dist-packages/gi",
 }

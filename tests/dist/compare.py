@@ -1,20 +1,15 @@
 """Compares the assembly in dist with the object that `rt lib` built.
 
-  compare.py SOURCE ARCHIVE COMMAND..   COMMAND assembles SOURCE, such as `clang --target=..`
-
 The lines that dist/make adds for x86-64 are left out before: how to unwind the stack, and what
 branch tracking needs. What is left has to have the same sections in the same order: their flags and
 alignment, their bytes, their relocations, and at the same places the same exported names. Names of
 other functions may differ. On x86-64 the instructions are compared as objdump prints them, since
-a compiler and an assembler fill up to an alignment by different ones that do nothing. Prints what
-differs, and ends with status 1 if anything does.
+a compiler and an assembler fill up to an alignment by different ones that do nothing.
 """
-import pathlib
 import re
 import struct
-import subprocess
-import sys
-import tempfile
+
+from conftest import lines_of
 
 # The numbers of ELF for the processor, for kinds and flags of sections, and for symbols.
 X86_64, GLOBAL = 62, 1
@@ -22,6 +17,11 @@ PROGBITS, SYMBOLS, RELOCATIONS, NOBITS = 1, 2, 4, 8
 ALLOCATED, EXECUTED = 2, 4
 # A call of a function by PC32 or by PLT32 is the same: a linker treats them alike.
 SAME_KIND = {(X86_64, 4): 2}
+
+
+def text_at(strings, start):
+    """Returns the text that ends with a byte 0."""
+    return strings[start:strings.index(b"\0", start)].decode()
 
 
 class Object:
@@ -52,14 +52,12 @@ class Object:
             if self.heads[section][2] & ALLOCATED
             for _, info, _ in places
         }
-        self.kept = [
-            i
-            for i, it in enumerate(self.heads)
-            if it[1] in (PROGBITS, NOBITS) and it[2] & ALLOCATED and (it[5] or i in addressed)
-        ]
+        kept = [it[1] in (PROGBITS, NOBITS) and it[2] & ALLOCATED for it in self.heads]
+        self.kept = [i for i, it in enumerate(self.heads) if kept[i] and (it[5] or i in addressed)]
 
     def relocated(self, section):
-        """What is filled in, by places: the section and the offset there, or an undefined name."""
+        """Returns what is filled in, by places: the section and the offset there, or the name of
+        what is undefined."""
         found = []
         for place, info, addend in self.relocations.get(section, []):
             name, _, of, value = self.symbols[info >> 32]
@@ -67,83 +65,44 @@ class Object:
             found.append((place, kind, self.kept.index(of) if of else name, value + addend))
         return sorted(found)
 
-    def exported(self, section):
-        return sorted((it[3], it[0]) for it in self.symbols if it[1:3] == (GLOBAL, section))
-
     def instructions(self):
-        """The instructions of each section, without those that do nothing."""
-        words = ["objdump", "-d", "-w", "--no-show-raw-insn", str(self.path)]
-        listed = subprocess.run(words, check=True, capture_output=True, text=True).stdout
-        found = {}
-        for line in listed.split("\n"):
-            if line.startswith("Disassembly of section "):
-                code = found.setdefault(line[23:-1], [])
-            elif re.match(r" *[0-9a-f]+:\t", line):
-                place, text = line.strip().split("\t", 1)
-                text = re.sub(r"\s*<.*>|\s*#.*", "", text).strip()
-                if not re.match(r"(data16 |cs )*nop|xchg +%ax,%ax$", text):
-                    code.append((place, text))
-        return found
+        """Returns the instructions of each section, without those that do nothing."""
+        listed = "\n".join(lines_of("objdump", "-d", "-w", "--no-show-raw-insn", self.path))
+        plain = re.sub(r"[ \t]*(<.*>|#.*)", "", listed)
+        _, *parts = re.split(r"^Disassembly of section (.*):$", plain, flags=re.M)
+        code = (re.findall(r"^ *(\w+):\t(.*\S)", it, re.M) for it in parts[1::2])
+        does_nothing = re.compile(r"(data16 |cs )*nop|xchg +%ax,%ax$").match
+        found = ([it for it in every if not does_nothing(it[1])] for every in code)
+        return dict(zip(parts[::2], found))
 
-
-def text_at(strings, start):
-    return strings[start:strings.index(b"\0", start)].decode()
+    def sections(self):
+        """Yields the name of each section that is kept, and what is compared of it."""
+        code = self.instructions() if self.machine == X86_64 else {}
+        for it in self.kept:
+            name, head = self.names[it], self.heads[it]
+            is_code = self.machine == X86_64 and head[2] & EXECUTED
+            yield name, {
+                "kind, size or alignment": (head[1], head[2], head[5], head[8]),
+                "addresses": self.relocated(it),
+                "names": sorted((at, word) for word, *of, at in self.symbols if of == [GLOBAL, it]),
+                "instructions or bytes": code[name] if is_code else self.bytes[it],
+            }
 
 
 def without_additions(text):
-    """The assembly without the lines that dist/make adds."""
+    """Returns the assembly without the lines that dist/make adds."""
     text = re.sub(r"^\t(\.cfi_.*|endbr64)\n", "", text, flags=re.M)
     text = re.sub(r"^\tnotrack ", "\t", text, flags=re.M)
     return re.sub(r"^\t\.section\t\.note\.gnu\.property,(.*\n)+", "", text, flags=re.M)
 
 
 def differences(ours, theirs):
-    """What differs, a line each."""
+    """Yields what differs."""
     if ours.machine != theirs.machine or len(ours.kept) != len(theirs.kept):
         yield f"{len(ours.kept)} sections, not {len(theirs.kept)}, or of another processor"
-        return
-    is_x86 = ours.machine == X86_64
-    code, other_code = (ours.instructions(), theirs.instructions()) if is_x86 else ({}, {})
-    for one, other in zip(ours.kept, theirs.kept):
-        name, (head, wanted) = theirs.names[other], (ours.heads[one], theirs.heads[other])
-        if (head[1], head[2], head[5], head[8]) != (wanted[1], wanted[2], wanted[5], wanted[8]):
-            yield f"{name}: another kind, size or alignment"
-        elif ours.relocated(one) != theirs.relocated(other):
-            yield f"{name}: other addresses"
-        elif ours.exported(one) != theirs.exported(other):
-            yield f"{name}: other names"
-        elif is_x86 and head[2] & EXECUTED:
-            pairs = zip(code[ours.names[one]], other_code[name])
-            if len(code[ours.names[one]]) != len(other_code[name]):
-                yield f"{name}: another number of instructions"
-            yield from (f"{name}: {a} isn't {b}" for a, b in pairs if a != b)
-        elif ours.bytes[one] != theirs.bytes[other]:
-            yield f"{name}: other bytes"
+    for (_, found), (name, wanted) in zip(ours.sections(), theirs.sections()):
+        yield from (f"{name}: other {it}" for it in wanted if found[it] != wanted[it])
     # what is exported, and what is needed
-    names = [{it[0] for it in o.symbols if it[1] == GLOBAL} for o in (ours, theirs)]
-    if names[0] != names[1]:
-        yield f"other names: {sorted(names[0] ^ names[1])}"
-
-
-def main():
-    source, archive, command = sys.argv[1], pathlib.Path(sys.argv[2]), sys.argv[3:]
-    with tempfile.TemporaryDirectory() as room:
-        text = pathlib.Path(source).read_text(encoding="utf-8")
-        plain, made, wanted = (pathlib.Path(room, it) for it in ("plain.s", "made.o", "wanted.o"))
-        plain.write_text(without_additions(text), encoding="utf-8")
-        subprocess.run([*command, "-c", "-o", made, plain], check=True)
-        with wanted.open("wb") as it:
-            subprocess.run(["ar", "p", archive], check=True, stdout=it)
-        ours, theirs = Object(made), Object(wanted)
-        found = list(differences(ours, theirs))
-        for line in found[:5]:
-            print(line)
-        counts = f"{len(ours.kept)} sections of {sum(len(ours.bytes[i]) for i in ours.kept)} bytes"
-        if ours.machine == X86_64:
-            counts += f", {sum(map(len, ours.instructions().values()))} instructions"
-        print(f"{counts}: {len(found)} differ")
-    return len(found) != 0
-
-
-if __name__ == "__main__":
-    sys.exit(main())
+    names, others = ({it[0] for it in o.symbols if it[1] == GLOBAL} for o in (ours, theirs))
+    if names != others:
+        yield f"other names: {sorted(names ^ others)}"

@@ -1,19 +1,14 @@
-"""Computes how much of its stack the module for WebAssembly uses, beside what bindings/js wipes.
-
-  stack.py MODULE LIBRARY   LIBRARY is bindings/js/library.js, or the same with other numbers
+"""How much of its stack the module for WebAssembly uses.
 
 A function's part of the stack is a constant, which it takes off the stack pointer when it begins. A
 call uses at most the parts of the functions on the longest way through those that it reaches. No
 function is called by a table, and those that call themselves, or each other, do so as often as
-LEVELS says. Prints the two greatest numbers, and ends with status 1 if more is used than is wiped.
+LEVELS says.
 """
 import functools
-import pathlib
 import re
-import sys
 
-sys.path.insert(0, str(pathlib.Path(__file__).resolve().parents[2] / "dist"))
-import wasm  # noqa: E402
+import wasm
 
 # How often a function can stand on the stack, for those that call themselves or each other.
 LEVELS = {
@@ -60,8 +55,8 @@ def frame(ops, name):
         size = ops[first + 1].args[0]
         sets = [at for at in sets if at != first + 4 or ops[at - 1].code != TEE]
     added = [ops[at - 2].args[0] if words[at - 1] == "i64.add" else 0 for at in sets]
-    if len(gets) > 1 or size < 0 or any(it != size for it in added):
-        sys.exit(f"{name} moves the stack pointer in an unknown way")
+    is_known = len(gets) < 2 and size >= 0 and all(it == size for it in added)
+    assert is_known, f"{name} moves the stack pointer in an unknown way"
     return size
 
 
@@ -74,52 +69,19 @@ class Stack:
             ops = list(module.ops(function))
             self.frames[index] = frame(ops, self.names[index])
             self.calls[index] = {op.args[0] for op in ops if op.code == wasm.CALL}
-        self.reached = {index: self.reached_by(index) for index in self.calls}
-
-    def reached_by(self, index):
-        """Returns the functions that a call of one reaches."""
-        found, left = set(), [index]
-        while left:
-            more = self.calls[left.pop()] - found
-            found |= more
-            left += more
-        return found
+        # the functions that a call of each reaches
+        self.reached = {index: {*called} for index, called in self.calls.items()}
+        for via, found in self.reached.items():
+            for other in self.reached.values():
+                if via in other:
+                    other |= found
 
     @functools.lru_cache(maxsize=None)
     def used(self, index):
         """Returns how many bytes a call of a function uses at most: of those that call each other
-        each stands on the stack as often as it can."""
+        each stands on the stack as often as it can. The types that it is for don't count."""
         cycle = {it for it in self.reached[index] if index in self.reached[it]}
-        own = sum(self.levels(it) * self.frames[it] for it in cycle) or self.frames[index]
+        levels = {it: LEVELS[re.sub("::<#.*", "", self.names[it])] for it in cycle}
+        own = sum(levels[it] * self.frames[it] for it in cycle) or self.frames[index]
         outside = set().union(*(self.calls[it] for it in cycle or {index})) - cycle
         return own + max(map(self.used, outside), default=0)
-
-    def levels(self, index):
-        """Returns how often a function that calls itself, or others that do, can stand on the
-        stack. The types that it is for don't count."""
-        name = re.sub("::<#.*", "", self.names[index])
-        if name not in LEVELS:
-            sys.exit(f"{name} calls itself")
-        return LEVELS[name]
-
-
-def main():
-    module = wasm.Module(pathlib.Path(sys.argv[1]).read_bytes())
-    library = pathlib.Path(sys.argv[2]).read_text(encoding="utf-8")
-    begin, deep, flat = map(int, re.search(
-        r"^const \[STACK, DEEP, FLAT\] = \[(\d+), (\d+), (\d+)\];$", library, re.M).groups())
-    names = set(re.findall(r"\bsec1_\w+", re.sub(r"//.*", "", library))) & set(module.exports)
-    stack = Stack(module)
-    used = {name: stack.used(module.exports[name]) for name in names}
-    texts = [it for it in used if it.startswith(("sec1_picture_", "sec1_pem_"))]
-    drawn = max(used[it] for it in texts)
-    other = max(used[it] for it in used if it not in texts)
-    print(f"{len(used)} calls: {len(texts)} that draw or decode use {drawn} bytes of {deep}, "
-          f"the others {other} of {flat}")
-    # the constants follow the stack
-    is_right = module.segments[0][0] == begin and deep <= begin
-    return not (is_right and len(texts) == 3 and drawn <= deep and other <= flat)
-
-
-if __name__ == "__main__":
-    sys.exit(main())
