@@ -4,8 +4,8 @@
 //! [`equality`] and [`picture_equality`] have what is proved of `==` and `clone`, and [`checks`]
 //! worked examples.
 //!
-//! They are in a crate of their own, so that each of these is proved once. All of it is compiled for
-//! tests alone, so that it is too.
+//! They are in a crate of their own, so that each of these is proved once. All of it is compiled
+//! for tests alone, so that it is too.
 #![tactic(auto)]
 
 #[cfg(test)]

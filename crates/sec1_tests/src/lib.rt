@@ -3,8 +3,8 @@
 //! streams and files; [`checks`] and [`der::checks`] have what is proved of definitions, of
 //! constants and of `==`.
 //!
-//! They are in a crate of their own, so that each library is proved once. All of it is compiled for
-//! tests alone, so that it is too.
+//! They are in a crate of their own, so that each library is proved once. All of it is compiled
+//! for tests alone, so that it is too.
 #![tactic(auto)]
 
 #[cfg(test)]
