@@ -68,9 +68,9 @@ class Object:
     def instructions(self):
         """Returns the instructions of each section, without those that do nothing."""
         listed = "\n".join(lines_of("objdump", "-d", "-w", "--no-show-raw-insn", self.path))
-        plain = re.sub(r"[ \t]*(<.*>|#.*)", "", listed)
-        _, *parts = re.split(r"^Disassembly of section (.*):$", plain, flags=re.M)
-        code = (re.findall(r"^ *(\w+):\t(.*\S)", it, re.M) for it in parts[1::2])
+        _, *parts = re.split(r"^Disassembly of section (.*):$", listed, flags=re.M)
+        plain = (re.sub(r"[ \t]*(<.*>|#.*)", "", it) for it in parts[1::2])
+        code = (re.findall(r"^ *(\w+):\t(.*\S)", it, re.M) for it in plain)
         does_nothing = re.compile(r"(data16 |cs )*nop|xchg +%ax,%ax$").match
         found = ([it for it in every if not does_nothing(it[1])] for every in code)
         return dict(zip(parts[::2], found))
