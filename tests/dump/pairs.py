@@ -261,6 +261,12 @@ def blocks(program, asked, given):
     return [f"{it}{ended.returncode}\n" for it in found] if is_whole else [None] * len(given)
 
 
+def files(program, asked, given):
+    """Returns the same of these inputs, which are files of DER of one run."""
+    found, status = programs.outputs_and_status(program, asked, given)
+    return [it and f"{it}{status}\n" for it in found]
+
+
 def library(room):
     """Returns the library for C, built for this machine in a folder."""
     subprocess.run(["make", "-s", "-C", TESTS.parent / "dist", f"BUILD={room}"], check=True)
@@ -306,7 +312,7 @@ def main(arguments):
             batch = [*itertools.islice(every, BATCH)]
             is_file = passed % (BATCH * FILES) == 0
             wrong = {pair for pair in batch if is_file and is_shown(calls, pair[0], private)}
-            ways = [blocks, programs.outputs] if is_file else [blocks]
+            ways = [blocks, files] if is_file else [blocks]
             for run, asked in itertools.product(ways, ([], ["--json"])):
                 ones, others = (run(program, asked, given) for given in zip(*batch))
                 for pair, one, other in zip(batch, ones, others):

@@ -80,6 +80,11 @@ def several(folder):
 def outputs(program, options, given):
     """What `sec1_dump` prints of each of these inputs, which are files of one run; None if it
     doesn't print something of each."""
+    return outputs_and_status(program, options, given)[0]
+
+
+def outputs_and_status(program, options, given):
+    """The same, and the status of the run."""
     with tempfile.TemporaryDirectory() as room:
         paths = [path_of(number) for number in range(len(given))]
         for path, data in zip(paths, given):
@@ -94,7 +99,7 @@ def outputs(program, options, given):
     for path, text in zip(texts[::2], texts[1::2]):
         found[path] = found.get(path, "") + text
     is_whole = not first and not ended.stderr and list(found) == paths
-    return list(found.values()) if is_whole else [None] * len(given)
+    return list(found.values()) if is_whole else [None] * len(given), ended.returncode
 
 
 def path_of(number):
